@@ -1,0 +1,13 @@
+pub mod Choices
+pub mod Orders
+pub mod Paths
+pub mod Lookups
+pub mod Existence
+pub mod Grafts
+pub mod Counts
+pub mod Lawful
+pub mod Writes
+pub mod Proposals
+pub mod Below
+pub mod Order
+pub mod WorkedValues

@@ -1,0 +1,7 @@
+pub mod Key
+pub mod Path
+pub mod Primitive
+pub mod Tree
+pub mod Children
+pub mod Write
+pub mod Worked
