@@ -6,7 +6,8 @@ use Rattle.std.specs.Str.{bytes_eq}
 use Rattle.std.proofs.lemmas.Bool.{false≢true}
 use Rattle.tree_model.specs.Key.{Key}
 use Rattle.tree_model.specs.Path.{Path, strip_prefix, is_root}
-use Rattle.tree_model.specs.Tree.{Tree, get, is_null, sub}
+use Rattle.tree_model.specs.PathMap.{get, is_null, sub}
+use Rattle.tree_model.specs.Tree.{Tree}
 use Rattle.tree_model.specs.Write.{Write, location, is_replaced, is_covered, proposed, writes_below}
 use Rattle.tree_model.proofs.Choices.{or_else}
 use Rattle.tree_model.proofs.Orders.{bytes_eq-swap}

@@ -12,7 +12,8 @@ use Rattle.std.proofs.lemmas.List.Sums.{sum_by-cons}
 use Rattle.tree_model.specs.Key.{Key, key_cmp}
 use Rattle.tree_model.specs.Path.{Path, path_cmp, prefixes}
 use Rattle.tree_model.specs.Primitive.{Primitive}
-use Rattle.tree_model.specs.Tree.{Tree, null, is_null, lone, sub, exists, existing, count}
+use Rattle.tree_model.specs.PathMap.{is_null, sub, exists}
+use Rattle.tree_model.specs.Tree.{Tree, null, lone, existing, count}
 use Rattle.tree_model.specs.Children.{graft, AreChildren}
 use Rattle.tree_model.proofs.Choices.{or-false}
 use Rattle.tree_model.proofs.Orders.{paths_total, exact_paths, bytes_eq-self, path_eq}

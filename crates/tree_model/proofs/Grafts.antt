@@ -1,5 +1,5 @@
 -- A tree of one primitive, and a tree whose children are given.
-use Rattle.std.proofs.Common.{◌≡◌, ◌≢◌, ℕ, ◌+◌, ◌≤◌, max, Bool, true, false, cond, not, ◌&&◌, ◌||◌, T, List, [], ◌∷◌, ◌++◌, map, length, Some, None, option_map, unwrap_or, is_some, IsSome, sym, ap, ◌∙◌, subst, refl, arith}
+use Rattle.std.proofs.Common.{◌≡◌, ◌≢◌, ℕ, ◌+◌, ◌≤◌, max, Bool, true, false, cond, not, ◌&&◌, ◌||◌, T, List, [], ◌∷◌, ◌++◌, map, length, Some, None, Option, option_map, unwrap_or, is_some, IsSome, sym, ap, ◌∙◌, subst, refl, arith}
 use Rattle.std.specs.List.{flat_map, filter_map, list_any, AllByRecursion}
 use Rattle.std.specs.FinMap as map_of
 use Rattle.std.specs.FinMap.{find, is_sorted}
@@ -14,11 +14,12 @@ use Rattle.std.proofs.lemmas.Bool.{false≢true}
 use Rattle.tree_model.specs.Key.{Key, key_cmp}
 use Rattle.tree_model.specs.Path.{Path, path_cmp, is_prefix, is_proper_prefix}
 use Rattle.tree_model.specs.Primitive.{Primitive}
-use Rattle.tree_model.specs.Tree.{Tree, null, get, is_null, non_null, lone, sub, exists, greatest, depth, first_key, children, child_keys, IsTree}
-use Rattle.tree_model.specs.Children.{under, graft, AreChildren}
+use Rattle.tree_model.specs.PathMap.{PathMap, get, is_null, sub, exists, greatest, depth, under}
+use Rattle.tree_model.specs.Tree.{Tree, null, non_null, lone, first_key, children, child_keys, IsTree}
+use Rattle.tree_model.specs.Children.{graft, AreChildren}
 use Rattle.tree_model.proofs.Choices.{none_is_not_some, or_else, or_else-None}
 use Rattle.tree_model.proofs.Orders.{keys_total, exact_keys, paths_total, same_key, bytes_eq-self, path_eq, path_eq-cons}
-use Rattle.tree_model.proofs.Lookups.{same_tree, get-null, get-sub}
+use Rattle.tree_model.proofs.Lookups.{same_tree, get-empty, get-null, get-sub}
 use Rattle.tree_model.proofs.Existence.{non_null-null, non_null-some, some_path, not_null_from_path, exists-sub, length-le-depth, deepest_path, depth_le}
 
 -- ---- the tree of one primitive
@@ -76,24 +77,25 @@ get-children t k =
 
 -- ---- what stands in a tree of given children
 
-pub find-append : (q : Path) (es fs : List (Path × Primitive)) → find path_cmp q (es ++ fs) ≡ or_else (find path_cmp q es) (find path_cmp q fs)
+pub find-append : {X : Type 0} (q : Path) (es fs : List (Path × X)) → find path_cmp q (es ++ fs) ≡ or_else (find path_cmp q es) (find path_cmp q fs)
 find-append q [] fs = refl
 find-append q (e ∷ es) fs = elim (path_eq q e.0) as (λ b. cond b (Some e.1) (find path_cmp q (es ++ fs)) ≡ or_else (cond b (Some e.1) (find path_cmp q es)) (find path_cmp q fs)) [ true ↦ refl | false ↦ find-append q es fs ]
 
-find-under-root : (l : Key) (es : List (Path × Primitive)) → find path_cmp [] (under l es) ≡ None
+find-under-root : {X : Type 0} (l : Key) (es : List (Path × X)) → find path_cmp [] (under l es) ≡ None
 find-under-root l [] = refl
 find-under-root l (e ∷ es) = find-under-root l es
 
-find-under : (k l : Key) (q : Path) (es : List (Path × Primitive)) → find path_cmp (k ∷ q) (under l es) ≡ cond (bytes_eq k l) (find path_cmp q es) None
-find-under k l q [] = elim (bytes_eq k l) as (λ b. find {X = Primitive} path_cmp (k ∷ q) (under l []) ≡ cond b (find {X = Primitive} path_cmp q []) None) [ true ↦ refl | false ↦ refl ]
+find-under : {X : Type 0} (k l : Key) (q : Path) (es : List (Path × X)) → find path_cmp (k ∷ q) (under l es) ≡ cond (bytes_eq k l) (find path_cmp q es) None
+find-under {X} k l q [] = elim (bytes_eq k l) as (λ b. find {X = X} path_cmp (k ∷ q) (under l []) ≡ cond b (find {X = X} path_cmp q []) None) [ true ↦ refl | false ↦ refl ]
 find-under k l q (e ∷ es) =
     (λ i. cond (path_eq-cons k l q e.0 i) (Some e.1) (find-under k l q es i))
     ∙ elim (bytes_eq k l) as (λ b. cond (b && path_eq q e.0) (Some e.1) (cond b (find path_cmp q es) None) ≡ cond b (find path_cmp q (e ∷ es)) None) [ true ↦ refl | false ↦ refl ]
 
-abbrev spread : List (Key × Tree) → List (Path × Primitive)
+-- the pairs of maps, each below its key
+abbrev pub spread : {X : Type 0} → List (Key × PathMap X) → List (Path × X)
 spread cs = flat_map (λ c. under c.0 (map_of.entries c.1)) cs
 
-find-spread-root : (cs : List (Key × Tree)) → find path_cmp [] (spread cs) ≡ None
+pub find-spread-root : {X : Type 0} (cs : List (Key × PathMap X)) → find path_cmp [] (spread cs) ≡ None
 find-spread-root [] = refl
 find-spread-root (c ∷ cs) = find-append [] (under c.0 (map_of.entries c.1)) (spread cs) ∙ (λ i. or_else (find-under-root c.0 (map_of.entries c.1) i) (find-spread-root cs i))
 
@@ -110,20 +112,20 @@ find_below k (c ∷ cs) h = ap (λ b. cond b (Some c.1) (find key_cmp k cs)) (le
 pub find_beyond : {X : Type 0} (k : Key) (c : Key × X) (cs : List (Key × X)) → is_sorted key_cmp (c ∷ cs) ≡ true → bytes_eq k c.0 ≡ true → find key_cmp k cs ≡ None
 find_beyond k c cs h e = find_below k cs (subst (λ x. below_all key_cmp x cs ≡ true) (sym (same_key k c.0 e)) (first_so _ _ h))
 
--- the child of a key, or null
-abbrev pub child_of : Key → List (Key × Tree) → Tree
-child_of k cs = unwrap_or (find key_cmp k cs) null
+-- the child of a key, or nothing
+abbrev pub child_of : {X : Type 0} → Key → List (Key × PathMap X) → PathMap X
+child_of k cs = unwrap_or (find key_cmp k cs) map_of.empty
 
-find-spread : (k : Key) (q : Path) (cs : List (Key × Tree)) → is_sorted key_cmp cs ≡ true → find path_cmp (k ∷ q) (spread cs) ≡ get (child_of k cs) q
-find-spread k q [] h = sym (get-null q)
-find-spread k q (c ∷ cs) h =
+pub find-spread : {X : Type 0} (k : Key) (q : Path) (cs : List (Key × PathMap X)) → is_sorted key_cmp cs ≡ true → find path_cmp (k ∷ q) (spread cs) ≡ get (child_of k cs) q
+find-spread k q [] h = sym (get-empty q)
+find-spread {X} k q (c ∷ cs) h =
     find-append (k ∷ q) (under c.0 (map_of.entries c.1)) (spread cs)
     ∙ (λ i. or_else (find-under k c.0 q (map_of.entries c.1) i) (find-spread k q cs (second_so _ _ h) i))
-    ∙ elim (bytes_eq k c.0) as (λ b. (b ≡ true → find key_cmp k cs ≡ None) → or_else (cond b (find path_cmp q (map_of.entries c.1)) None) (get (child_of k cs) q) ≡ get (unwrap_or (cond b (Some c.1) (find key_cmp k cs)) null) q) [
-      | true ↦ λ none. ap (λ o. or_else (find path_cmp q (map_of.entries c.1)) (get (unwrap_or o null) q)) (none refl) ∙ ap (or_else (find path_cmp q (map_of.entries c.1))) (get-null q) ∙ or_else-None _ ∙ sym (map_of.get-entries c.1 q)
+    ∙ elim (bytes_eq k c.0) as (λ b. (b ≡ true → find key_cmp k cs ≡ None) → or_else (cond b (find path_cmp q (map_of.entries c.1)) None) (get (child_of k cs) q) ≡ get (unwrap_or (cond b (Some c.1) (find key_cmp k cs)) map_of.empty) q) [
+      | true ↦ λ none. ap (λ (o : Option (PathMap X)). or_else (find path_cmp q (map_of.entries c.1)) (get (unwrap_or o map_of.empty) q)) (none refl) ∙ ap (or_else (find path_cmp q (map_of.entries c.1))) (get-empty q) ∙ or_else-None _ ∙ sym (map_of.get-entries c.1 q)
       | false ↦ λ _. refl
     ] (find_beyond k c cs h)
-    ∙ ap (λ b. get (unwrap_or (cond b (Some c.1) (find key_cmp k cs)) null) q) (sym (is_eq-slice_cmp k c.0))
+    ∙ ap (λ b. get (unwrap_or (cond b (Some c.1) (find key_cmp k cs)) map_of.empty) q) (sym (is_eq-slice_cmp k c.0))
 
 pub get-graft-root : (cs : List (Key × Tree)) → get (graft cs) [] ≡ None
 unfolding graft

@@ -11,7 +11,8 @@ use Rattle.tree_model.specs.declared.limits.TheConstants.{MAX_DEPTH}
 use Rattle.tree_model.specs.Key.{Key, key_cmp, is_key}
 use Rattle.tree_model.specs.Path.{Path, strip_prefix, is_proper_prefix, is_root, is_path}
 use Rattle.tree_model.specs.Primitive.{Primitive, is_primitive}
-use Rattle.tree_model.specs.Tree.{Tree, null, get, lone, IsTree, IsLawful}
+use Rattle.tree_model.specs.PathMap.{get}
+use Rattle.tree_model.specs.Tree.{Tree, null, lone, IsTree, IsLawful}
 use Rattle.tree_model.specs.Children.{graft, IsLawfulChild}
 use Rattle.tree_model.proofs.Choices.{both_so, none_is_not_some}
 use Rattle.tree_model.proofs.Orders.{same_key, tied_key}

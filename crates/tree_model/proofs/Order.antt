@@ -6,7 +6,8 @@ use Rattle.std.proofs.lemmas.List.Sorted.{IsPermutation-sym, Contains-permutatio
 use Rattle.std.proofs.lemmas.Map.Keys.{IsDistinct-IsPermutation}
 use Rattle.tree_model.specs.Path.{Path}
 use Rattle.tree_model.specs.Primitive.{Primitive}
-use Rattle.tree_model.specs.Tree.{Tree, get}
+use Rattle.tree_model.specs.PathMap.{get}
+use Rattle.tree_model.specs.Tree.{Tree}
 use Rattle.tree_model.specs.Write.{Write, do_overlap, overlaps, is_replaced, is_covered, proposed}
 use Rattle.tree_model.proofs.Choices.{neither, or_else}
 use Rattle.tree_model.proofs.Lookups.{same_tree}

@@ -8,7 +8,8 @@ use Rattle.tree_model.specs.declared.limits.TheConstants.{MAX_DEPTH}
 use Rattle.tree_model.specs.Key.{Key}
 use Rattle.tree_model.specs.Path.{Path, strip_prefix, is_prefix, is_proper_prefix, is_root, is_path}
 use Rattle.tree_model.specs.Primitive.{Primitive, is_primitive}
-use Rattle.tree_model.specs.Tree.{Tree, null, get, is_null, sub, IsTree, IsLawful}
+use Rattle.tree_model.specs.PathMap.{get, is_null, sub}
+use Rattle.tree_model.specs.Tree.{Tree, null, IsTree, IsLawful}
 use Rattle.tree_model.specs.Write.{Write, location, written, overlaps, is_replaced, is_covered, stays, proposed, Puts, IsLawfulWrite}
 use Rattle.tree_model.proofs.Choices.{true_is_not_false, not_true, or_right, neither, some_value, or_else, or_else-None}
 use Rattle.tree_model.proofs.Orders.{bytes_eq-self}

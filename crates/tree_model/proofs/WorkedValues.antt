@@ -9,7 +9,8 @@ use Rattle.std.specs.declared.cmp.Ordering.{Ordering}
 use Rattle.tree_model.specs.Key.{key_cmp}
 use Rattle.tree_model.specs.Path.{Path, path_cmp, is_prefix, is_proper_prefix, prefixes}
 use Rattle.tree_model.specs.Primitive.{Primitive}
-use Rattle.tree_model.specs.Tree.{is_null, sub, exists, existing, count, first_key, children, child_keys}
+use Rattle.tree_model.specs.PathMap.{is_null, sub, exists}
+use Rattle.tree_model.specs.Tree.{existing, count, first_key, children, child_keys}
 use Rattle.tree_model.specs.Write.{Write, is_replaced, is_covered, stays, placed, proposed}
 use Rattle.tree_model.specs.Worked.{tree_of}
 use Rattle.tree_model.proofs.Orders.{keys_total, paths_total, path_eq}

@@ -9,7 +9,8 @@ use Rattle.std.specs.Str.{bytes_eq}
 use Rattle.std.proofs.lemmas.Bool.{false≢true}
 use Rattle.tree_model.specs.Path.{Path, path_cmp, strip_prefix, is_prefix, is_proper_prefix, is_root}
 use Rattle.tree_model.specs.Primitive.{Primitive}
-use Rattle.tree_model.specs.Tree.{Tree, get, sub}
+use Rattle.tree_model.specs.PathMap.{get, sub}
+use Rattle.tree_model.specs.Tree.{Tree}
 use Rattle.tree_model.specs.Write.{Write, location, written, do_overlap, overlaps, is_replaced, is_covered, stays, placed, proposed}
 use Rattle.tree_model.proofs.Choices.{or_right, neither, neither_not, or_else, or_else-None}
 use Rattle.tree_model.proofs.Orders.{paths_total, exact_paths, path_eq, path_eq-swap, same_key, bytes_eq-self}

@@ -1,15 +1,11 @@
 -- A tree whose children are given.
-use Rattle.std.specs.Prelude.{◌≡◌, ◌≢◌, ◌<◌, List, [], ◌∷◌, map, true, flat_map}
+use Rattle.std.specs.Prelude.{◌≡◌, ◌≢◌, ◌<◌, List, [], true, flat_map}
 use Rattle.std.specs.List.{AllByRecursion}
 use Rattle.std.specs.FinMap as map_of
 use Rattle.tree_model.specs.declared.limits.TheConstants.{MAX_DEPTH}
 use Rattle.tree_model.specs.Key.{Key, key_cmp, is_key}
-use Rattle.tree_model.specs.Path.{Path}
-use Rattle.tree_model.specs.Tree.{Tree, null, depth, IsLawful}
-
--- the same pairs, each path with the key k before it
-abbrev pub under : {X : Type 0} → Key → List (Path × X) → List (Path × X)
-under k es = map (λ e. (k ∷ e.0, e.1)) es
+use Rattle.tree_model.specs.PathMap.{under, depth}
+use Rattle.tree_model.specs.Tree.{Tree, null, IsLawful}
 
 -- the tree whose child of each of these keys is the tree beside it
 unfoldable pub graft : List (Key × Tree) → Tree

@@ -1,5 +1,6 @@
 pub mod Key
 pub mod Path
+pub mod PathMap
 pub mod Primitive
 pub mod Tree
 pub mod Children

@@ -1,27 +1,20 @@
 -- A tree: a finite map from paths to primitives, none of which lies below another.
-use Rattle.std.specs.Prelude.{◌≡◌, ℕ, ◌==◌, List, [], ◌∷◌, map, length, max, Bool, true, false, if◌then◌else◌, Option, Some, None, option_map, IsSome, filter_map, flat_map}
-use Rattle.std.specs.List.{list_any}
+use Rattle.std.specs.Prelude.{◌≡◌, ℕ, List, [], ◌∷◌, true, false, if◌then◌else◌, Option, Some, None, option_map, IsSome, filter_map, flat_map}
 use Rattle.std.specs.FinMap as map_of
 use Rattle.std.specs.FinSet as set_of
 use Rattle.std.specs.Coded.{Coded, coded_ℕ, coded_list}
 use Rattle.tree_model.specs.Key.{Key, key_cmp}
-use Rattle.tree_model.specs.Path.{Path, path_cmp, strip_prefix, is_prefix, is_proper_prefix, prefixes, is_path}
+use Rattle.tree_model.specs.Path.{Path, path_cmp, is_proper_prefix, prefixes, is_path}
+use Rattle.tree_model.specs.PathMap.{PathMap, get, is_null, sub}
 use Rattle.tree_model.specs.Primitive.{Primitive, is_primitive, primitive_code}
 
 -- which primitive stands at which path. (Guide "Structure Your Database", how data is structured: a JSON tree.)
 abbrev pub Tree : Type 0
-Tree = map_of.FinMap path_cmp Primitive
+Tree = PathMap Primitive
 
 -- nothing stands anywhere. (Reference, `RuleDataSnapshot.val`: null where no data exists.)
 abbrev pub null : Tree
 null = map_of.empty
-
--- what stands at a path
-abbrev pub get : Tree → Path → Option Primitive
-get t p = map_of.get t p
-
-abbrev pub is_null : Tree → Bool
-is_null t = map_of.len t == 0
 
 -- the tree, unless it is null
 unfoldable pub non_null : Tree → Option Tree
@@ -35,19 +28,7 @@ pub record IsTree (t : Tree) : Type 0 where
 unfoldable pub lone : Primitive → Tree
 lone v = map_of.from_entries (([], v) ∷ [])
 
--- ---- locations
-
--- a pair whose path extends p, with p taken off
-abbrev pub below : Path → Path × Primitive → Option (Path × Primitive)
-below p e = option_map (λ rest. (rest, e.1)) (strip_prefix p e.0)
-
--- the subtree at p: the pairs of t whose path extends p, with p taken off. (Reference, `RuleDataSnapshot.child`.)
-unfoldable pub sub : Tree → Path → Tree
-sub t p = map_of.from_entries (filter_map (below p) (map_of.entries t))
-
--- p exists in t: the path of some primitive extends p. (Reference, `RuleDataSnapshot.exists`.)
-unfoldable pub exists : Tree → Path → Bool
-exists t p = list_any (is_prefix p) (map_of.keys t)
+-- ---- locations: the subtree at p is `sub t p` (Reference, `RuleDataSnapshot.child`), p exists where `exists t p` (Reference, `RuleDataSnapshot.exists`), and `depth t` is the most keys above a primitive (Guide "Structure Your Database", avoid nesting data)
 
 -- the locations that exist: all prefixes of the paths of primitives
 unfoldable pub existing : Tree → set_of.FinSet path_cmp
@@ -56,14 +37,6 @@ existing t = set_of.from_list (flat_map prefixes (map_of.keys t))
 -- how many locations exist, the root among them. (This project's profile.)
 unfoldable pub count : Tree → ℕ
 count t = set_of.len (existing t)
-
-abbrev pub greatest : List ℕ → ℕ
-greatest [] = 0
-greatest (n ∷ ns) = max n (greatest ns)
-
--- the most keys above a primitive. (Guide "Structure Your Database", avoid nesting data.)
-unfoldable pub depth : Tree → ℕ
-depth t = greatest (map length (map_of.keys t))
 
 -- ---- children
 

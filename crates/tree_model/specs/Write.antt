@@ -6,7 +6,8 @@ use Rattle.tree_model.specs.declared.limits.TheConstants.{MAX_DEPTH}
 use Rattle.tree_model.specs.Key.{Key}
 use Rattle.tree_model.specs.Path.{Path, strip_prefix, is_prefix, is_proper_prefix, is_path}
 use Rattle.tree_model.specs.Primitive.{Primitive}
-use Rattle.tree_model.specs.Tree.{Tree, get, is_null, depth, IsLawful}
+use Rattle.tree_model.specs.PathMap.{get, is_null, depth}
+use Rattle.tree_model.specs.Tree.{Tree, IsLawful}
 
 abbrev pub Write : Type 0
 Write = Path × Tree

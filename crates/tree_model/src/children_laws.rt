@@ -4,7 +4,8 @@ ghost use Rattle.std.specs.List.{AllByRecursion};
 ghost use Rattle.std.specs.FinMap.{find};
 ghost use Rattle.std.specs.FinMap as map_of;
 ghost use Rattle.tree_model.specs.Key.{Key, key_cmp};
-ghost use Rattle.tree_model.specs.Tree.{Tree, null, non_null, get, sub, count, depth, greatest, children, child_keys, IsLawful};
+ghost use Rattle.tree_model.specs.PathMap.{get, sub, depth, greatest};
+ghost use Rattle.tree_model.specs.Tree.{Tree, null, non_null, count, children, child_keys, IsLawful};
 ghost use Rattle.tree_model.specs.Children.{graft, AreChildren, IsLawfulChild};
 
 /// The child of a key is the subtree at it, unless that is null.

@@ -4,7 +4,8 @@ ghost use Rattle.std.specs.FinSet.{contains};
 ghost use Rattle.tree_model.specs.Key.{Key};
 ghost use Rattle.tree_model.specs.Path.{Path};
 ghost use Rattle.tree_model.specs.Primitive.{Primitive, is_primitive};
-ghost use Rattle.tree_model.specs.Tree.{Tree, null, get, lone, sub, exists, existing, count, depth, child_keys, IsLawful};
+ghost use Rattle.tree_model.specs.PathMap.{get, sub, exists, depth};
+ghost use Rattle.tree_model.specs.Tree.{Tree, null, lone, existing, count, child_keys, IsLawful};
 
 /// Trees that have the same at every path are equal.
 pub fn equal_lookups_make_equal_trees()

@@ -3,7 +3,8 @@ ghost use Rattle.std.specs.Prelude.{◌≡◌, ◌∷◌, [], true, false, codes
 ghost use Rattle.tree_model.specs.Key.{is_key};
 ghost use Rattle.tree_model.specs.Path.{is_path};
 ghost use Rattle.tree_model.specs.Primitive.{truth, whole, words, is_primitive};
-ghost use Rattle.tree_model.specs.Tree.{null, exists, count, child_keys, IsTree};
+ghost use Rattle.tree_model.specs.PathMap.{exists};
+ghost use Rattle.tree_model.specs.Tree.{null, count, child_keys, IsTree};
 ghost use Rattle.tree_model.specs.Write.{overlaps, proposed};
 ghost use Rattle.tree_model.specs.Worked.{tree_of};
 

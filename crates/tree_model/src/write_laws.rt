@@ -5,7 +5,8 @@ ghost use Rattle.std.proofs.Common.{◌⊎◌};
 ghost use Rattle.tree_model.specs.Key.{Key};
 ghost use Rattle.tree_model.specs.Path.{Path, is_prefix, is_proper_prefix, is_root};
 ghost use Rattle.tree_model.specs.Primitive.{Primitive};
-ghost use Rattle.tree_model.specs.Tree.{Tree, null, get, sub, IsTree, IsLawful};
+ghost use Rattle.tree_model.specs.PathMap.{get, sub};
+ghost use Rattle.tree_model.specs.Tree.{Tree, null, IsTree, IsLawful};
 ghost use Rattle.tree_model.specs.Write.{Write, location, written, overlaps, stays, proposed, Puts, writes_below, IsLawfulWrite};
 
 /// A primitive stands at a path of the proposed tree exactly where it stood there and stays, or
