@@ -81,11 +81,11 @@ pub find-append : {X : Type 0} (q : Path) (es fs : List (Path × X)) → find pa
 find-append q [] fs = refl
 find-append q (e ∷ es) fs = elim (path_eq q e.0) as (λ b. cond b (Some e.1) (find path_cmp q (es ++ fs)) ≡ or_else (cond b (Some e.1) (find path_cmp q es)) (find path_cmp q fs)) [ true ↦ refl | false ↦ find-append q es fs ]
 
-find-under-root : {X : Type 0} (l : Key) (es : List (Path × X)) → find path_cmp [] (under l es) ≡ None
+pub find-under-root : {X : Type 0} (l : Key) (es : List (Path × X)) → find path_cmp [] (under l es) ≡ None
 find-under-root l [] = refl
 find-under-root l (e ∷ es) = find-under-root l es
 
-find-under : {X : Type 0} (k l : Key) (q : Path) (es : List (Path × X)) → find path_cmp (k ∷ q) (under l es) ≡ cond (bytes_eq k l) (find path_cmp q es) None
+pub find-under : {X : Type 0} (k l : Key) (q : Path) (es : List (Path × X)) → find path_cmp (k ∷ q) (under l es) ≡ cond (bytes_eq k l) (find path_cmp q es) None
 find-under {X} k l q [] = elim (bytes_eq k l) as (λ b. find {X = X} path_cmp (k ∷ q) (under l []) ≡ cond b (find {X = X} path_cmp q []) None) [ true ↦ refl | false ↦ refl ]
 find-under k l q (e ∷ es) =
     (λ i. cond (path_eq-cons k l q e.0 i) (Some e.1) (find-under k l q es i))
@@ -197,14 +197,14 @@ found_depth k q (c ∷ cs) h =
       | false ↦ λ g. let le = found_depth k q cs g in omega arith
     ] h
 
-each_depth : (n : ℕ) (cs : List (Key × Tree)) → is_sorted key_cmp cs ≡ true → AllByRecursion (λ c. c.1 ≢ null) cs → ((k : Key) (q : Path) → IsSome (get (child_of k cs) q) → length q + 1 ≤ n) → greatest (map (λ c. depth c.1 + 1) cs) ≤ n
+pub each_depth : {X : Type 0} (n : ℕ) (cs : List (Key × PathMap X)) → is_sorted key_cmp cs ≡ true → AllByRecursion (λ c. c.1 ≢ map_of.empty) cs → ((k : Key) (q : Path) → IsSome (get (child_of k cs) q) → length q + 1 ≤ n) → greatest (map (λ c. depth c.1 + 1) cs) ≤ n
 each_depth n [] s a h = omega arith
-each_depth n (c ∷ cs) s a h = omega (arith, here, each_depth n cs (second_so _ _ s) a.1 later)
+each_depth {X} n (c ∷ cs) s a h = omega (arith, here, each_depth n cs (second_so _ _ s) a.1 later)
   where
     here : depth c.1 + 1 ≤ n
     here =
         let found = deepest_path c.1 a.0 in
-        let is : child_of c.0 (c ∷ cs) ≡ c.1 = ap (λ b. unwrap_or (cond b (Some c.1) (find key_cmp c.0 cs)) null) (is_eq-slice_cmp c.0 c.0 ∙ bytes_eq-self c.0) in
+        let is : child_of c.0 (c ∷ cs) ≡ c.1 = ap (λ b. unwrap_or (cond b (Some c.1) (find key_cmp c.0 cs)) map_of.empty) (is_eq-slice_cmp c.0 c.0 ∙ bytes_eq-self c.0) in
         let le = h c.0 found.0 (ap (λ t. is_some (get t found.0)) is ∙ found.1) in
         let long = found.2 in
         omega arith
@@ -212,8 +212,8 @@ each_depth n (c ∷ cs) s a h = omega (arith, here, each_depth n cs (second_so _
     later : (k : Key) (q : Path) → IsSome (get (child_of k cs) q) → length q + 1 ≤ n
     later k q g =
         elim (bytes_eq k c.0) as (λ b. bytes_eq k c.0 ≡ b → length q + 1 ≤ n) [
-          | true ↦ λ e. absurd (none_is_not_some _ (ap (λ o. get (unwrap_or o null) q) (find_beyond k c cs s e) ∙ get-null q) g)
-          | false ↦ λ e. h k q (ap (λ b. is_some (get (unwrap_or (cond b (Some c.1) (find key_cmp k cs)) null) q)) (is_eq-slice_cmp k c.0 ∙ e) ∙ g)
+          | true ↦ λ e. absurd (none_is_not_some _ (ap (λ (o : Option (PathMap X)). get (unwrap_or o map_of.empty) q) (find_beyond k c cs s e) ∙ get-empty q) g)
+          | false ↦ λ e. h k q (ap (λ b. is_some (get (unwrap_or (cond b (Some c.1) (find key_cmp k cs)) map_of.empty) q)) (is_eq-slice_cmp k c.0 ∙ e) ∙ g)
         ] refl
 
 pub depth-graft : (cs : List (Key × Tree)) → AreChildren cs → depth (graft cs) ≡ greatest (map (λ c. depth c.1 + 1) cs)

@@ -1,0 +1,13 @@
+pub mod Limits
+pub mod Lists
+pub mod Nodes
+pub mod Places
+pub mod Sizes
+pub mod Counting
+pub mod Heights
+pub mod Members
+pub mod Building
+pub mod Arrays
+pub mod Values
+pub mod Children
+pub mod Written

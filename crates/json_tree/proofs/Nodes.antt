@@ -1,0 +1,32 @@
+-- What holds of the tree that a node is seen as.
+use Rattle.std.proofs.Common.{◌≡◌, ◌≢◌, ◌≤◌, Vec, Global, sym, ap, ◌∙◌, subst}
+use Rattle.tree_model.specs.declared.limits.TheConstants.{MAX_DEPTH}
+use Rattle.tree_model.specs.Key.{Key}
+use Rattle.tree_model.specs.PathMap.{depth}
+use Rattle.tree_model.specs.Tree.{Tree, null, lone, IsLawful}
+use Rattle.tree_model.specs.Children.{graft}
+use Rattle.tree_model.proofs.Existence.{depth_le}
+use Rattle.tree_model.proofs.Grafts.{lone≢null, graft≢null}
+use Rattle.tree_model.proofs.Lawful.{path_length}
+use Rattle.json_tree.specs.declared.leaf.Leaf.{Leaf}
+use Rattle.json_tree.specs.Leaf.{primitive_of}
+use Rattle.json_tree.specs.Node.{tree_of, IsKind}
+use Rattle.json_tree.specs.declared.node.Kind.{Kind}
+use Rattle.json_tree.specs.declared.node.Kind.TheVariants.{Primitive, Parent}
+
+pub kind≢null : (k : Kind) → IsKind k → tree_of k ≢ null
+kind≢null (Primitive leaf) h = lone≢null (primitive_of leaf)
+kind≢null (Parent cs) h = graft≢null cs.items h.0
+
+pub depth_within : (t : Tree) → IsLawful t → depth t ≤ MAX_DEPTH
+depth_within t h = depth_le t MAX_DEPTH (λ q there. path_length q (h.paths q there))
+
+-- a node that is a primitive, and one that has children
+pub at_primitive : {k : Kind} {t : Tree} {leaf : Leaf} → tree_of k ≡ t → k ≡ Primitive leaf → t ≡ lone (primitive_of leaf)
+at_primitive view_is is = sym view_is ∙ ap tree_of is
+
+pub at_parent : {k : Kind} {t : Tree} {cs : Vec (Key × Tree) Global} → tree_of k ≡ t → k ≡ Parent cs → t ≡ graft cs.items
+at_parent view_is is = sym view_is ∙ ap tree_of is
+
+pub parts_at_parent : {k : Kind} {cs : Vec (Key × Tree) Global} → IsKind k → k ≡ Parent cs → IsKind (Parent cs)
+parts_at_parent h is = subst IsKind is h

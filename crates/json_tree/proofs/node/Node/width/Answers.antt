@@ -1,0 +1,13 @@
+use Rattle.std.proofs.Common.{refl, arith}
+use Rattle.std.proofs.lemmas.Grind.{common_steps}
+use Rattle.tree_model.proofs.Grafts.{child_keys-lone, child_keys-graft}
+use Rattle.json_tree.proofs.Nodes.{at_primitive, at_parent, parts_at_parent}
+use Rattle.json_tree.proofs.node.Node.width.Goals as goal
+
+pub returns-in-Primitive : goal.returns-in-Primitive
+returns-in-Primitive c = rw (at_primitive c.self.view_is c.in-Primitive.is, child_keys-lone) refl
+
+pub returns-in-Parent : goal.returns-in-Parent
+returns-in-Parent c =
+    let parts = parts_at_parent c.self.invariant.parts c.in-Parent.is in
+    rw (at_parent c.self.view_is c.in-Parent.is, child_keys-graft _ parts.0) (grind (arith, common_steps))

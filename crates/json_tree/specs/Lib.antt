@@ -1,0 +1,6 @@
+pub mod Leaf
+pub mod Node
+pub mod NodeFalls
+pub mod Json
+pub mod Levels
+pub mod Members

@@ -1,0 +1,123 @@
+//! A key: the name of one child.
+ghost use Rattle.std.specs.Prelude.{◌≡◌, ◌↔◌, false, true, IfOk, IsErrOf, decimal};
+ghost use Rattle.std.specs.List.{list_all};
+ghost use Rattle.tree_model.specs.Key.{is_key, is_key_byte, key_cmp};
+ghost use Rattle.json_tree.specs.declared.key.KeyFault.TheVariants.{NoMemory as no_memory};
+
+use crate::memory::NoMemory;
+use std::alloc::{AllocError, Global};
+use std::cmp::Ordering;
+use std::marker::Model;
+use thiserror::Error;
+use tree_model::MAX_KEY_BYTES;
+
+/// Why a text gives no key.
+#[derive(Clone, Copy, Debug, PartialEq, Eq, Error)]
+pub enum KeyFault {
+    /// The text is no lawful key.
+    #[error("no lawful key")]
+    BadKey,
+    #[error("out of memory")]
+    NoMemory,
+}
+
+impl From<NoMemory> for KeyFault {
+    ghost from_gives = { λ _ fault. fault ≡ no_memory };
+
+    fn from(_refused: NoMemory) -> KeyFault {
+        KeyFault::NoMemory
+    }
+}
+
+/// A lawful key: 1 to 768 bytes of UTF-8, no ASCII control character and none of `. $ # [ ] /`
+/// among them. Contracts see its bytes. (Guide "Structure Your Database", how data is structured.)
+#[derive(Debug, Drop)]
+pub struct Key {
+    held: String,
+}
+
+impl Model for Key {
+    ghost use Rattle.std.specs.Prelude.{◌≡◌, ℕ, List, true, string_bytes};
+    ghost use Rattle.tree_model.specs.Key.{is_key};
+
+    ghost Value = { List ℕ };
+
+    ghost view = { λ key. string_bytes key.held };
+
+    ghost invariant = { λ key. is_key (string_bytes key.held) ≡ true };
+}
+
+impl Key {
+    /// The key of this text, in one growth.
+    pub fn new(alloc: Global, text: &str) -> Result<Key, KeyFault>
+        ensures ok { IfOk result (λ key. key ≡ text.now) }
+        ensures lawful { IfOk result (λ key. is_key key ≡ true) }
+        ensures bad_key { IsErrOf result KeyFault.BadKey ↔ (is_key text.now ≡ false) }
+    {
+        if !is_lawful_key(text) {
+            return Err(KeyFault::BadKey);
+        }
+        Ok(Key::of_lawful(alloc, text)?)
+    }
+
+    /// The text of the key.
+    pub fn text(&self) -> &str
+        ensures bytes { result.now ≡ self.now }
+        ensures lawful { is_key self.now ≡ true }
+    {
+        self.held.as_str()
+    }
+
+    /// The same key once more, in one growth.
+    pub fn copy(&self, alloc: Global) -> Result<Key, NoMemory>
+        ensures { IfOk result (λ key. key ≡ self.now) }
+    {
+        Key::of_lawful(alloc, self.text())
+    }
+
+    // Where the key stands beside a text, by their bytes.
+    pub(crate) fn compare(&self, text: &str) -> Ordering
+        ensures { result ≡ key_cmp self.now text.now }
+    {
+        self.text().cmp(text)
+    }
+
+    // The key of a text that is known to be lawful.
+    pub(crate) fn of_lawful(alloc: Global, text: &str) -> Result<Key, NoMemory>
+        requires { is_key text.now ≡ true }
+        ensures { IfOk result (λ key. key ≡ text.now) }
+    {
+        Ok(Key {
+            held: String::from_str(alloc, text)?,
+        })
+    }
+
+    // The key of a place in an array: its decimal digits.
+    pub(crate) fn of_index(alloc: Global, index: usize) -> Result<Key, NoMemory>
+        ensures { IfOk result (λ key. key ≡ decimal index) }
+    {
+        Ok(Key {
+            held: index.to_string(alloc)?,
+        })
+    }
+}
+
+/// Whether a text is a lawful key, in one pass over its bytes. It takes no memory.
+pub fn is_lawful_key(text: &str) -> bool
+    ensures { result ≡ is_key text.now }
+{
+    let bytes = text.as_bytes();
+    1 <= bytes.len() && bytes.len() <= MAX_KEY_BYTES && has_key_bytes(bytes)
+}
+
+fn has_key_bytes(bytes: &[u8]) -> bool
+    ensures { result ≡ list_all is_key_byte bytes.now }
+{
+    bytes.iter().all(|b| is_key_byte(*b))
+}
+
+fn is_key_byte(b: u8) -> bool
+    ensures { result ≡ is_key_byte b }
+{
+    32 <= b && b != 127 && !matches!(b, b'.' | b'$' | b'#' | b'[' | b']' | b'/')
+}

@@ -1,0 +1,23 @@
+//! The stored tree: nodes with their keys and leaves, and JSON both ways.
+//!
+//! Contracts see a [`Node`] as a tree of `tree_model`: which primitive stands at which path. What
+//! the layers above need most is [`from_json`]: it gives the tree that a JSON value describes, or
+//! says exactly why there is none.
+#![tactic(auto)]
+
+mod json;
+mod json_laws;
+mod key;
+mod leaf;
+mod memory;
+mod node;
+
+pub use json::{ValueFault, from_json, to_json};
+pub use json_laws::{what_a_tree_is_written_as, what_is_written_is_read_back};
+pub use key::{Key, KeyFault, is_lawful_key};
+pub use leaf::{Leaf, Number, Text};
+pub use memory::NoMemory;
+pub use node::Node;
+
+#[cfg(test)]
+mod tests;

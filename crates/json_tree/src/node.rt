@@ -1,0 +1,235 @@
+//! A node: the stored tree in memory, a leaf or children in the order of their keys.
+ghost use Rattle.std.specs.Prelude.{◌≡◌, ◌≢◌, ◌<◌, ◌≤◌, true, ◌∷◌, [], length, min, map, All, IsOk, IfOk, option_map, slice_get, None};
+ghost use Rattle.std.specs.List.{AllByRecursion};
+ghost use Rattle.std.specs.FinMap.{is_sorted};
+ghost use Rattle.std.specs.FinMap as map_of;
+ghost use Rattle.tree_model.specs.Key.{key_cmp};
+ghost use Rattle.tree_model.specs.PathMap.{get, sub, depth};
+ghost use Rattle.tree_model.specs.Tree.{null, lone, count, non_null, children, child_keys, IsLawful};
+ghost use Rattle.tree_model.specs.Children.{graft, AreChildren, IsLawfulChild};
+ghost use Rattle.json_tree.specs.Leaf.{primitive_of};
+
+use crate::key::Key;
+use crate::leaf::Leaf;
+use crate::memory::NoMemory;
+use std::alloc::Global;
+use std::marker::Model;
+use tree_model::MAX_DEPTH;
+
+/// A tree that is not null, owned. Contracts see which primitive stands at which path. (Guide
+/// "Structure Your Database", how data is structured: a JSON tree.)
+#[cycle(node)]
+#[derive(Debug, Drop)]
+pub struct Node {
+    kind: Kind,
+    depth: usize,
+    count: usize,
+}
+
+#[cycle(node)]
+#[derive(Debug, Drop)]
+enum Kind {
+    Primitive(Leaf),
+    // Ascending by the bytes of the keys, at least one.
+    Parent(Vec<(Key, Node)>),
+}
+
+impl Model for Node {
+    ghost use Rattle.tree_model.specs.PathMap.{depth as depth_of};
+    ghost use Rattle.tree_model.specs.Tree.{Tree, tree_code};
+
+    ghost Value = { Tree };
+
+    ghost coded = { tree_code };
+
+    ghost use Rattle.json_tree.specs.Node.{tree_of, IsNode};
+
+    ghost view = { λ node. tree_of node.kind };
+
+    ghost invariant = { λ node. IsNode node.kind node.depth node.count };
+
+    ghost size = { depth_of };
+
+    ghost use Rattle.json_tree.specs.NodeFalls.{falls};
+
+    ghost size_decreases = { λ node h. falls node.kind node.depth node.count h };
+}
+
+impl Node {
+    /// The tree of one primitive.
+    pub fn of_leaf(leaf: Leaf) -> Result<Node, NoMemory>
+        ensures succeeds { IsOk result }
+        ensures tree { IfOk result (λ node. node ≡ lone (primitive_of leaf)) }
+    {
+        leaf.is_within_limits();
+        Ok(Node {
+            kind: Kind::Primitive(leaf),
+            depth: 0,
+            count: 1,
+        })
+    }
+
+    /// The tree of these children, in one pass over the list.
+    pub fn of_children(children: Vec<(Key, Node)>) -> Result<Node, NoMemory>
+        requires some { children.items ≢ [] }
+        requires ascending { is_sorted key_cmp children.items ≡ true }
+        requires room { All (λ child. depth child.1 < MAX_DEPTH) children.items }
+        ensures succeeds { IsOk result }
+        ensures tree { IfOk result (λ node. node ≡ graft children.items) }
+    {
+        let (depth, count) = sizes_of(&children);
+        Ok(Node {
+            kind: Kind::Parent(children),
+            depth,
+            count,
+        })
+    }
+
+    /// The primitive that stands at the root, if one does.
+    pub fn leaf(&self) -> Option<&Leaf>
+        ensures { option_map (λ leaf. primitive_of leaf.now) result ≡ get self.now [] }
+    {
+        match &self.kind {
+            Kind::Primitive(leaf) => Some(leaf),
+            Kind::Parent(_) => None,
+        }
+    }
+
+    /// The child of this key, by a binary search: log w of w children.
+    pub fn child(&self, name: &str) -> Option<&Node>
+        ensures { option_map (λ node. node.now) result
+            ≡ non_null (sub self.now (name.now ∷ [])) }
+    {
+        match &self.kind {
+            Kind::Primitive(_) => None,
+            Kind::Parent(children) => child_of(children, name),
+        }
+    }
+
+    /// How many children there are.
+    pub fn width(&self) -> usize
+        ensures { result ≡ length (child_keys self.now) }
+    {
+        match &self.kind {
+            Kind::Primitive(_) => 0,
+            Kind::Parent(children) => children.len(),
+        }
+    }
+
+    /// The key of a child, in the order of their bytes.
+    pub fn key_at(&self, i: usize) -> Option<&Key>
+        ensures { option_map (λ key. key.now) result ≡ slice_get (child_keys self.now) i }
+    {
+        match &self.kind {
+            Kind::Primitive(_) => None,
+            Kind::Parent(children) => key_of(children, i),
+        }
+    }
+
+    /// The most keys above a primitive, in constant time.
+    pub fn depth(&self) -> usize
+        ensures { result ≡ depth self.now }
+    {
+        self.depth
+    }
+
+    /// How many locations exist, the root among them, in constant time. Of a tree with more than
+    /// a `usize` can hold, the greatest `usize`.
+    pub fn count(&self) -> usize
+        ensures { result ≡ min (count self.now) usize.MAX }
+    {
+        self.count
+    }
+
+    /// The same tree once more, in one pass: one growth for each text, each key and each list of
+    /// children.
+    #[cycle(copy)]
+    pub fn copy(&self, alloc: Global) -> Result<Node, NoMemory>
+        ensures { IfOk result (λ node. node ≡ self.now) }
+    {
+        let kind = match &self.kind {
+            Kind::Primitive(leaf) => Kind::Primitive(leaf.copy(alloc)?),
+            Kind::Parent(children) => Kind::Parent(copy_of(alloc, children)?),
+        };
+        Ok(Node {
+            kind,
+            depth: self.depth,
+            count: self.count,
+        })
+    }
+
+    // The children with their keys, in their order.
+    pub(crate) fn children(&self) -> &[(Key, Node)]
+        ensures exact { result.now ≡ map_of.entries (children self.now) }
+        ensures parent { get self.now [] ≡ None → AreChildren result.now }
+        ensures graft { get self.now [] ≡ None → self.now ≡ graft result.now }
+    {
+        match &self.kind {
+            Kind::Primitive(_) => &[],
+            Kind::Parent(children) => children.as_slice(),
+        }
+    }
+
+    /// What holds of every node: something stands there, and all of it is lawful.
+    pub fn is_there(&self)
+        ensures some { self.now ≢ null }
+        ensures lawful { IsLawful self.now }
+        ensures depth { depth self.now ≤ MAX_DEPTH }
+    {
+        let _kind = &self.kind;
+    }
+}
+
+// The depth and the count of a tree of these children.
+fn sizes_of(children: &Vec<(Key, Node)>) -> (usize, usize)
+    requires some { children.now.items ≢ [] }
+    requires ascending { is_sorted key_cmp children.now.items ≡ true }
+    requires room { All (λ child. depth child.1 < MAX_DEPTH) children.now.items }
+    ensures children { AreChildren children.now.items }
+    ensures lawful { AllByRecursion IsLawfulChild children.now.items }
+    ensures depth { result.0 ≡ depth (graft children.now.items) }
+    ensures count { result.1 ≡ min (count (graft children.now.items)) usize.MAX }
+{
+    let mut depth = 0;
+    let mut count = 1usize;
+    for child in children {
+        child.0.text();
+        child.1.is_there();
+        depth = depth.max(child.1.depth() + 1);
+        count = count.saturating_add(child.1.count());
+    }
+    (depth, count)
+}
+
+fn child_of<'a>(children: &'a Vec<(Key, Node)>, name: &str) -> Option<&'a Node>
+    requires { AreChildren children.now.items }
+    ensures { option_map (λ node. node.now) result
+        ≡ non_null (sub (graft children.now.items) (name.now ∷ [])) }
+{
+    match children.binary_search_by(|child| child.0.compare(name)) {
+        Ok(place) => Some(&children[place].1),
+        Err(_) => None,
+    }
+}
+
+fn key_of(children: &Vec<(Key, Node)>, i: usize) -> Option<&Key>
+    ensures { option_map (λ key. key.now) result
+        ≡ slice_get (map (λ child. child.0) children.now.items) i }
+{
+    if i < children.len() {
+        Some(&children[i].0)
+    } else {
+        None
+    }
+}
+
+#[cycle(copy)]
+fn copy_of(alloc: Global, children: &Vec<(Key, Node)>) -> Result<Vec<(Key, Node)>, NoMemory>
+    ensures { IfOk result (λ copies. copies.items ≡ children.now.items) }
+{
+    let mut copies = Vec::with_capacity(alloc, children.len())?;
+    for (key, node) in children {
+        copies.push((key.copy(alloc)?, node.copy(alloc)?))?;
+    }
+    Ok(copies)
+}

@@ -1,0 +1,4 @@
+pub mod Signs
+pub mod Segments
+pub mod Prefixes
+pub mod Parts

@@ -1,0 +1,4 @@
+pub mod Path
+pub mod Name
+pub mod Pattern
+pub mod Write

@@ -1,0 +1,8 @@
+-- What a write puts.
+use Rattle.std.specs.Prelude.{Option, Some, None}
+use Rattle.tree_model.specs.Tree.{Tree, null}
+
+-- the tree of an optional node: none is null, which removes
+abbrev pub tree_of : Option Tree → Tree
+tree_of None = null
+tree_of (Some t) = t

@@ -1,0 +1,19 @@
+//! Paths, which name locations, patterns, which name where rules stand, and writes.
+//!
+//! Contracts see a [`Path`] as a path of `tree_model`, a [`Pattern`] as a list of keys and captures,
+//! and a [`Write`] as a location and a tree. What the layers above need most is [`Path::compare`]:
+//! it is the order of paths, by which one denial is chosen among several.
+#![tactic(auto)]
+
+mod name;
+mod path;
+mod pattern;
+mod write;
+
+pub use name::{CaptureName, NameFault, is_name};
+pub use path::{Path, PathFault, what_is_printed_is_read_back};
+pub use pattern::{Part, Pattern};
+pub use write::{TooDeep, Write};
+
+#[cfg(test)]
+mod tests;

@@ -1,0 +1,215 @@
+//! A path: which location of a tree is meant.
+ghost use Rattle.std.specs.Prelude.{◌≡◌, ◌↔◌, ◌<◌, ℕ, List, [], true, false, length, Some, None, if◌then◌else◌, IfOk, IsErrOf, string_bytes};
+ghost use Rattle.std.specs.List.{list_all};
+ghost use Rattle.tree_model.specs.Key.{is_key};
+ghost use Rattle.tree_model.specs.Path.{path_cmp, is_path, is_prefix};
+ghost use Rattle.path_capture.specs.Path.{segments, printed};
+ghost use Rattle.path_capture.specs.declared.path.PathFault.TheVariants.{NoMemory as no_memory};
+
+use json_tree::{Key, KeyFault, NoMemory, is_lawful_key};
+use std::alloc::Global;
+use std::cmp::Ordering;
+use std::marker::Model;
+use thiserror::Error;
+use tree_model::MAX_DEPTH;
+
+/// Why a text gives no path.
+#[derive(Clone, Copy, Debug, PartialEq, Eq, Error)]
+pub enum PathFault {
+    /// Some segment is no lawful key.
+    #[error("no lawful path")]
+    BadPath,
+    /// There are over 32 segments, all of them lawful keys.
+    #[error("path of more than 32 keys")]
+    TooDeep,
+    #[error("out of memory")]
+    NoMemory,
+}
+
+impl From<NoMemory> for PathFault {
+    ghost from_gives = { λ _ fault. fault ≡ no_memory };
+
+    fn from(_refused: NoMemory) -> PathFault {
+        PathFault::NoMemory
+    }
+}
+
+/// A path: at most 32 lawful keys, from the root down to a location. Contracts see the list of its
+/// keys. (Guide "Structure Your Database", how data is structured and avoid nesting data.)
+#[derive(Debug, Drop)]
+pub struct Path {
+    held: Vec<Key>,
+}
+
+impl Model for Path {
+    ghost use Rattle.std.specs.Prelude.{◌≡◌, ℕ, List, true};
+    ghost use Rattle.tree_model.specs.Path.{is_path};
+
+    ghost Value = { List (List ℕ) };
+
+    ghost view = { λ path. path.held.items };
+
+    ghost invariant = { λ path. is_path path.held.items ≡ true };
+}
+
+impl Path {
+    /// The path of the root. It takes no memory.
+    pub fn root(alloc: Global) -> Path
+        ensures { result ≡ [] }
+    {
+        Path {
+            held: Vec::new(alloc),
+        }
+    }
+
+    /// The path of a text: its segments between slashes, of which empty ones are dropped. One pass
+    /// tests the text before anything grows; a second makes the path, by one growth for the list
+    /// and one for each key. (This project's profile.)
+    pub fn parse(alloc: Global, text: &str) -> Result<Path, PathFault>
+        ensures ok { IfOk result (λ path. path ≡ segments text.now) }
+
+        // A key that is not lawful is reported before the depth, wherever it stands.
+        ensures bad_path { IsErrOf result PathFault.BadPath ↔ (list_all is_key (segments text.now) ≡ false) }
+        ensures too_deep { IsErrOf result PathFault.TooDeep ↔ ((list_all is_key (segments text.now) ≡ true) × (MAX_DEPTH < length (segments text.now))) }
+    {
+        let Some(count) = count_of_segments(text) else {
+            return Err(PathFault::BadPath);
+        };
+        if count > MAX_DEPTH {
+            return Err(PathFault::TooDeep);
+        }
+        Ok(Path {
+            held: keys_of(alloc, text, count)?,
+        })
+    }
+
+    pub fn keys(&self) -> &[Key]
+        ensures keys { result.now ≡ self.now }
+        ensures lawful { is_path self.now ≡ true }
+    {
+        self.held.as_slice()
+    }
+
+    /// Whether the path is a prefix of the other one, or the same. It takes no memory, and time
+    /// linear in the bytes that it compares.
+    pub fn is_prefix(&self, other: &Path) -> bool
+        ensures { result ≡ is_prefix self.now other.now }
+    {
+        is_prefix_of(self.keys(), other.keys())
+    }
+
+    /// The order of paths: by the list of keys, each key by its bytes, a prefix first. It takes no
+    /// memory, and time linear in the bytes that it compares. (This project's profile.)
+    pub fn compare(&self, other: &Path) -> Ordering
+        ensures { result ≡ path_cmp self.now other.now }
+    {
+        compare_keys(self.keys(), other.keys())
+    }
+
+    /// The text of the path: `/` for the root, else as `/a/b`. It is read back as the same path.
+    pub fn print(&self, alloc: Global) -> Result<String, NoMemory>
+        ensures { IfOk result (λ text. string_bytes text ≡ printed self.now) }
+    {
+        print_keys(alloc, self.keys())
+    }
+
+    /// The same path once more, by one growth for the list and one for each key.
+    pub fn copy(&self, alloc: Global) -> Result<Path, NoMemory>
+        ensures { IfOk result (λ path. path ≡ self.now) }
+    {
+        Ok(Path {
+            held: copies(alloc, self.keys())?,
+        })
+    }
+}
+
+/// The text of a lawful path is read back as that path.
+pub fn what_is_printed_is_read_back()
+    ensures same { (p : List (List ℕ)) → is_path p ≡ true → segments (printed p) ≡ p }
+    ensures lawful { (p : List (List ℕ)) → is_path p ≡ true → is_path (segments (printed p)) ≡ true }
+{}
+
+// How many segments the text has, or `None` where one of them is no lawful key.
+fn count_of_segments(text: &str) -> Option<usize>
+    ensures { result ≡ (if list_all is_key (segments text.now) then Some (length (segments text.now)) else None) }
+{
+    let mut count = 0;
+    for piece in text.split('/') {
+        if piece.is_empty() {
+            continue;
+        }
+        if !is_lawful_key(piece) {
+            return None;
+        }
+        count += 1;
+    }
+    Some(count)
+}
+
+// The keys of a text all of whose segments are lawful, in a list with room for `count`.
+fn keys_of(alloc: Global, text: &str, count: usize) -> Result<Vec<Key>, NoMemory>
+    requires { list_all is_key (segments text.now) ≡ true }
+    ensures { IfOk result (λ keys. keys.items ≡ segments text.now) }
+{
+    let mut keys = Vec::with_capacity(alloc, count)?;
+    for piece in text.split('/') {
+        if !piece.is_empty() {
+            keys.push(key_of(alloc, piece)?)?;
+        }
+    }
+    Ok(keys)
+}
+
+// The key of a text that is known to be lawful.
+fn key_of(alloc: Global, text: &str) -> Result<Key, NoMemory>
+    requires { is_key text.now ≡ true }
+    ensures { IfOk result (λ key. key ≡ text.now) }
+{
+    match Key::new(alloc, text) {
+        Ok(key) => Ok(key),
+        Err(KeyFault::NoMemory) => Err(NoMemory),
+        Err(KeyFault::BadKey) => unreachable!(),
+    }
+}
+
+fn is_prefix_of(front: &[Key], keys: &[Key]) -> bool
+    ensures { result ≡ is_prefix front.now keys.now }
+{
+    front.len() <= keys.len()
+        && front
+            .iter()
+            .zip(keys)
+            .all(|(key, other)| key.text() == other.text())
+}
+
+fn compare_keys(keys: &[Key], others: &[Key]) -> Ordering
+    ensures { result ≡ path_cmp keys.now others.now }
+{
+    keys.iter()
+        .map(|key| key.text())
+        .cmp(others.iter().map(|key| key.text()))
+}
+
+fn print_keys(alloc: Global, keys: &[Key]) -> Result<String, NoMemory>
+    ensures { IfOk result (λ text. string_bytes text ≡ printed keys.now) }
+{
+    let mut text = String::new(alloc);
+    for key in keys {
+        text.push('/')?;
+        text.push_str(key.text())?;
+    }
+    if keys.is_empty() {
+        text.push('/')?;
+    }
+    Ok(text)
+}
+
+fn copies(alloc: Global, keys: &[Key]) -> Result<Vec<Key>, NoMemory>
+    ensures { IfOk result (λ copies. copies.items ≡ keys.now) }
+{
+    let mut copies = Vec::with_capacity(alloc, keys.len())?;
+    for key in keys {
+        copies.push(key.copy(alloc)?)?;
+    }
+    Ok(copies)
+}
