@@ -1,0 +1,189 @@
+-- From the members of an object to the nodes of its keys and captures.
+use Rattle.std.proofs.Common.{◌≡◌, ◌≢◌, ℕ, zero, suc, ◌+◌, ◌<◌, ◌≤◌, Bool, true, false, cond, not, ◌&&◌, ◌||◌, List, [], ◌∷◌, ◌++◌, map, length, Some, None, Option, option_map, option_and_then, is_some, IsSome, is_ok, is_err, Result, Ok, Err, get_or, slice_get, string_bytes, string_cmp, sym, ap, ◌∙◌, subst, refl, arith, append_assoc, append-nil, nat_le}
+use Rattle.std.specs.Prelude.{codes}
+use Rattle.std.specs.List.{filter, AllByRecursion}
+use Rattle.std.specs.List.Sorted.{IsStrictlySortedBy}
+use Rattle.std.specs.Map.{keys_of}
+use Rattle.std.specs.FinMap as map_of
+use Rattle.std.specs.FinMap.{is_sorted}
+use Rattle.std.specs.FinMap.Entries.{below_all}
+use Rattle.std.specs.Cmp.{first_so, second_so}
+use Rattle.std.specs.Ordering.{is_lt}
+use Rattle.std.specs.declared.cmp.Ordering.TheVariants.{Less}
+use Rattle.std.proofs.lemmas.Bool.{false≢true, leb-true, le-leb}
+use Rattle.std.proofs.lemmas.List.{map-append}
+use Rattle.serde_json.specs.Data.{Data, null, boolean, number, string, array, object, Members, no_members, member}
+use Rattle.serde_json.specs.Find.{get, as_bool, as_object}
+use Rattle.serde_json.specs.View.{view, members_view}
+use Rattle.serde_json.proofs.Views.{Entry}
+use Rattle.tree_model.specs.Key.{key_cmp}
+use Rattle.tree_model.proofs.Choices.{both_so, neither}
+use Rattle.path_capture.specs.declared.pattern.Part.{Part}
+use Rattle.rules_reader.specs.declared.rule.RuleSet.{RuleSet}
+use Rattle.rules_reader.specs.declared.fault.RulesFault.{RulesFault}
+use Rattle.rules_reader.specs.declared.fault.RulesFault.TheVariants.{BadRulesJson, BadRulesShape, TooManyRules, NoMemory}
+use Rattle.rules_reader.specs.Part.{PartText, Pattern, texts, is_capture, is_part}
+use Rattle.rules_reader.specs.Book.{Book}
+use Rattle.rules_reader.specs.File.{listed, objects, is_object, rule_set, book_of, is_sound, faulty, captures_among, IsLeast}
+use Rattle.rules_reader.specs.Inner.{parts_of, faulty_inner}
+use Rattle.rules_reader.specs.Place.{one_capture_at_most}
+use Rattle.rules_reader.specs.Node.{Point, text_of, books, names, IsChild}
+use Rattle.rules_reader.specs.Refusal.{Names}
+use Rattle.rules_reader.proofs.Books.{no_objects}
+use Rattle.rules_reader.proofs.Faulty.{faulty_inner-part, faulty_inner-other, least_below}
+
+-- ---- objects
+
+pub object_is : (d : Data) (ms : Members) → Some ms ≡ as_object d → d ≡ object ms
+object_is null ms e = cc
+object_is (boolean b) ms e = cc
+object_is (number n) ms e = cc
+object_is (string s) ms e = cc
+object_is (array ds) ms e = cc
+object_is (object ns) ms e = cc
+
+pub stated_is : (s : RuleSet) (d : Data) (ms : Members) → s.read ≡ option_and_then as_bool (get (codes ".read") d) → s.write ≡ option_and_then as_bool (get (codes ".write") d) → s.validate ≡ option_and_then as_bool (get (codes ".validate") d) → d ≡ object ms → s ≡ rule_set ms
+stated_is s d ms r w v e = λ i. record {
+  read = (r ∙ ap (λ x. option_and_then as_bool (get (codes ".read") x)) e) i;
+  write = (w ∙ ap (λ x. option_and_then as_bool (get (codes ".write") x)) e) i;
+  validate = (v ∙ ap (λ x. option_and_then as_bool (get (codes ".validate") x)) e) i;
+}
+
+-- ---- the order of the names
+
+below_listed : (e : Entry) (es : List Entry) → AllByRecursion (λ l. string_cmp e.0 l ≡ Less) (keys_of es) → below_all key_cmp (string_bytes e.0) (listed (members_view es)) ≡ true
+below_listed e [] h = refl
+below_listed e (f ∷ es) h = both_so _ _ (ap is_lt h.0) (below_listed e es h.1)
+
+-- the members of a value are in the order of their names
+pub listed_ascend : (es : List Entry) → IsStrictlySortedBy string_cmp (keys_of es) → is_sorted key_cmp (listed (members_view es)) ≡ true
+unfolding IsStrictlySortedBy
+listed_ascend [] h = refl
+listed_ascend (e ∷ es) h = both_so _ _ (below_listed e es h.0) (listed_ascend es h.1)
+
+below_parts : (k : PartText) (ms : Members) → below_all key_cmp k (listed ms) ≡ true → below_all key_cmp k (parts_of ms) ≡ true
+below_parts k no_members h = refl
+below_parts k (member name d ms) h =
+    elim (is_part name && is_object d) as (λ b. below_all key_cmp k (cond b ((name, book_of d) ∷ parts_of ms) (parts_of ms)) ≡ true) [
+      | true ↦ both_so _ _ (first_so _ _ h) (below_parts k ms (second_so _ _ h))
+      | false ↦ below_parts k ms (second_so _ _ h)
+    ]
+
+-- and so are the keys and captures among them
+pub parts_ascend : (ms : Members) → is_sorted key_cmp (listed ms) ≡ true → is_sorted key_cmp (parts_of ms) ≡ true
+parts_ascend no_members h = refl
+parts_ascend (member name d ms) h =
+    elim (is_part name && is_object d) as (λ b. is_sorted key_cmp (cond b ((name, book_of d) ∷ parts_of ms) (parts_of ms)) ≡ true) [
+      | true ↦ both_so _ _ (below_parts name ms (first_so _ _ h)) (parts_ascend ms (second_so _ _ h))
+      | false ↦ parts_ascend ms (second_so _ _ h)
+    ]
+
+-- ---- at most one capture
+
+captures_le : (ms : Members) → length (filter is_capture (map (λ c. c.0) (parts_of ms))) ≤ length (captures_among (listed ms))
+captures_le no_members = omega arith
+captures_le (member name d ms) =
+    elim (is_part name && is_object d) as (λ b. length (filter is_capture (map (λ (c : PartText × Book). c.0) (cond b ((name, book_of d) ∷ parts_of ms) (parts_of ms)))) ≤ length (captures_among ((name, d) ∷ listed ms))) [
+      | true ↦ one_more (is_capture name) (captures_le ms)
+      | false ↦ no_more (is_capture name) (captures_le ms)
+    ]
+  where
+    one_more : (b : Bool) → length (filter is_capture (map (λ c. c.0) (parts_of ms))) ≤ length (captures_among (listed ms)) → length (cond b (name ∷ filter is_capture (map (λ c. c.0) (parts_of ms))) (filter is_capture (map (λ c. c.0) (parts_of ms)))) ≤ length (cond b ((name, d) ∷ captures_among (listed ms)) (captures_among (listed ms)))
+    one_more true h = omega arith
+    one_more false h = h
+
+    no_more : (b : Bool) → length (filter is_capture (map (λ c. c.0) (parts_of ms))) ≤ length (captures_among (listed ms)) → length (filter is_capture (map (λ c. c.0) (parts_of ms))) ≤ length (cond b ((name, d) ∷ captures_among (listed ms)) (captures_among (listed ms)))
+    no_more true h = omega arith
+    no_more false h = h
+
+names-books : (children : List (Part × Point)) → map (λ c. c.0) (books children) ≡ names children
+names-books [] = refl
+names-books (c ∷ children) = ap (λ ts. text_of c.0 ∷ ts) (names-books children)
+
+pub few_names : (at : Pattern) (ms : Members) (children : List (Part × Point)) → is_sound at ms ≡ true → books children ≡ parts_of ms → one_capture_at_most (names children) ≡ true
+few_names at ms children sound same =
+    let few = leb-true (length (captures_among (listed ms))) 1 (second_so _ _ sound) in
+    let le = captures_le ms in
+    ap one_capture_at_most (sym (names-books children) ∙ ap (map (λ c. c.0)) same) ∙ le-leb (length (filter is_capture (map (λ c. c.0) (parts_of ms)))) 1 (omega arith)
+
+-- ---- the loop over the members
+
+-- so far, and with the rest of the members
+pub record Built (at : Pattern) (done : List (Part × Point)) (rest all : Members) : Type 0 where
+  pub parts : books done ++ parts_of rest ≡ parts_of all
+  pub sound : faulty_inner at rest ≡ faulty_inner at all
+  pub each : AllByRecursion (IsChild at) done
+  pub ascending : is_sorted key_cmp (listed rest) ≡ true
+
+pub built_start : (at : Pattern) (all : Members) → is_sorted key_cmp (listed all) ≡ true → Built at [] all all
+built_start at all h = record { parts = refl; sound = refl; each = tt; ascending = h }
+
+-- a member that is no object adds nothing
+none_in : (at : Pattern) (name : PartText) (d : Data) → is_object d ≡ false → faulty at d ≡ []
+unfolding faulty
+none_in at name d h = ap (λ os. map (λ o. at ++ o.0) (filter (λ o. not (is_sound (at ++ o.0) o.1)) os)) (no_objects d h)
+
+skipped : (at : Pattern) (name : PartText) (d : Data) (ms : Members) → (is_part name && is_object d) ≡ false → faulty_inner at (member name d ms) ≡ faulty_inner at ms
+skipped at name d ms h =
+    elim (is_part name) as (λ b. is_part name ≡ b → (b && is_object d) ≡ false → faulty_inner at (member name d ms) ≡ faulty_inner at ms) [
+      | true ↦ λ e g. faulty_inner-part at name d ms e ∙ ap (λ qs. qs ++ faulty_inner at ms) (none_in (at ++ name ∷ []) name d g)
+      | false ↦ λ e _. faulty_inner-other at name d ms e
+    ] refl h
+
+pub built_skip : (at : Pattern) (done : List (Part × Point)) (rest more all : Members) (name : PartText) (d : Data) → rest ≡ member name d more → (is_part name && is_object d) ≡ false → Built at done rest all → Built at done more all
+built_skip at done rest more all name d step other b = record {
+  parts = ap (λ ps. books done ++ ps) (sym (ap parts_of step ∙ ap (λ t. cond t ((name, book_of d) ∷ parts_of more) (parts_of more)) other)) ∙ b.parts;
+  sound = sym (ap (faulty_inner at) step ∙ skipped at name d more other) ∙ b.sound;
+  each = b.each;
+  ascending = second_so _ _ (sym (ap (λ ms. is_sorted key_cmp (listed ms)) step) ∙ b.ascending);
+}
+
+all_push : {A : Type 0} (P : A → Type 0) (xs : List A) (y : A) → AllByRecursion P xs → P y → AllByRecursion P (xs ++ y ∷ [])
+all_push P [] y h g = (g, tt)
+all_push P (x ∷ xs) y h g = (h.0, all_push P xs y h.1 g)
+
+books-push : (done : List (Part × Point)) (c : Part × Point) → books (done ++ c ∷ []) ≡ books done ++ (text_of c.0, c.1.book) ∷ []
+books-push [] c = refl
+books-push (x ∷ done) c = ap (λ ps. (text_of x.0, x.1.book) ∷ ps) (books-push done c)
+
+pub built_push : (at : Pattern) (done : List (Part × Point)) (rest more all : Members) (name : PartText) (d : Data) (c : Part × Point) → rest ≡ member name d more → is_part name ≡ true → is_object d ≡ true → text_of c.0 ≡ name → c.1.book ≡ book_of d → IsChild at c → faulty (at ++ name ∷ []) d ≡ [] → Built at done rest all → Built at (done ++ c ∷ []) more all
+built_push at done rest more all name d c step part is_obj text book child none b = record {
+  parts =
+      ap (λ ps. ps ++ parts_of more) (books-push done c)
+      ∙ append_assoc (books done) ((text_of c.0, c.1.book) ∷ []) (parts_of more)
+      ∙ ap (λ ps. books done ++ ps) ((λ i. (text i, book i) ∷ parts_of more) ∙ sym (ap parts_of step ∙ (λ i. cond (part i && is_obj i) ((name, book_of d) ∷ parts_of more) (parts_of more))))
+      ∙ b.parts;
+  sound = sym (ap (faulty_inner at) step ∙ faulty_inner-part at name d more part ∙ ap (λ qs. qs ++ faulty_inner at more) none) ∙ b.sound;
+  each = all_push (IsChild at) done c b.each child;
+  ascending = second_so _ _ (sym (ap (λ ms. is_sorted key_cmp (listed ms)) step) ∙ b.ascending);
+}
+
+-- a refusal below a part is one of all
+pub built_refused : (at : Pattern) (done : List (Part × Point)) (rest more all : Members) (name : PartText) (d : Data) (fault : RulesFault) → rest ≡ member name d more → is_part name ≡ true → Built at done rest all → Names (faulty (at ++ name ∷ []) d) fault → Names (faulty_inner at all) fault
+built_refused at done rest more all name d BadRulesJson step part b h = h
+built_refused at done rest more all name d (BadRulesShape p) step part b h =
+    subst (IsLeast (texts p)) (sym (ap (faulty_inner at) step) ∙ b.sound) (least_below at (texts p) name d more part (sym (ap (λ ms. is_sorted key_cmp (listed ms)) step) ∙ b.ascending) h)
+built_refused at done rest more all name d TooManyRules step part b h = h
+built_refused at done rest more all name d NoMemory step part b h = h
+
+pub built_end : (at : Pattern) (done : List (Part × Point)) (rest all : Members) → rest ≡ no_members → Built at done rest all → (books done ≡ parts_of all) × (faulty_inner at all ≡ [])
+built_end at done rest all e b = (sym (append-nil (books done)) ∙ ap (λ ms. books done ++ parts_of ms) (sym e) ∙ b.parts, sym b.sound ∙ ap (faulty_inner at) e)
+
+-- ---- what the calls of a turn give
+
+-- a name gives a part only where it is one, and then its text
+pub part_found : (b : Bool) (name text : PartText) → Some text ≡ cond b (Some name) None → (b ≡ true) × (text ≡ name)
+part_found true name text e = (refl, same name text e)
+  where
+    same : (x y : PartText) → Some y ≡ Some x → y ≡ x
+    same x y g = cc
+part_found false name text e = cc
+
+pub ok_from : {T E : Type 0} (r : Result T E) → is_err r ≡ false → is_ok r ≡ true
+ok_from (Ok x) e = refl
+ok_from (Err x) e = absurd (false≢true (sym e))
+
+pub capture_here : (cs : List (Part × Point)) (i : ℕ) (c : Part × Point) → i < length cs → c ≡ get_or cs i c → is_capture (text_of c.0) ≡ true → option_map (λ x. is_capture (text_of x.0)) (slice_get cs i) ≡ Some true
+capture_here [] i c h e t = absurd (omega arith)
+capture_here (d ∷ cs) zero c h e t = ap (λ x. Some (is_capture (text_of x.0))) (sym e) ∙ ap (λ b. Some b) t
+capture_here (d ∷ cs) (suc i) c h e t = capture_here cs i c (omega arith) e t

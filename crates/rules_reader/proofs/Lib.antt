@@ -1,0 +1,12 @@
+pub mod Books
+pub mod Standing
+pub mod Faulty
+pub mod Grown
+pub mod Steps
+pub mod Ahead
+pub mod NameLemmas
+pub mod Nodes
+pub mod Reached
+pub mod JsonTexts
+pub mod Builds
+pub mod Named

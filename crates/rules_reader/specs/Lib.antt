@@ -1,0 +1,10 @@
+pub mod Part
+pub mod Book
+pub mod File
+pub mod Inner
+pub mod Place
+pub mod Node
+pub mod NodeFalls
+pub mod Stepped
+pub mod Rules
+pub mod Refusal

@@ -1,0 +1,24 @@
+//! Rules files: from their bytes to the rules that stand at a path.
+//!
+//! Contracts see [`Rules`] as what the file states: the patterns of its objects, each with the rules
+//! that stand there. What the layer above needs most is [`RuleNode::step`]: from the root along a
+//! path it leads to the pattern that stands there, or to none.
+#![tactic(auto)]
+
+mod fault;
+mod file;
+mod limits;
+mod node;
+mod rule;
+mod rules;
+mod shape;
+
+pub use fault::RulesFault;
+pub use file::compile;
+pub use limits::{MAX_FILE_BYTES, MAX_RULES};
+pub use node::RuleNode;
+pub use rule::RuleSet;
+pub use rules::Rules;
+
+#[cfg(test)]
+mod tests;

@@ -1,0 +1,185 @@
+//! A rule node: an object of a rules file, with the rules that stand there.
+ghost use Rattle.std.specs.Prelude.{◌≡◌, ℕ, [], true, Some, None, List, map, length, option_map, option_and_then, MatchOption, slice_get, min, IfSome, IfNone};
+ghost use Rattle.std.specs.List.{AllByRecursion};
+ghost use Rattle.std.specs.FinMap.{is_sorted, find};
+ghost use Rattle.std.specs.FinMap as map_of;
+ghost use Rattle.tree_model.specs.Key.{key_cmp};
+ghost use Rattle.tree_model.specs.PathMap.{get};
+ghost use Rattle.rules_reader.specs.Part.{texts, is_capture};
+ghost use Rattle.rules_reader.specs.Book.{rules};
+ghost use Rattle.rules_reader.specs.Place.{HasOneCapture, one_capture_at_most};
+ghost use Rattle.rules_reader.specs.Node.{Steps, NoneMatches, IsCaptureAt, IsChild, books, names, grown, text_of, rule_count_below};
+ghost use Rattle.rules_reader.specs.Stepped.{stepped};
+
+use crate::rule::RuleSet;
+use json_tree::Key;
+use path_capture::{Part, Pattern};
+use std::marker::Model;
+
+/// An object of a rules file: its pattern, the rules that stand there, and what is below. Contracts
+/// see the texts of its pattern, and what is stated at and below it.
+#[derive(Debug, Drop)]
+pub struct RuleNode {
+    pattern: Pattern,
+    rules: RuleSet,
+    // Ascending by the texts of the parts.
+    children: Vec<(Part, RuleNode)>,
+    // Where the capture is among the children.
+    capture: Option<usize>,
+}
+
+impl Model for RuleNode {
+    ghost use Rattle.rules_reader.specs.Node.{Point, point_code};
+
+    ghost Value = { Point };
+
+    ghost coded = { point_code };
+
+    ghost use Rattle.tree_model.specs.PathMap.{depth as depth_of};
+    ghost use Rattle.rules_reader.specs.Part.{texts};
+    ghost use Rattle.rules_reader.specs.Node.{grown, books, IsNode};
+
+    ghost view = { λ node. record { at = texts node.pattern; book = grown node.rules (books node.children.items) } };
+
+    ghost invariant = { λ node. IsNode (texts node.pattern) node.children.items node.capture };
+
+    ghost size = { λ point. depth_of point.book };
+
+    ghost use Rattle.rules_reader.specs.NodeFalls.{falls};
+
+    ghost size_decreases = { λ node h. falls node.rules (texts node.pattern) node.children.items node.capture h };
+}
+
+impl RuleNode {
+    /// The node of an object at a pattern, with what it states and what is below it.
+    pub(crate) fn new(pattern: Pattern, rules: RuleSet, children: Vec<(Part, RuleNode)>) -> RuleNode
+        requires ascending { is_sorted key_cmp (books children.items) ≡ true }
+        requires each { AllByRecursion (IsChild (texts pattern)) children.items }
+        requires few { one_capture_at_most (names children.items) ≡ true }
+        ensures at { result.at ≡ texts pattern }
+        ensures book { result.book ≡ grown rules (books children.items) }
+    {
+        let capture = capture_among(&children);
+        RuleNode {
+            pattern,
+            rules,
+            children,
+            capture,
+        }
+    }
+
+    /// The node one key further down: that of the key itself, else that of the capture, else none.
+    /// It takes no memory; log w of w keys. (Guide "Core syntax", using $ variables to capture path
+    /// segments.)
+    pub fn step(&self, key: &Key) -> Option<&RuleNode>
+        ensures found { IfSome result (λ node. Steps self.now key.now node.now) }
+        ensures none { IfNone result (NoneMatches self.now.book key.now) }
+    {
+        key.text();
+        child_of(&self.children, self.capture, key)
+    }
+
+    /// The pattern of the object.
+    pub fn pattern(&self) -> &Pattern
+        ensures { texts result.now ≡ self.now.at }
+    {
+        &self.pattern
+    }
+
+    /// What `.read` states here, if it does.
+    pub fn read(&self) -> Option<bool>
+        ensures { option_map (λ rules. rules.read) (get self.now.book []) ≡ Some result }
+    {
+        self.rules.read
+    }
+
+    /// What `.write` states here, if it does.
+    pub fn write(&self) -> Option<bool>
+        ensures { option_map (λ rules. rules.write) (get self.now.book []) ≡ Some result }
+    {
+        self.rules.write
+    }
+
+    /// What `.validate` states here, if it does.
+    pub fn validate(&self) -> Option<bool>
+        ensures { option_map (λ rules. rules.validate) (get self.now.book []) ≡ Some result }
+    {
+        self.rules.validate
+    }
+
+    /// How many rules are stated at and below the node; of more than a `usize` can hold, the
+    /// greatest `usize`. One pass over the nodes, and no memory.
+    #[cycle(rule_count)]
+    pub(crate) fn rule_count(&self) -> usize
+        ensures { result ≡ min (length (rules self.now.book)) usize.MAX }
+    {
+        self.rules
+            .count()
+            .saturating_add(rule_count_of(&self.children))
+    }
+
+    /// What holds of every node: its own object is listed, and in each object at and below it at
+    /// most one part is a capture.
+    pub(crate) fn is_node(&self)
+        ensures listed { map_of.contains_key self.now.book [] ≡ true }
+        ensures one { HasOneCapture self.now.book }
+    {
+        let _children = &self.children;
+    }
+}
+
+#[cycle(rule_count)]
+fn rule_count_of(children: &Vec<(Part, RuleNode)>) -> usize
+    ensures { result ≡ min (rule_count_below children.now.items) usize.MAX }
+{
+    let mut count = 0usize;
+    for child in children {
+        count = count.saturating_add(child.1.rule_count());
+    }
+    count
+}
+
+fn child_of<'a>(
+    children: &'a Vec<(Part, RuleNode)>,
+    capture: Option<usize>,
+    key: &Key,
+) -> Option<&'a RuleNode>
+    requires ascending { is_sorted key_cmp (books children.now.items) ≡ true }
+    requires capture { IsCaptureAt children.now.items capture }
+    ensures { option_map (λ node. node.now) result ≡ stepped children.now.items capture key.now }
+{
+    match children.binary_search_by(|child| child.0.compare_key(key)) {
+        Ok(place) => Some(&children[place].1),
+        Err(_) => match capture {
+            Some(place) => Some(&children[place].1),
+            None => None,
+        },
+    }
+}
+
+// Where the capture is among children, if one is.
+fn capture_among(children: &Vec<(Part, RuleNode)>) -> Option<usize>
+    ensures { IsCaptureAt children.now.items result }
+{
+    for (place, child) in children.iter().enumerate() {
+        if is_capture(&child.0) {
+            return Some(place);
+        }
+    }
+    None
+}
+
+fn is_capture(part: &Part) -> bool
+    ensures { result ≡ is_capture (text_of part.now) }
+{
+    match part {
+        Part::Literal(key) => {
+            key.text();
+            false
+        }
+        Part::Capture(name) => {
+            name.text();
+            true
+        }
+    }
+}
