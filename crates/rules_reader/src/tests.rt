@@ -18,8 +18,13 @@ fn answer(alloc: Global, file: &str) -> Result<String, Fail> {
     }
 }
 
-const FILES: [(&str, &str); 22] = [
+const FILES: [(&str, &str); 24] = [
     ("{\"rules\":{}}", "0 rules"),
+    ("{\"rules\":{\".read\":true,\".write\":true}}", "2 rules"),
+    (
+        "{\"rules\":{\"a\":{\".read\":true,\".write\":true,\"b\":{\".read\":false}}}}",
+        "3 rules",
+    ),
     (
         "{\"rules\":{\".read\":false,\"a\":{\".read\":false,\"b\":{\".read\":true}}}}",
         "3 rules",
@@ -130,7 +135,7 @@ fn literal_before_capture(rt: HostRuntime) -> Result<(), Fail> {
         "{\"rules\":{\"rooms\":{\"lobby\":{\".read\":false},\"$r\":{\".read\":true,\".write\":true,\".validate\":false,\"a\":{\".write\":false}}}}}";
     let rules = match compile(alloc, file.as_bytes()) {
         Ok(rules) => rules,
-        Err(_) => return Err("the file is lawful")?,
+        Err(fault) => return Err(fault)?,
     };
     assert_eq!(rt; rules.root().pattern().len(), 0);
     for (path, want) in PLACES {
