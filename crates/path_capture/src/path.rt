@@ -83,6 +83,7 @@ impl Path {
         })
     }
 
+    /// The keys, from the root down. It takes no memory.
     pub fn keys(&self) -> &[Key]
         ensures keys { result.now ≡ self.now }
         ensures lawful { is_path self.now ≡ true }

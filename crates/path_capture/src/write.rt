@@ -57,6 +57,7 @@ impl Write {
         Ok(Write { path, tree })
     }
 
+    /// The location that is written. It takes no memory.
     pub fn at(&self) -> &Path
         ensures path { result.now ≡ location self.now }
         ensures lawful { IsLawfulWrite self.now }
