@@ -47,9 +47,12 @@ impl Rules {
         Rules { root, count }
     }
 
-    /// The object that stands at the empty pattern.
+    /// The object that stands at the empty pattern. It is listed like every other, and in each object
+    /// at most one part is a capture.
     pub fn root(&self) -> &RuleNode
-        ensures { result.now ≡ record { at = []; book = self.now } }
+        ensures node { result.now ≡ record { at = []; book = self.now } }
+        ensures listed { map_of.contains_key self.now [] ≡ true }
+        ensures one { HasOneCapture self.now }
     {
         &self.root
     }
