@@ -1,23 +1,22 @@
 -- A book grown from the books of its parts: its entries, its rules, its captures, its depth.
-use Rattle.std.proofs.Common.{◌≡◌, ◌≢◌, ℕ, zero, suc, ◌+◌, ◌<◌, ◌≤◌, Bool, true, false, cond, ◌&&◌, T, List, [], ◌∷◌, ◌++◌, map, length, Some, None, Option, unwrap_or, is_some, IsSome, sym, ap, ◌∙◌, subst, refl, arith, length-append}
+use Rattle.std.proofs.Common.{◌≡◌, ℕ, ◌+◌, ◌≤◌, Bool, true, false, cond, T, List, [], ◌∷◌, ◌++◌, map, length, Some, None, Option, unwrap_or, is_some, IsSome, sym, ap, ◌∙◌, subst, refl, arith, length-append}
 use Rattle.std.specs.List.{filter, flat_map, sum_by, AllByRecursion}
 use Rattle.std.specs.FinMap as map_of
 use Rattle.std.specs.FinMap.{find, is_sorted}
 use Rattle.std.specs.FinMap.Entries.{below_all}
-use Rattle.std.specs.Cmp.{IsTotalOrder, first_so, second_so, tied_itself}
-use Rattle.std.specs.declared.cmp.Ordering.{Ordering}
+use Rattle.std.specs.Cmp.{first_so, second_so, tied_itself}
 use Rattle.std.specs.declared.cmp.Ordering.TheVariants.{Less, Equal, Greater}
 use Rattle.std.specs.Ordering.{is_lt, ordering_then, eq_by_cmp}
 use Rattle.std.proofs.lemmas.Bool.{false≢true, leb-true}
 use Rattle.std.proofs.lemmas.List.Sums.{sum_by-cons}
 use Rattle.tree_model.specs.Key.{Key, key_cmp}
 use Rattle.tree_model.specs.Path.{Path, path_cmp}
-use Rattle.tree_model.specs.PathMap.{PathMap, get, exists, sub, depth, greatest, under}
+use Rattle.tree_model.specs.PathMap.{PathMap, exists, under}
 use Rattle.tree_model.proofs.Choices.{both_so, none_is_not_some}
 use Rattle.tree_model.proofs.Orders.{keys_total, paths_total, exact_paths, tied_key}
 use Rattle.tree_model.proofs.Lookups.{get-empty}
-use Rattle.tree_model.proofs.Existence.{exists_above, found_at_or_below, length-le-depth, deepest_path, depth_le, not_null_from_path}
-use Rattle.tree_model.proofs.Grafts.{child_of, spread, each_depth}
+use Rattle.tree_model.proofs.Existence.{found_at_or_below}
+use Rattle.tree_model.proofs.Grafts.{child_of, spread}
 use Rattle.rules_reader.specs.Part.{PartText, Pattern, is_capture}
 use Rattle.rules_reader.specs.declared.rule.RuleSet.{RuleSet}
 use Rattle.rules_reader.specs.Book.{Book, Rule, rules, stated, stated_count, reads, writes, validates}
@@ -79,7 +78,8 @@ entries-grown own parts h = entries-sorted (([], own) ∷ spread parts) (both_so
 
 -- ---- how many rules
 
-abbrev stated_all : Path × RuleSet → List Rule
+-- the rules of an entry
+abbrev pub stated_all : Path × RuleSet → List Rule
 stated_all e = stated e.0 reads e.1.read ++ stated e.0 validates e.1.validate ++ stated e.0 writes e.1.write
 
 length-stated_all : (e : Path × RuleSet) → length (stated_all e) ≡ stated_count e.1

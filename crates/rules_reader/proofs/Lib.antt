@@ -2,6 +2,7 @@ pub mod Books
 pub mod Standing
 pub mod Faulty
 pub mod Grown
+pub mod Validates
 pub mod Steps
 pub mod Ahead
 pub mod NameLemmas

@@ -1,16 +1,17 @@
--- What holds of every rule node, and how many rules it has.
-use Rattle.std.proofs.Common.{◌≡◌, ℕ, ◌+◌, true, List, [], ◌∷◌, map, length, Option, is_some, sym, ap, ◌∙◌, refl}
-use Rattle.std.specs.List.{AllByRecursion, sum_by}
+-- What holds of every rule node, how many rules it has, and whether one is a `.validate`.
+use Rattle.std.proofs.Common.{◌≡◌, ℕ, ◌+◌, true, ◌||◌, List, [], ◌∷◌, map, length, Option, is_some, sym, ap, ◌∙◌, refl}
+use Rattle.std.specs.List.{AllByRecursion, sum_by, list_any}
 use Rattle.std.specs.FinMap as map_of
 use Rattle.std.proofs.lemmas.List.Sums.{sum_by-cons}
 use Rattle.path_capture.specs.declared.pattern.Part.{Part}
 use Rattle.rules_reader.specs.declared.rule.RuleSet.{RuleSet}
 use Rattle.rules_reader.specs.Part.{PartText, Pattern}
-use Rattle.rules_reader.specs.Book.{Book, rules, stated_count}
+use Rattle.rules_reader.specs.Book.{Book, rules, has_validate, stated_count}
 use Rattle.rules_reader.specs.Place.{HasOneCapture, one_capture_at_most}
-use Rattle.rules_reader.specs.Node.{Point, grown, text_of, books, names, rule_count_below, IsChild, IsNode}
+use Rattle.rules_reader.specs.Node.{Point, grown, text_of, books, names, rule_count_below, validate_below, IsChild, IsNode}
 use Rattle.rules_reader.specs.NodeFalls.{get-grown-root}
 use Rattle.rules_reader.proofs.Grown.{length-rules-grown, HasOneCapture-grown}
+use Rattle.rules_reader.proofs.Validates.{has_validate-grown}
 
 -- ---- what holds of every node
 
@@ -39,3 +40,12 @@ sum_of_books (c ∷ cs) =
 
 pub count_of_node : (own : RuleSet) (at : Pattern) (children : List (Part × Point)) (place : Option ℕ) → IsNode at children place → length (rules (grown own (books children))) ≡ stated_count own + rule_count_below children
 count_of_node own at children place n = length-rules-grown own (books children) n.ascending ∙ ap (λ m. stated_count own + m) (sum_of_books children)
+
+-- ---- whether there is a `.validate`
+
+any_of_books : (children : List (Part × Point)) → list_any (λ c. has_validate c.1) (books children) ≡ validate_below children
+any_of_books [] = refl
+any_of_books (c ∷ cs) = ap (λ b. has_validate c.1.book || b) (any_of_books cs)
+
+pub validate_of_node : (own : RuleSet) (at : Pattern) (children : List (Part × Point)) (place : Option ℕ) → IsNode at children place → has_validate (grown own (books children)) ≡ (is_some own.validate || validate_below children)
+validate_of_node own at children place n = has_validate-grown own (books children) n.ascending ∙ ap (λ b. is_some own.validate || b) (any_of_books children)

@@ -1,9 +1,10 @@
 -- What a rules file states, as a flat map: the patterns of its objects, each with the rules that stand there.
-use Rattle.std.specs.Prelude.{◌≡◌, ℕ, ◌+◌, List, [], ◌∷◌, ◌++◌, Bool, length, Option, Some, None, flat_map, refl}
+use Rattle.std.specs.Prelude.{ℕ, ◌+◌, List, [], ◌∷◌, ◌++◌, Bool, true, false, length, Option, Some, None, flat_map, refl}
+use Rattle.std.specs.List.{list_any}
 use Rattle.std.specs.FinMap as map_of
 use Rattle.std.specs.Coded.{Coded, code_by, coded×, coded_ℕ, coded_bool, coded_list, coded_option}
-use Rattle.tree_model.specs.PathMap.{PathMap, get, exists}
-use Rattle.rules_reader.specs.Part.{PartText, Pattern}
+use Rattle.tree_model.specs.PathMap.{PathMap}
+use Rattle.rules_reader.specs.Part.{Pattern}
 use Rattle.rules_reader.specs.declared.rule.RuleSet.{RuleSet}
 
 -- patterns are lists of texts, as paths are; in this order the least faulty place is found
@@ -31,6 +32,15 @@ stated p kind (Some value) = (p, kind, value) ∷ []
 -- all rules of the file, by pattern, and at one pattern `.read`, `.validate`, `.write`
 unfoldable pub rules : Book → List Rule
 rules b = flat_map (λ e. stated e.0 reads e.1.read ++ stated e.0 validates e.1.validate ++ stated e.0 writes e.1.write) (map_of.entries b)
+
+abbrev pub is_validate : Kind → Bool
+is_validate reads = false
+is_validate writes = false
+is_validate validates = true
+
+-- whether a rule of the file is a `.validate`
+abbrev pub has_validate : Book → Bool
+has_validate b = list_any (λ rule. is_validate rule.1) (rules b)
 
 -- how many rules an object states
 abbrev pub stated_count : RuleSet → ℕ

@@ -1,15 +1,15 @@
 -- What a rule node is seen as: a point of a rules file.
-use Rattle.std.specs.Prelude.{◌≡◌, ℕ, ◌<◌, ◌++◌, List, [], ◌∷◌, map, length, flat_map, Bool, true, false, Option, Some, None, MatchOption, refl, slice_get, option_map, is_some}
+use Rattle.std.specs.Prelude.{◌≡◌, ℕ, ◌++◌, List, [], ◌∷◌, map, length, flat_map, Bool, true, false, Option, Some, MatchOption, refl, slice_get, option_map}
 use Rattle.std.specs.List.{AllByRecursion, list_any, sum_by}
 use Rattle.std.specs.FinMap as map_of
 use Rattle.std.specs.Coded.{Coded, code_by, coded×, coded_ℕ, coded_list}
 use Rattle.tree_model.specs.Key.{Key, key_cmp}
-use Rattle.tree_model.specs.PathMap.{get, sub, exists, under}
+use Rattle.tree_model.specs.PathMap.{sub, exists, under}
 use Rattle.path_capture.specs.declared.pattern.Part.{Part}
 use Rattle.path_capture.specs.Pattern.{part_of, part_text}
 use Rattle.rules_reader.specs.declared.rule.RuleSet.{RuleSet}
 use Rattle.rules_reader.specs.Part.{PartText, Pattern, is_capture}
-use Rattle.rules_reader.specs.Book.{Book, rules, book_code}
+use Rattle.rules_reader.specs.Book.{Book, rules, has_validate, book_code}
 use Rattle.rules_reader.specs.Place.{matches, HasOneCapture, one_capture_at_most}
 
 -- the pattern of an object, and what is stated at and below it, by what is left of the patterns there
@@ -49,6 +49,10 @@ books children = map (λ c. (text_of c.0, c.1.book)) children
 -- how many rules are stated at and below the children
 abbrev pub rule_count_below : List (Part × Point) → ℕ
 rule_count_below children = sum_by (λ c. length (rules c.1.book)) children
+
+-- whether a `.validate` is stated at or below one of the children
+abbrev pub validate_below : List (Part × Point) → Bool
+validate_below children = list_any (λ c. has_validate c.1.book) children
 
 abbrev pub names : List (Part × Point) → List PartText
 names children = map (λ c. text_of c.0) children

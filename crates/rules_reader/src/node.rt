@@ -6,9 +6,9 @@ ghost use Rattle.std.specs.FinMap as map_of;
 ghost use Rattle.tree_model.specs.Key.{key_cmp};
 ghost use Rattle.tree_model.specs.PathMap.{get};
 ghost use Rattle.rules_reader.specs.Part.{texts, is_capture};
-ghost use Rattle.rules_reader.specs.Book.{rules};
+ghost use Rattle.rules_reader.specs.Book.{rules, has_validate};
 ghost use Rattle.rules_reader.specs.Place.{HasOneCapture, one_capture_at_most};
-ghost use Rattle.rules_reader.specs.Node.{Steps, NoneMatches, IsCaptureAt, IsChild, books, names, grown, text_of, rule_count_below};
+ghost use Rattle.rules_reader.specs.Node.{Steps, NoneMatches, IsCaptureAt, IsChild, books, names, grown, text_of, rule_count_below, validate_below};
 ghost use Rattle.rules_reader.specs.Stepped.{stepped};
 
 use crate::rule::RuleSet;
@@ -118,6 +118,16 @@ impl RuleNode {
             .saturating_add(rule_count_of(&self.children))
     }
 
+    /// Whether a `.validate` is stated at or below the node. At most one pass over the nodes, and no
+    /// memory.
+    #[cycle(states_validate)]
+    pub(crate) fn states_validate(&self) -> bool
+        ensures { result ≡ has_validate self.now.book }
+    {
+        let here = self.rules.validate.is_some();
+        here || some_states_validate(&self.children)
+    }
+
     /// What holds of every node: its own object is listed, and in each object at and below it at
     /// most one part is a capture.
     pub(crate) fn is_node(&self)
@@ -137,6 +147,18 @@ fn rule_count_of(children: &Vec<(Part, RuleNode)>) -> usize
         count = count.saturating_add(child.1.rule_count());
     }
     count
+}
+
+#[cycle(states_validate)]
+fn some_states_validate(children: &Vec<(Part, RuleNode)>) -> bool
+    ensures { result ≡ validate_below children.now.items }
+{
+    for child in children {
+        if child.1.states_validate() {
+            return true;
+        }
+    }
+    false
 }
 
 fn child_of<'a>(

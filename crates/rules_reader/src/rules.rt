@@ -5,7 +5,7 @@ ghost use Rattle.tree_model.specs.Key.{Key as KeyBytes};
 ghost use Rattle.tree_model.specs.Path.{Path};
 ghost use Rattle.tree_model.specs.PathMap.{sub};
 ghost use Rattle.rules_reader.specs.Part.{PartText, Pattern, is_capture};
-ghost use Rattle.rules_reader.specs.Book.{rules};
+ghost use Rattle.rules_reader.specs.Book.{rules, has_validate};
 ghost use Rattle.rules_reader.specs.Place.{StandsAt, HasOneCapture, HasNamesOnce, captures};
 
 use crate::node::RuleNode;
@@ -62,6 +62,14 @@ impl Rules {
         ensures { result ≡ length (rules self.now) }
     {
         self.count
+    }
+
+    /// Whether some object of the file states a `.validate`: at most one pass over the nodes, and no
+    /// memory.
+    pub fn states_validate(&self) -> bool
+        ensures { result ≡ has_validate self.now }
+    {
+        self.root.states_validate()
     }
 
     /// The object whose pattern stands at a path, if one does: one step for each key. It takes no

@@ -118,6 +118,36 @@ fn limits(rt: HostRuntime) -> Result<(), Fail> {
     Ok(())
 }
 
+const VALIDATES: [(&str, bool); 6] = [
+    ("{\"rules\":{\".validate\":true,\"a\":{}}}", true),
+    ("{\"rules\":{\".validate\":false}}", true),
+    (
+        "{\"rules\":{\"a\":{\".read\":true},\"b\":{\"$c\":{\"d\":{\".validate\":true}}}}}",
+        true,
+    ),
+    (
+        "{\"rules\":{\".read\":true,\"a\":{\"$c\":{\".write\":true}}}}",
+        false,
+    ),
+    (
+        "{\"rules\":{\"validate\":{\".indexOn\":\".validate\"}}}",
+        false,
+    ),
+    ("{\"rules\":{}}", false),
+];
+
+#[test]
+fn files_with_a_validate(rt: HostRuntime) -> Result<(), Fail> {
+    for (file, want) in VALIDATES {
+        let rules = match compile(rt.alloc(), file.as_bytes()) {
+            Ok(rules) => rules,
+            Err(fault) => return Err(fault)?,
+        };
+        assert_eq!(rt; rules.states_validate(), want, "of {file}");
+    }
+    Ok(())
+}
+
 const PLACES: [(&str, &str); 7] = [
     ("/", "/ None None None"),
     ("/rooms", "/rooms None None None"),
