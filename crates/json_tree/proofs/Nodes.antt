@@ -1,18 +1,19 @@
 -- What holds of the tree that a node is seen as.
-use Rattle.std.proofs.Common.{◌≡◌, ◌≢◌, ◌≤◌, Vec, Global, sym, ap, ◌∙◌, subst}
+use Rattle.std.proofs.Common.{◌≡◌, ◌≢◌, ◌≤◌, ◌<◌, Vec, Global, sym, ap, ◌∙◌, subst}
 use Rattle.tree_model.specs.declared.limits.TheConstants.{MAX_DEPTH}
 use Rattle.tree_model.specs.Key.{Key}
 use Rattle.tree_model.specs.PathMap.{depth}
 use Rattle.tree_model.specs.Tree.{Tree, null, lone, IsLawful}
-use Rattle.tree_model.specs.Children.{graft}
+use Rattle.tree_model.specs.Children.{graft, IsLawfulChild}
 use Rattle.tree_model.proofs.Existence.{depth_le}
 use Rattle.tree_model.proofs.Grafts.{lone≢null, graft≢null}
 use Rattle.tree_model.proofs.Lawful.{path_length}
 use Rattle.json_tree.specs.declared.leaf.Leaf.{Leaf}
 use Rattle.json_tree.specs.Leaf.{primitive_of}
-use Rattle.json_tree.specs.Node.{tree_of, IsKind}
+use Rattle.json_tree.specs.Node.{tree_of, IsKind, MayBeChildren}
 use Rattle.json_tree.specs.declared.node.Kind.{Kind}
 use Rattle.json_tree.specs.declared.node.Kind.TheVariants.{Primitive, Parent}
+use Rattle.json_tree.proofs.Lists.{weaker}
 
 pub kind≢null : (k : Kind) → IsKind k → tree_of k ≢ null
 kind≢null (Primitive leaf) h = lone≢null (primitive_of leaf)
@@ -30,3 +31,10 @@ at_parent view_is is = sym view_is ∙ ap tree_of is
 
 pub parts_at_parent : {k : Kind} {cs : Vec (Key × Tree) Global} → IsKind k → k ≡ Parent cs → IsKind (Parent cs)
 parts_at_parent h is = subst IsKind is h
+
+-- the children of a node may become a node's children
+pub may_be_children : {k : Kind} {cs : Vec (Key × Tree) Global} → IsKind k → k ≡ Parent cs → MayBeChildren cs.items
+may_be_children {cs = cs} h is =
+    let parts = parts_at_parent h is in
+    let F : Key × Tree → Type 0 = λ c. depth c.1 < MAX_DEPTH in
+    record { some = parts.0.some; ascending = parts.0.ascending; room = weaker IsLawfulChild F (λ c lawful. lawful.depth) cs.items parts.1 }

@@ -11,6 +11,7 @@ mod key;
 mod leaf;
 mod memory;
 mod node;
+mod puts;
 
 pub use json::{ValueFault, from_json, to_json};
 pub use json_laws::{what_a_tree_is_written_as, what_is_written_is_read_back};
@@ -18,6 +19,7 @@ pub use key::{Key, KeyFault, is_lawful_key};
 pub use leaf::{Leaf, Number, Text};
 pub use memory::NoMemory;
 pub use node::Node;
+pub use puts::put;
 
 #[cfg(test)]
 mod tests;

@@ -1,6 +1,7 @@
 //! A node: the stored tree in memory, a leaf or children in the order of their keys.
 ghost use Rattle.std.specs.Prelude.{◌≡◌, ◌≢◌, ◌<◌, ◌≤◌, true, ◌∷◌, [], length, min, map, All, IsOk, IfOk, option_map, slice_get, None};
 ghost use Rattle.std.specs.List.{AllByRecursion};
+ghost use Rattle.std.specs.List.Sorted.{IsSearchInRange, IsBinarySearchResult};
 ghost use Rattle.std.specs.FinMap.{is_sorted};
 ghost use Rattle.std.specs.FinMap as map_of;
 ghost use Rattle.tree_model.specs.Key.{key_cmp};
@@ -21,14 +22,14 @@ use tree_model::MAX_DEPTH;
 #[cycle(node)]
 #[derive(Debug, Drop)]
 pub struct Node {
-    kind: Kind,
-    depth: usize,
-    count: usize,
+    pub(crate) kind: Kind,
+    pub(crate) depth: usize,
+    pub(crate) count: usize,
 }
 
 #[cycle(node)]
 #[derive(Debug, Drop)]
-enum Kind {
+pub(crate) enum Kind {
     Primitive(Leaf),
     // Ascending by the bytes of the keys, at least one.
     Parent(Vec<(Key, Node)>),
@@ -181,7 +182,7 @@ impl Node {
 }
 
 // The depth and the count of a tree of these children.
-fn sizes_of(children: &Vec<(Key, Node)>) -> (usize, usize)
+pub(crate) fn sizes_of(children: &Vec<(Key, Node)>) -> (usize, usize)
     requires some { children.now.items ≢ [] }
     requires ascending { is_sorted key_cmp children.now.items ≡ true }
     requires room { All (λ child. depth child.1 < MAX_DEPTH) children.now.items }
@@ -206,10 +207,19 @@ fn child_of<'a>(children: &'a Vec<(Key, Node)>, name: &str) -> Option<&'a Node>
     ensures { option_map (λ node. node.now) result
         ≡ non_null (sub (graft children.now.items) (name.now ∷ [])) }
 {
-    match children.binary_search_by(|child| child.0.compare(name)) {
+    match place_of(children, name) {
         Ok(place) => Some(&children[place].1),
         Err(_) => None,
     }
+}
+
+// Where the child of this key is, or where it would go, by a binary search.
+pub(crate) fn place_of(children: &Vec<(Key, Node)>, name: &str) -> Result<usize, usize>
+    ensures bound { IsSearchInRange result (length children.now.items) }
+    ensures position { IsBinarySearchResult (λ child. key_cmp child.0 name.now)
+        children.now.items result }
+{
+    children.binary_search_by(|child| child.0.compare(name))
 }
 
 fn key_of(children: &Vec<(Key, Node)>, i: usize) -> Option<&Key>

@@ -1,5 +1,9 @@
 //! What no clause says: worked values, and that each call can succeed.
-use crate::{Key, KeyFault, Leaf, NoMemory, Node, Number, ValueFault, from_json, to_json};
+ghost use Rattle.std.specs.Prelude.{◌≡◌, unwrap_or};
+ghost use Rattle.tree_model.specs.PathMap.{depth};
+ghost use Rattle.tree_model.specs.Tree.{null};
+
+use crate::{Key, KeyFault, Leaf, NoMemory, Node, Number, ValueFault, from_json, put, to_json};
 use serde_json::Value;
 use std::alloc::Global;
 use std::test::Fail;
@@ -193,5 +197,90 @@ fn builds_a_node(rt: HostRuntime) -> Result<(), Fail> {
     let node = Node::of_children(children)?;
     let text = to_json(alloc, Some(&node))?.to_string(alloc)?;
     assert_eq!(rt; text.as_str(), "{\"k\":7,\"l\":\"m\"}");
+    Ok(())
+}
+
+// A tree, a path, what is put there, and the tree that there is then.
+const WRITES: [(&str, &str, &str, &str); 20] = [
+    ("null", "", "5", "5"),
+    ("null", "a", "1", "{\"a\":1}"),
+    (
+        "null",
+        "a/b/c",
+        "{\"d\":1}",
+        "{\"a\":{\"b\":{\"c\":{\"d\":1}}}}",
+    ),
+    ("{\"a\":1}", "", "true", "true"),
+    ("{\"a\":1}", "a", "2", "{\"a\":2}"),
+    ("{\"a\":1}", "a/b", "2", "{\"a\":{\"b\":2}}"),
+    ("1", "a/b", "2", "{\"a\":{\"b\":2}}"),
+    (
+        "{\"a\":{\"b\":1,\"c\":2},\"d\":3}",
+        "a",
+        "{\"e\":4}",
+        "{\"a\":{\"e\":4},\"d\":3}",
+    ),
+    (
+        "{\"a\":{\"b\":1},\"d\":3}",
+        "a/c/e",
+        "2",
+        "{\"a\":{\"b\":1,\"c\":{\"e\":2}},\"d\":3}",
+    ),
+    ("{\"b\":1,\"d\":2}", "a", "3", "{\"a\":3,\"b\":1,\"d\":2}"),
+    ("{\"b\":1,\"d\":2}", "c", "3", "{\"b\":1,\"c\":3,\"d\":2}"),
+    ("{\"b\":1,\"d\":2}", "e", "3", "{\"b\":1,\"d\":2,\"e\":3}"),
+    ("{\"a\":1}", "", "null", "null"),
+    ("{\"a\":1,\"b\":2}", "a", "null", "{\"b\":2}"),
+    (
+        "{\"a\":{\"b\":{\"c\":1}},\"d\":2}",
+        "a/b/c",
+        "null",
+        "{\"d\":2}",
+    ),
+    ("{\"a\":{\"b\":1}}", "a/b", "null", "null"),
+    ("{\"a\":1}", "a/b", "null", "{\"a\":1}"),
+    ("{\"a\":{\"b\":1}}", "a/c", "null", "{\"a\":{\"b\":1}}"),
+    ("{\"a\":1}", "b/c", "null", "{\"a\":1}"),
+    ("null", "a/b", "null", "null"),
+];
+
+// The tree of a JSON text.
+fn tree_of(alloc: Global, text: &str) -> Result<Option<Node>, Fail> {
+    let value = Value::from_str(alloc, text)?;
+    Ok(from_json(alloc, &value)?)
+}
+
+// The keys of a text, which stand between slashes.
+fn keys_of(alloc: Global, text: &str) -> Result<Vec<Key>, Fail> {
+    let mut keys = Vec::new(alloc);
+    for name in text.split('/') {
+        if !name.is_empty() {
+            keys.push(Key::new(alloc, name)?)?;
+        }
+    }
+    Ok(keys)
+}
+
+fn depth_of(tree: &Option<Node>) -> usize
+    ensures { result ≡ depth (unwrap_or tree.now null) }
+{
+    match tree {
+        Some(node) => node.depth(),
+        None => 0,
+    }
+}
+
+#[test]
+fn writes_in_place(rt: HostRuntime) -> Result<(), Fail> {
+    let alloc = rt.alloc();
+    for (text, path, put_there, want) in WRITES {
+        let mut tree = tree_of(alloc, text)?;
+        let keys = keys_of(alloc, path)?;
+        let value = tree_of(alloc, put_there)?;
+        assert!(rt; keys.len() <= 4 && depth_of(&value) <= 4);
+        put(alloc, &mut tree, &keys, value)?;
+        let found = to_json(alloc, tree.as_ref())?.to_string(alloc)?;
+        assert_eq!(rt; found.as_str(), want, "{put_there} at /{path} of {text}");
+    }
     Ok(())
 }

@@ -1,0 +1,119 @@
+-- What a write makes of the tree of some children: the child of one key is set, inserted or taken out.
+use Rattle.std.proofs.Common.{◌≡◌, ◌≢◌, ℕ, ◌<◌, ◌≤◌, true, false, List, [], ◌∷◌, length, get_or, set, Some, None, Err, unwrap_or, sym, ap, ◌∙◌, subst, refl, arith}
+use Rattle.std.specs.declared.cmp.Ordering.TheVariants.{Equal}
+use Rattle.std.specs.FinMap.{find, is_sorted}
+use Rattle.std.specs.List.{insert, remove}
+use Rattle.std.specs.List.Sorted.{IsBinarySearchResult}
+use Rattle.std.specs.Str.{bytes_eq}
+use Rattle.std.proofs.lemmas.List.{length-set, set-get_or}
+use Rattle.std.proofs.lemmas.List.Edits.{length-insert, length-remove}
+use Rattle.tree_model.specs.declared.limits.TheConstants.{MAX_DEPTH}
+use Rattle.tree_model.specs.Key.{Key, key_cmp}
+use Rattle.tree_model.specs.Path.{Path}
+use Rattle.tree_model.specs.PathMap.{depth}
+use Rattle.tree_model.specs.Tree.{Tree, null}
+use Rattle.tree_model.specs.Children.{graft}
+use Rattle.tree_model.specs.Write.{proposed}
+use Rattle.tree_model.proofs.Orders.{exact_keys}
+use Rattle.tree_model.proofs.Grafts.{child_of}
+use Rattle.json_tree.specs.Node.{MayBeChildren}
+use Rattle.json_tree.proofs.Lists.{all_from_recursion}
+use Rattle.json_tree.proofs.Places.{find_at, searched}
+use Rattle.json_tree.proofs.Edits.{set_value, sorted-set, find-set_other, find-set_same, IsGap, gap_at, sorted-insert, find-insert_other, find-insert_same, sorted-remove, find-remove_other, find-remove_same, all-set, all-insert, all-remove, not_empty, alone}
+use Rattle.json_tree.proofs.Proposing.{proposed-graft, removed-null, empty_graft}
+
+-- ---- the child of a key
+
+-- d is the child at the place i, and the name is its key
+pub record StandsAt (cs : List (Key × Tree)) (i : ℕ) (d : Key × Tree) (name : Key) : Type 0 where
+  pub children : MayBeChildren cs
+  pub within : i < length cs
+  pub at : d ≡ get_or cs i d
+  pub tied : key_cmp (get_or cs i d).0 name ≡ Equal
+
+module _ {cs : List (Key × Tree)} {i : ℕ} {d : Key × Tree} {name : Key} (h : StandsAt cs i d name) where
+  key_is : (get_or cs i d).0 ≡ name
+  key_is = exact_keys (get_or cs i d).0 name h.tied
+
+  child_is : child_of name cs ≡ d.1
+  child_is = ap (λ o. unwrap_or o null) (find_at name cs i d h.children.ascending h.within h.tied) ∙ ap (λ (c : Key × Tree). c.1) (sym h.at)
+
+  another : (l : Key) → bytes_eq l name ≡ false → bytes_eq l (get_or cs i d).0 ≡ false
+  another l other = ap (bytes_eq l) key_is ∙ other
+
+  pub depth_there : depth d.1 < MAX_DEPTH
+  depth_there = subst (λ (c : Key × Tree). depth c.1 < MAX_DEPTH) (sym h.at) (all_from_recursion (λ (c : Key × Tree). depth c.1 < MAX_DEPTH) cs h.children.room i d h.within)
+
+  set_is : (t : Tree) → set_value d t cs i ≡ set cs i (d.0, t)
+  set_is t = ap (λ (c : Key × Tree). set cs i (c.0, t)) (sym h.at)
+
+  pub children-set : (t : Tree) → depth t < MAX_DEPTH → MayBeChildren (set cs i (d.0, t))
+  children-set t room =
+      let long = length-set cs i (d.0, t) in
+      let within = h.within in
+      record {
+        some = not_empty (set cs i (d.0, t)) (omega arith);
+        ascending = subst (λ ds. is_sorted key_cmp ds ≡ true) (set_is t) (sorted-set d t cs i ∙ h.children.ascending);
+        room = all-set (λ (c : Key × Tree). depth c.1 < MAX_DEPTH) cs i (d.0, t) h.children.room room;
+      }
+
+  pub graft-set : (p : Path) (t u : Tree) → depth t < MAX_DEPTH → t ≡ proposed d.1 ((p, u) ∷ []) → graft (set cs i (d.0, t)) ≡ proposed (graft cs) ((name ∷ p, u) ∷ [])
+  graft-set p t u room is =
+      let found : find key_cmp name (set cs i (d.0, t)) ≡ Some t = ap (find key_cmp name) (sym (set_is t)) ∙ find-set_same d t name cs i h.children.ascending h.within key_is in
+      proposed-graft cs (set cs i (d.0, t)) name p u h.children.ascending (children-set t room).ascending
+      (ap (λ o. unwrap_or o null) found ∙ is ∙ ap (λ v. proposed v ((p, u) ∷ [])) (sym child_is))
+      (λ l other. ap (find key_cmp l) (sym (set_is t)) ∙ find-set_other d t l cs i (another l other))
+
+  -- a child that is set to what it was
+  pub set_same : (t : Tree) → t ≡ d.1 → set cs i (d.0, t) ≡ cs
+  set_same t is = ap (λ u. set cs i (d.0, u)) is ∙ ap (set cs i) h.at ∙ set-get_or cs i d
+
+  pub children-remove : length cs ≢ 1 → MayBeChildren (remove cs i)
+  children-remove more =
+      let long = length-remove cs i h.within in
+      record {
+        some = not_empty (remove cs i) (omega arith);
+        ascending = sorted-remove cs i h.children.ascending;
+        room = all-remove (λ (c : Key × Tree). depth c.1 < MAX_DEPTH) cs i h.children.room;
+      }
+
+  pub graft-remove : (p : Path) → proposed d.1 ((p, null) ∷ []) ≡ null → graft (remove cs i) ≡ proposed (graft cs) ((name ∷ p, null) ∷ [])
+  graft-remove p gone =
+      proposed-graft cs (remove cs i) name p null h.children.ascending (sorted-remove cs i h.children.ascending)
+      (ap (λ o. unwrap_or o null) (find-remove_same name cs i d h.children.ascending h.within key_is) ∙ sym gone ∙ ap (λ v. proposed v ((p, null) ∷ [])) (sym child_is))
+      (λ l other. find-remove_other l cs i d (another l other))
+
+  -- the last child vanishes, and its parent with it
+  pub last_vanishes : (p : Path) → length cs ≡ 1 → proposed d.1 ((p, null) ∷ []) ≡ null → proposed (graft cs) ((name ∷ p, null) ∷ []) ≡ null
+  last_vanishes p one gone = sym (graft-remove p gone) ∙ ap graft (alone cs i one h.within) ∙ empty_graft
+
+-- ---- a key that no child has
+
+-- no child has the name as its key, and i is the place where it would go
+pub record IsMissing (cs : List (Key × Tree)) (i : ℕ) (name : Key) : Type 0 where
+  pub children : MayBeChildren cs
+  pub none : find key_cmp name cs ≡ None
+  pub gap : IsGap name cs i
+
+pub missing_at : (cs : List (Key × Tree)) (i : ℕ) (name : Key) → MayBeChildren cs → i ≤ length cs → IsBinarySearchResult (λ c. key_cmp c.0 name) cs (Err i) → IsMissing cs i name
+missing_at cs i name h within answer = record { children = h; none = searched name cs (Err i) h.ascending within answer; gap = gap_at name cs i h.ascending within answer }
+
+module _ {cs : List (Key × Tree)} {i : ℕ} {name : Key} (h : IsMissing cs i name) where
+  pub children-insert : (t : Tree) → depth t < MAX_DEPTH → MayBeChildren (insert cs i (name, t))
+  children-insert t room =
+      let long = length-insert cs i (name, t) h.gap.within in
+      record {
+        some = not_empty (insert cs i (name, t)) (omega arith);
+        ascending = sorted-insert name t cs i h.children.ascending h.gap;
+        room = all-insert (λ (c : Key × Tree). depth c.1 < MAX_DEPTH) cs i (name, t) h.children.room room;
+      }
+
+  pub graft-insert : (p : Path) (t u : Tree) → t ≡ proposed null ((p, u) ∷ []) → graft (insert cs i (name, t)) ≡ proposed (graft cs) ((name ∷ p, u) ∷ [])
+  graft-insert p t u is =
+      proposed-graft cs (insert cs i (name, t)) name p u h.children.ascending (sorted-insert name t cs i h.children.ascending h.gap)
+      (ap (λ o. unwrap_or o null) (find-insert_same name t cs i h.children.ascending h.gap) ∙ is ∙ ap (λ o. proposed (unwrap_or o null) ((p, u) ∷ [])) (sym h.none))
+      (λ l other. find-insert_other name t l cs i other)
+
+  -- there is nothing to remove
+  pub nothing_there : (p : Path) → graft cs ≡ proposed (graft cs) ((name ∷ p, null) ∷ [])
+  nothing_there p = proposed-graft cs cs name p null h.children.ascending h.children.ascending (ap (λ o. unwrap_or o null) h.none ∙ sym (removed-null p) ∙ ap (λ o. proposed (unwrap_or o null) ((p, null) ∷ [])) (sym h.none)) (λ l other. refl)

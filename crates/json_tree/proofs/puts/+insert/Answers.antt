@@ -1,0 +1,83 @@
+use Rattle.std.proofs.Common.{◌<◌, ◌∷◌, [], length, sym, ap, ◌∙◌, subst, arith}
+use Rattle.std.specs.List.{insert}
+use Rattle.std.proofs.lemmas.List.{nil_from_length}
+use Rattle.std.proofs.lemmas.Result.{IfOk-weaker}
+use Rattle.tree_model.specs.declared.limits.TheConstants.{MAX_DEPTH}
+use Rattle.tree_model.specs.Key.{Key}
+use Rattle.tree_model.specs.PathMap.{depth}
+use Rattle.tree_model.specs.Tree.{Tree, null}
+use Rattle.tree_model.specs.Children.{graft}
+use Rattle.tree_model.specs.Write.{proposed}
+use Rattle.tree_model.proofs.Lawful.{IsLawful-graft}
+use Rattle.json_tree.specs.Leaf.{primitive_of}
+use Rattle.json_tree.specs.Node.{MayBeChildren}
+use Rattle.json_tree.proofs.Nodes.{at_primitive, may_be_children}
+use Rattle.json_tree.proofs.Edits.{first_and_rest}
+use Rattle.json_tree.proofs.Proposing.{proposed-root, proposed-lone, depth-chain, room_after}
+use Rattle.json_tree.proofs.ChildEdits.{StandsAt, depth_there, children-set, graft-set, missing_at, children-insert, graft-insert}
+use Rattle.json_tree.proofs.puts.+insert.Goals as goal
+
+-- ---- a node
+
+pub insert-insert_below-requires : goal.insert-insert_below-requires
+insert-insert_below-requires t c =
+    let long = ap length (first_and_rest c.args.path.now c.key-item.result (omega arith) c.key-item.is) in
+    (omega arith, (may_be_children c.node.invariant.parts c.in-Parent.is, omega arith))
+
+pub insert-invariant_of-node-in-Parent : goal.insert-invariant_of-node-in-Parent
+insert-invariant_of-node-in-Parent t c =
+    let sizes = c.sizes_of-depth.ensures in
+    record { parts = (sizes.children, sizes.lawful); lawful = IsLawful-graft _ sizes.children.ascending sizes.lawful; depth = sizes.depth; count = sizes.count }
+
+pub insert-returns-in-empty-clause-ok : goal.insert-returns-in-empty-clause-ok
+insert-returns-in-empty-clause-ok t c =
+    let none = nil_from_length c.args.path.now (omega arith) in
+    c.value.view_is ∙ sym (ap (λ p. proposed c.args.node.now ((p, c.args.value) ∷ [])) none ∙ proposed-root c.args.node.now c.args.value)
+
+pub insert-returns-in_ok-node-inside-in-Primitive-clause-ok : goal.insert-returns-in_ok-node-inside-in-Primitive-clause-ok
+insert-returns-in_ok-node-inside-in-Primitive-clause-ok t c =
+    let path = first_and_rest c.args.path.now c.key-item.result (omega arith) c.key-item.is in
+    let node = at_primitive c.node.view_is c.in-Primitive.is in
+    let value = c.args.value in
+    c.branch.view_is
+    ∙ c.in_ok-node-inside-in-Primitive.ensures
+    ∙ ap (λ p. proposed null ((p, value) ∷ [])) path
+    ∙ sym (proposed-lone (primitive_of c.in-Primitive.field-0) c.key-item.result _ value c.is_there.ensures.some)
+    ∙ sym (λ i. proposed (node i) ((path i, value) ∷ []))
+
+-- ---- its children
+
+pub insert_below-returns-in-Ok-clause-children : goal.insert_below-returns-in-Ok-clause-children
+insert_below-returns-in-Ok-clause-children t c =
+    let d : Key × Tree = c.index_mut.result.now in
+    let found : StandsAt c.args.children.now.items c.in-Ok.place d c.text.result.now = record { children = c.requires.children; within = c.in-Ok.ensures.bound; at = c.index_mut.ensures.value; tied = c.in-Ok.ensures.position d } in
+    children-set found c.insert.new.node (room_after c.insert.result d.1 c.insert.new.node c.args.rest.now c.args.value c.insert.ensures.ok c.insert.ensures.err (depth_there found) c.requires.room)
+
+pub insert_below-returns-in-Ok-clause-ok : goal.insert_below-returns-in-Ok-clause-ok
+insert_below-returns-in-Ok-clause-ok t c =
+    let cs = c.args.children.now.items in
+    let d : Key × Tree = c.index_mut.result.now in
+    let found : StandsAt cs c.in-Ok.place d c.text.result.now = record { children = c.requires.children; within = c.in-Ok.ensures.bound; at = c.index_mut.ensures.value; tied = c.in-Ok.ensures.position d } in
+    let room = room_after c.insert.result d.1 c.insert.new.node c.args.rest.now c.args.value c.insert.ensures.ok c.insert.ensures.err (depth_there found) c.requires.room in
+    IfOk-weaker c.insert.result _ _ (λ _ is. graft-set found c.args.rest.now c.insert.new.node c.args.value room is ∙ ap (λ k. proposed (graft cs) ((k ∷ c.args.rest.now, c.args.value) ∷ [])) c.text.ensures.bytes) c.insert.ensures.ok
+
+pub insert_below-returns-in_ok-insert-in-Err-clause-children : goal.insert_below-returns-in_ok-insert-in-Err-clause-children
+insert_below-returns-in_ok-insert-in-Err-clause-children t c =
+    let cs = c.args.children.now.items in
+    let below : Tree = c.in_ok-below-in-Err.below in
+    let missing = missing_at cs c.in-Err.place c.text.result.now c.requires.children c.in-Err.ensures.bound c.in-Err.ensures.position in
+    let items = c.in_ok-insert-in-Err.ensures.items ∙ ap (λ k. insert cs c.in-Err.place (k, below)) (c.in_ok-copy-in-Err.ensures ∙ sym c.text.ensures.bytes) in
+    let deep = depth-chain below c.args.rest.now c.args.value c.in_ok-below-in-Err.ensures in
+    let within = c.requires.room in
+    let room : depth below < MAX_DEPTH = omega arith in
+    subst MayBeChildren (sym items) (children-insert missing below room)
+
+pub insert_below-returns-in_ok-insert-in-Err-clause-ok : goal.insert_below-returns-in_ok-insert-in-Err-clause-ok
+insert_below-returns-in_ok-insert-in-Err-clause-ok t c =
+    let cs = c.args.children.now.items in
+    let below : Tree = c.in_ok-below-in-Err.below in
+    let missing = missing_at cs c.in-Err.place c.text.result.now c.requires.children c.in-Err.ensures.bound c.in-Err.ensures.position in
+    let items = c.in_ok-insert-in-Err.ensures.items ∙ ap (λ k. insert cs c.in-Err.place (k, below)) (c.in_ok-copy-in-Err.ensures ∙ sym c.text.ensures.bytes) in
+    ap graft items
+    ∙ graft-insert missing c.args.rest.now below c.args.value c.in_ok-below-in-Err.ensures
+    ∙ ap (λ k. proposed (graft cs) ((k ∷ c.args.rest.now, c.args.value) ∷ [])) c.text.ensures.bytes

@@ -1,0 +1,198 @@
+//! Puts in place: one location of a stored tree is written, and memory is taken before anything
+//! changes.
+ghost use Rattle.std.specs.Prelude.{◌≡◌, ◌+◌, ◌<◌, ◌≤◌, ◌∷◌, [], length, unwrap_or, IfOk, OnOk, OnErr};
+ghost use Rattle.std.specs.Bool.{OnTrue, OnFalse};
+ghost use Rattle.tree_model.specs.PathMap.{depth};
+ghost use Rattle.tree_model.specs.Tree.{null};
+ghost use Rattle.tree_model.specs.Children.{graft};
+ghost use Rattle.tree_model.specs.Write.{proposed};
+ghost use Rattle.json_tree.specs.Node.{MayBeChildren};
+
+use crate::key::Key;
+use crate::memory::NoMemory;
+use crate::node::{Kind, Node, place_of, sizes_of};
+use std::alloc::Global;
+use tree_model::MAX_DEPTH;
+
+/// Puts a tree at a path of a stored tree, or removes what is there, in place. Memory is taken only
+/// for what is new, and before anything changes: at an `Err` nothing has changed. It takes one step
+/// down for each key and one pass over the children at each of them: d · w for d keys and w children,
+/// beside what is written.
+pub fn put(
+    alloc: Global,
+    tree: &mut Option<Node>,
+    path: &[Key],
+    value: Option<Node>,
+) -> Result<(), NoMemory>
+    requires { length path.now + depth (unwrap_or value null) ≤ MAX_DEPTH }
+    ensures ok { OnOk result (unwrap_or tree.new null
+        ≡ proposed (unwrap_or tree.old null) ((path.now, unwrap_or value null) ∷ [])) }
+    ensures err { OnErr result (tree.new ≡ tree.old) }
+{
+    match value {
+        Some(node) => put_node(alloc, tree, path, node),
+        None => {
+            remove_from(tree, path);
+            Ok(())
+        }
+    }
+}
+
+// ---- what is put
+
+fn put_node(
+    alloc: Global,
+    tree: &mut Option<Node>,
+    path: &[Key],
+    value: Node,
+) -> Result<(), NoMemory>
+    requires { length path.now + depth value ≤ MAX_DEPTH }
+    ensures ok { OnOk result (unwrap_or tree.new null
+        ≡ proposed (unwrap_or tree.old null) ((path.now, value) ∷ [])) }
+    ensures err { OnErr result (tree.new ≡ tree.old) }
+{
+    match tree {
+        Some(node) => insert(alloc, node, path, value),
+        None => {
+            *tree = Some(chain(alloc, path, value)?);
+            Ok(())
+        }
+    }
+}
+
+// Puts a tree at a path of a node.
+#[cycle(insert)]
+fn insert(alloc: Global, node: &mut Node, path: &[Key], value: Node) -> Result<(), NoMemory>
+    requires { length path.now + depth value ≤ MAX_DEPTH }
+    ensures ok { OnOk result (node.new ≡ proposed node.old ((path.now, value) ∷ [])) }
+    ensures err { OnErr result (node.new ≡ node.old) }
+{
+    match path {
+        [] => {
+            *node = value;
+            Ok(())
+        }
+        [key, rest @ ..] => match &mut node.kind {
+            Kind::Primitive(_) => {
+                value.is_there();
+                *node = chain(alloc, path, value)?;
+                Ok(())
+            }
+            Kind::Parent(children) => {
+                insert_below(alloc, children, key, rest, value)?;
+                let (depth, count) = sizes_of(children);
+                node.depth = depth;
+                node.count = count;
+                Ok(())
+            }
+        },
+    }
+}
+
+// Puts a tree at a path below the child of a key.
+#[cycle(insert)]
+fn insert_below(
+    alloc: Global,
+    children: &mut Vec<(Key, Node)>,
+    key: &Key,
+    rest: &[Key],
+    value: Node,
+) -> Result<(), NoMemory>
+    requires children { MayBeChildren children.old.items }
+    requires room { length rest.now + depth value < MAX_DEPTH }
+    ensures children { MayBeChildren children.new.items }
+    ensures ok { OnOk result (graft children.new.items
+        ≡ proposed (graft children.old.items) ((key.now ∷ rest.now, value) ∷ [])) }
+    ensures err { OnErr result (children.new.items ≡ children.old.items) }
+{
+    match place_of(children, key.text()) {
+        Ok(place) => insert(alloc, &mut children[place].1, rest, value),
+        Err(place) => {
+            let below = chain(alloc, rest, value)?;
+            children.insert(place, (key.copy(alloc)?, below))?;
+            Ok(())
+        }
+    }
+}
+
+// The tree of a tree at a path: one child at each key.
+fn chain(alloc: Global, path: &[Key], value: Node) -> Result<Node, NoMemory>
+    requires { length path.now + depth value ≤ MAX_DEPTH }
+    ensures { IfOk result (λ node. node ≡ proposed null ((path.now, value) ∷ [])) }
+{
+    match path {
+        [] => Ok(value),
+        [key, rest @ ..] => {
+            let below = chain(alloc, rest, value)?;
+            let mut children = Vec::new(alloc);
+            children.push((key.copy(alloc)?, below))?;
+            Node::of_children(children)
+        }
+    }
+}
+
+// ---- what is removed
+
+fn remove_from(tree: &mut Option<Node>, path: &[Key])
+    ensures { unwrap_or tree.new null ≡ proposed (unwrap_or tree.old null) ((path.now, null) ∷ []) }
+{
+    match tree {
+        Some(node) => {
+            if remove(node, path) {
+                *tree = None;
+            }
+        }
+        None => {}
+    }
+}
+
+// Removes what is at a path of a node. True where nothing is left, and then the node is as it was.
+#[cycle(remove)]
+fn remove(node: &mut Node, path: &[Key]) -> bool
+    ensures gone { OnTrue result (proposed node.old ((path.now, null) ∷ []) ≡ null) }
+    ensures same { OnTrue result (node.new ≡ node.old) }
+    ensures left { OnFalse result (node.new ≡ proposed node.old ((path.now, null) ∷ [])) }
+{
+    match path {
+        [] => true,
+        [key, rest @ ..] => match &mut node.kind {
+            Kind::Primitive(_) => false,
+            Kind::Parent(children) => {
+                if remove_below(children, key, rest) {
+                    return true;
+                }
+                let (depth, count) = sizes_of(children);
+                node.depth = depth;
+                node.count = count;
+                false
+            }
+        },
+    }
+}
+
+// Removes what is at a path below the child of a key. True where no child is left.
+#[cycle(remove)]
+fn remove_below(children: &mut Vec<(Key, Node)>, key: &Key, rest: &[Key]) -> bool
+    requires { MayBeChildren children.old.items }
+    ensures children { MayBeChildren children.new.items }
+    ensures gone { OnTrue result
+        (proposed (graft children.old.items) ((key.now ∷ rest.now, null) ∷ []) ≡ null) }
+    ensures same { OnTrue result (children.new.items ≡ children.old.items) }
+    ensures left { OnFalse result (graft children.new.items
+        ≡ proposed (graft children.old.items) ((key.now ∷ rest.now, null) ∷ [])) }
+{
+    match place_of(children, key.text()) {
+        Ok(place) => {
+            if !remove(&mut children[place].1, rest) {
+                return false;
+            }
+            let is_only_child = children.len() == 1;
+            if is_only_child {
+                return true;
+            }
+            children.remove(place);
+            false
+        }
+        Err(_) => false,
+    }
+}
