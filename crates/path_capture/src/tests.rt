@@ -197,6 +197,12 @@ fn a_write_and_its_refusal(rt: HostRuntime) -> Result<(), Fail> {
     let write = write.expect(&rt, "a tree that reaches as deep as it may");
     assert_eq!(rt; write.at().keys().len(), 31);
     assert_eq!(rt; write.tree().map(|tree| tree.count()), Some(2));
+    let mut stored = None;
+    write.make(alloc, &mut stored)?;
+    assert_eq!(rt;
+        stored.map(|tree| (tree.depth(), tree.count())),
+        Some((32, 33))
+    );
 
     let refused = Write::new(
         Path::parse(alloc, deepest.as_str())?,

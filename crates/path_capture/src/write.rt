@@ -1,12 +1,13 @@
 //! A write: a location, and the tree that is put there.
-ghost use Rattle.std.specs.Prelude.{◌≡◌, ◌↔◌, ◌+◌, ◌≤◌, ◌<◌, length, option_map, IsErr, IfOk, IfErr};
+ghost use Rattle.std.specs.Prelude.{◌≡◌, ◌↔◌, ◌+◌, ◌≤◌, ◌<◌, ◌∷◌, [], length, option_map, IsErr, IfOk, IfErr, OnOk, OnErr};
 ghost use Rattle.tree_model.specs.PathMap.{depth};
 ghost use Rattle.tree_model.specs.Tree.{non_null, IsLawful};
-ghost use Rattle.tree_model.specs.Write.{location, written, IsLawfulWrite};
+ghost use Rattle.tree_model.specs.Write.{location, written, proposed, IsLawfulWrite};
 ghost use Rattle.path_capture.specs.Write.{tree_of};
 
 use crate::path::Path;
-use json_tree::Node;
+use json_tree::{NoMemory, Node, put};
+use std::alloc::Global;
 use std::marker::Model;
 use thiserror::Error;
 use tree_model::MAX_DEPTH;
@@ -76,6 +77,16 @@ impl Write {
             }
             None => None,
         }
+    }
+
+    /// Makes the write in a stored tree, in place: memory is taken only for what is new, and before
+    /// anything changes. At an `Err` nothing has changed.
+    pub fn make(self, alloc: Global, tree: &mut Option<Node>) -> Result<(), NoMemory>
+        ensures ok { OnOk result (tree_of tree.new ≡ proposed (tree_of tree.old) (self ∷ [])) }
+        ensures err { OnErr result (tree.new ≡ tree.old) }
+    {
+        let Write { path, tree: value } = self;
+        put(alloc, tree, path.keys(), value)
     }
 }
 
