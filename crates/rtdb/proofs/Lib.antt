@@ -1,0 +1,15 @@
+pub mod Texts
+pub mod Judging
+pub mod Sessions
+pub mod Walks
+pub mod Messages
+pub mod Headers
+pub mod StepLaws
+pub mod Sending
+pub mod Keeping
+pub mod Fixed
+pub mod Standing
+pub mod Answering
+pub mod Feeding
+pub mod Going
+pub mod Ending

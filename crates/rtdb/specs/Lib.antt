@@ -1,0 +1,14 @@
+pub mod State
+pub mod Verdict
+pub mod Step
+pub mod Message
+pub mod Text
+pub mod Header
+pub mod Denial
+pub mod Order
+pub mod Lines
+pub mod Said
+pub mod Parts
+pub mod Sent
+pub mod Follow
+pub mod Ends

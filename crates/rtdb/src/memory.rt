@@ -1,0 +1,112 @@
+//! A source and a sink in memory, which fail where a test wants it.
+ghost use Rattle.std.specs.Prelude.{◌≡◌, ℕ, ◌+◌, ◌-◌, ◌≤◌, ◌<◌, ◌^◌, Bool, true, false, List, length, take, Some, Option, MatchResult, Result};
+ghost use Rattle.std.specs.Io.KnownBytes.{ReadConsumes, WriteAppends, Keeps};
+
+use crate::stream::{Broken, Sink, Source};
+
+/// A text that is read in pieces of so many bytes, and breaks after so many of them.
+#[derive(Drop)]
+pub struct Pieces<'a> {
+    text: &'a [u8],
+    step: usize,
+    whole_pieces: u64,
+    reads: u64,
+    failed: bool,
+}
+
+impl<'a> Pieces<'a> {
+    pub fn new(text: &'a [u8], step: usize, whole_pieces: u64) -> Pieces<'a>
+        ensures reads { result.reads ≡ 0 }
+        ensures failed { result.failed ≡ false }
+    {
+        Pieces {
+            text,
+            step,
+            whole_pieces,
+            reads: 0,
+            failed: false,
+        }
+    }
+}
+
+impl<'a> Source for Pieces<'a> {
+    ghost left = { λ source. Some source.text.now };
+
+    ghost reads = { λ source. source.reads };
+
+    ghost failed = { λ source. source.failed };
+
+    fn read(&mut self, buffer: &mut [u8]) -> Result<usize, Broken> {
+        self.reads += 1;
+        if self.whole_pieces < self.reads {
+            self.failed = true;
+            return Err(Broken);
+        }
+        let count = self.text.len().min(buffer.len()).min(self.step.max(1));
+        let (piece, rest) = self.text.split_at(count);
+        buffer[..count].copy_from_slice(piece);
+        self.text = rest;
+        Ok(count)
+    }
+}
+
+/// What breaks a sink once it is full.
+#[derive(Clone, Copy, Debug, PartialEq, Eq)]
+pub enum Full {
+    /// A write fails.
+    Fails,
+    /// The flush fails, and each write before it succeeds.
+    FailsToFlush,
+}
+
+/// Bytes that are written to memory, at most so many by one write, up to so many in all.
+#[derive(Drop)]
+pub struct Written {
+    pub bytes: Vec<u8>,
+    step: usize,
+    room: usize,
+    full: Full,
+    failed: bool,
+}
+
+impl Written {
+    pub fn new(bytes: Vec<u8>, step: usize, room: usize, full: Full) -> Written
+        ensures { result.failed ≡ false }
+    {
+        Written {
+            bytes,
+            step,
+            room,
+            full,
+            failed: false,
+        }
+    }
+}
+
+impl Sink for Written {
+    ghost written = { λ sink. Some sink.bytes.items };
+
+    ghost failed = { λ sink. sink.failed };
+
+    fn write(&mut self, text: &[u8]) -> Result<usize, Broken> {
+        let mut count = text.len().min(self.step.max(1));
+        if self.full == Full::Fails {
+            count = count.min(self.room);
+        }
+        let none = count == 0 && !text.is_empty();
+        if none || self.bytes.extend_from_slice(&text[..count]).is_err() {
+            self.failed = true;
+            return Err(Broken);
+        }
+        self.room = self.room.saturating_sub(count);
+        Ok(count)
+    }
+
+    fn flush(&mut self) -> Result<(), Broken> {
+        if self.full == Full::FailsToFlush {
+            self.failed = true;
+            return Err(Broken);
+        }
+        Ok(())
+    }
+}

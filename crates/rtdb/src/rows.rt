@@ -1,0 +1,408 @@
+//! Worked scripts, each with what is written for it and how it ends.
+
+use crate::script::ScriptEnd;
+
+/// A worked script.
+pub struct Row {
+    pub name: &'static str,
+    pub input: &'static [u8],
+    pub output: &'static [u8],
+    pub end: ScriptEnd,
+}
+
+pub const ROWS: [Row; 23] = [
+    Row {
+        name: "deeper_grant_stays_deep",
+        input: br#"{"rules":"{\"rules\":{\".read\":false,\"a\":{\".read\":false,\"b\":{\".read\":true}}}}"}
+{"do":"open","now":1,"s":1}
+{"do":"get","now":1,"path":"/a","s":1}
+{"do":"get","now":1,"path":"/a/b","s":1}
+"#,
+        output: br#"{"ok":true,"rules":3}
+{"ok":true}
+{"code":501,"name":"ReadDenied","ok":false,"rules":[{"pattern":"/","why":"false"},{"pattern":"/a","why":"false"}]}
+{"ok":true,"value":null}
+"#,
+        end: ScriptEnd::Finished,
+    },
+    Row {
+        name: "empty_rules_deny",
+        input: br#"{"rules":"{\"rules\":{}}"}
+{"do":"open","now":1,"s":1}
+{"do":"get","now":1,"path":"/","s":1}
+"#,
+        output: br#"{"ok":true,"rules":0}
+{"ok":true}
+{"code":501,"name":"ReadDenied","ok":false,"rules":[]}
+"#,
+        end: ScriptEnd::Finished,
+    },
+    Row {
+        name: "a capture again below itself",
+        input: br#"{"rules":"{\"rules\":{\"$a\":{\"$a\":{}}}}"}
+"#,
+        output: br#"{"at":"/$a","code":402,"name":"BadRulesShape","ok":false}
+"#,
+        end: ScriptEnd::BadHeader,
+    },
+    Row {
+        name: "a query, and verbs that are not known",
+        input: br#"{"rules":"{\"rules\":{\".read\":true,\".write\":true}}"}
+{"do":"open","now":1,"s":1}
+{"do":"get","now":1,"path":"/","query":{},"s":1}
+{"do":"update","now":1,"path":"/","s":1,"values":{"a":1}}
+{"do":"remove","now":1,"path":"/","s":1}
+{"do":"close","now":1,"s":1}
+{"do":"signout","now":1,"s":1}
+{"do":"poll","now":1,"s":1}
+{"do":"tick","now":1,"s":1}
+"#,
+        output: br#"{"ok":true,"rules":2}
+{"ok":true}
+{"code":102,"name":"BadRequest","ok":false}
+{"code":102,"name":"BadRequest","ok":false}
+{"code":102,"name":"BadRequest","ok":false}
+{"code":102,"name":"BadRequest","ok":false}
+{"code":102,"name":"BadRequest","ok":false}
+{"code":102,"name":"BadRequest","ok":false}
+{"code":102,"name":"BadRequest","ok":false}
+"#,
+        end: ScriptEnd::Finished,
+    },
+    Row {
+        name: "a rule that is a number",
+        input: br#"{"rules":"{\"rules\":{\".read\":1}}"}
+"#,
+        output: br#"{"at":"/","code":402,"name":"BadRulesShape","ok":false}
+"#,
+        end: ScriptEnd::BadHeader,
+    },
+    Row {
+        name: "a second member at the top",
+        input: br#"{"rules":"{\"rules\":{},\"x\":1}"}
+"#,
+        output: br#"{"at":"/","code":402,"name":"BadRulesShape","ok":false}
+"#,
+        end: ScriptEnd::BadHeader,
+    },
+    Row {
+        name: "an expression as text",
+        input: br#"{"rules":"{\"rules\":{\"a\":{\".read\":\"true\"}}}"}
+"#,
+        output: br#"{"at":"/a","code":402,"name":"BadRulesShape","ok":false}
+"#,
+        end: ScriptEnd::BadHeader,
+    },
+    Row {
+        name: "an unknown member with a dot",
+        input: br#"{"rules":"{\"rules\":{\".foo\":true}}"}
+"#,
+        output: br#"{"at":"/","code":402,"name":"BadRulesShape","ok":false}
+"#,
+        end: ScriptEnd::BadHeader,
+    },
+    Row {
+        name: "a header with data",
+        input: br#"{"data":1,"rules":"{\"rules\":{\".read\":true,\".write\":true}}"}
+"#,
+        output: br#"{"code":102,"name":"BadRequest","ok":false}
+"#,
+        end: ScriptEnd::BadHeader,
+    },
+    Row {
+        name: "first path",
+        input: br#"{"rules":"{\"rules\":{\".read\":true,\".write\":true}}"}
+{"do":"get","now":1,"path":"/","s":1}
+{"do":"open","now":1,"s":1}
+{"do":"open","now":1,"s":1}
+{"do":"get","now":1,"path":"/a.b","s":1}
+{"do":"set","now":1,"path":"/a","s":1,"value":1.5}
+{"do":"set","now":1,"path":"/a","s":1,"value":5}
+{"do":"set","now":1,"path":"/a/b","s":1,"value":null}
+{"do":"get","now":1,"path":"/a","s":1}
+{"do":"fly","now":1,"s":1}
+"#,
+        output: br#"{"ok":true,"rules":2}
+{"code":202,"name":"NoSession","ok":false}
+{"ok":true}
+{"code":203,"name":"SessionOpen","ok":false}
+{"code":103,"name":"BadPath","ok":false}
+{"code":104,"name":"BadValue","ok":false}
+{"ok":true}
+{"ok":true}
+{"ok":true,"value":5}
+{"code":102,"name":"BadRequest","ok":false}
+"#,
+        end: ScriptEnd::Finished,
+    },
+    Row {
+        name: "a header with tokens",
+        input: br#"{"rules":"{\"rules\":{\".read\":true,\".write\":true}}","tokens":{}}
+"#,
+        output: br#"{"code":102,"name":"BadRequest","ok":false}
+"#,
+        end: ScriptEnd::BadHeader,
+    },
+    Row {
+        name: "a file that validates",
+        input: br#"{"rules":"{\"rules\":{\"a\":{\".validate\":true}}}"}
+"#,
+        output: br#"{"at":"/","code":402,"name":"BadRulesShape","ok":false}
+"#,
+        end: ScriptEnd::BadHeader,
+    },
+    Row {
+        name: "first_script",
+        input: br#"{"rules":"{\"rules\":{\"a\":{\".read\":true,\".write\":true,\"b\":{\".read\":false}}}}"}
+{"do":"open","now":1,"s":1}
+{"do":"set","now":2,"path":"/a/b/c","s":1,"value":5}
+{"do":"get","now":3,"path":"/a/b/c","s":1}
+{"do":"get","now":4,"path":"/a/b/d","s":1}
+{"do":"get","now":5,"path":"/","s":1}
+"#,
+        output: br#"{"ok":true,"rules":3}
+{"ok":true}
+{"ok":true}
+{"ok":true,"value":5}
+{"ok":true,"value":null}
+{"code":501,"name":"ReadDenied","ok":false,"rules":[]}
+"#,
+        end: ScriptEnd::Finished,
+    },
+    Row {
+        name: "header_and_blank_lines: a bad header",
+        input: br#"{"rules":"{"}
+"#,
+        output: br#"{"code":401,"name":"BadRulesJson","ok":false}
+"#,
+        end: ScriptEnd::BadHeader,
+    },
+    Row {
+        name: "header_and_blank_lines: a cut line",
+        input: br#"{"rules":"{\"rules\":{}}"}
+
+{"do":"get""#,
+        output: br#"{"ok":true,"rules":0}
+{"code":101,"name":"BadJson","ok":false}
+"#,
+        end: ScriptEnd::Finished,
+    },
+    Row {
+        name: "header_and_blank_lines: empty input",
+        input: br#""#,
+        output: br#""#,
+        end: ScriptEnd::Finished,
+    },
+    Row {
+        name: "200 nested objects",
+        input: br#"{"rules":"{\"rules\":{\"k\":{\"k\":{\"k\":{\"k\":{\"k\":{\"k\":{\"k\":{\"k\":{\"k\":{\"k\":{\"k\":{\"k\":{\"k\":{\"k\":{\"k\":{\"k\":{\"k\":{\"k\":{\"k\":{\"k\":{\"k\":{\"k\":{\"k\":{\"k\":{\"k\":{\"k\":{\"k\":{\"k\":{\"k\":{\"k\":{\"k\":{\"k\":{\"k\":{\"k\":{\"k\":{\"k\":{\"k\":{\"k\":{\"k\":{\"k\":{\"k\":{\"k\":{\"k\":{\"k\":{\"k\":{\"k\":{\"k\":{\"k\":{\"k\":{\"k\":{\"k\":{\"k\":{\"k\":{\"k\":{\"k\":{\"k\":{\"k\":{\"k\":{\"k\":{\"k\":{\"k\":{\"k\":{\"k\":{\"k\":{\"k\":{\"k\":{\"k\":{\"k\":{\"k\":{\"k\":{\"k\":{\"k\":{\"k\":{\"k\":{\"k\":{\"k\":{\"k\":{\"k\":{\"k\":{\"k\":{\"k\":{\"k\":{\"k\":{\"k\":{\"k\":{\"k\":{\"k\":{\"k\":{\"k\":{\"k\":{\"k\":{\"k\":{\"k\":{\"k\":{\"k\":{\"k\":{\"k\":{\"k\":{\"k\":{\"k\":{\"k\":{\"k\":{\"k\":{\"k\":{\"k\":{\"k\":{\"k\":{\"k\":{\"k\":{\"k\":{\"k\":{\"k\":{\"k\":{\"k\":{\"k\":{\"k\":{\"k\":{\"k\":{\"k\":{\"k\":{\"k\":{\"k\":{\"k\":{\"k\":{\"k\":{\"k\":{\"k\":{\"k\":{\"k\":{\"k\":{\"k\":{\"k\":{\"k\":{\"k\":{\"k\":{\"k\":{\"k\":{\"k\":{\"k\":{\"k\":{\"k\":{\"k\":{\"k\":{\"k\":{\"k\":{\"k\":{\"k\":{\"k\":{\"k\":{\"k\":{\"k\":{\"k\":{\"k\":{\"k\":{\"k\":{\"k\":{\"k\":{\"k\":{\"k\":{\"k\":{\"k\":{\"k\":{\"k\":{\"k\":{\"k\":{\"k\":{\"k\":{\"k\":{\"k\":{\"k\":{\"k\":{\"k\":{\"k\":{\"k\":{\"k\":{\"k\":{\"k\":{\"k\":{\"k\":{\"k\":{\"k\":{\"k\":{\"k\":{\"k\":{\"k\":{\"k\":{\"k\":{\"k\":{\"k\":{\"k\":{\"k\":{\"k\":{\"k\":{\"k\":{\"k\":{\"k\":{\"k\":{\"k\":{\"k\":{}}}}}}}}}}}}}}}}}}}}}}}}}}}}}}}}}}}}}}}}}}}}}}}}}}}}}}}}}}}}}}}}}}}}}}}}}}}}}}}}}}}}}}}}}}}}}}}}}}}}}}}}}}}}}}}}}}}}}}}}}}}}}}}}}}}}}}}}}}}}}}}}}}}}}}}}}}}}}}}}}}}}}}}}}}}}}}}}}}}}}}}}}}}}}}}}}}}}}}}}}"}
+"#,
+        output: br#"{"code":401,"name":"BadRulesJson","ok":false}
+"#,
+        end: ScriptEnd::BadHeader,
+    },
+    Row {
+        name: "a line with the byte 0xff",
+        input: b"{\"rules\":\"{\\\"rules\\\":{\\\".read\\\":true,\\\".write\\\":true}}\"}\n{\"do\":\"get\",\"now\":1,\"path\":\"/\xff\",\"s\":1}\n",
+        output: br#"{"ok":true,"rules":2}
+{"code":101,"name":"BadJson","ok":false}
+"#,
+        end: ScriptEnd::Finished,
+    },
+    Row {
+        name: "children 33 levels deep",
+        input: br#"{"rules":"{\"rules\":{\"k\":{\"k\":{\"k\":{\"k\":{\"k\":{\"k\":{\"k\":{\"k\":{\"k\":{\"k\":{\"k\":{\"k\":{\"k\":{\"k\":{\"k\":{\"k\":{\"k\":{\"k\":{\"k\":{\"k\":{\"k\":{\"k\":{\"k\":{\"k\":{\"k\":{\"k\":{\"k\":{\"k\":{\"k\":{\"k\":{\"k\":{\"k\":{\"k\":{}}}}}}}}}}}}}}}}}}}}}}}}}}}}}}}}}}}"}
+"#,
+        output: br#"{"at":"/k/k/k/k/k/k/k/k/k/k/k/k/k/k/k/k/k/k/k/k/k/k/k/k/k/k/k/k/k/k/k/k","code":402,"name":"BadRulesShape","ok":false}
+"#,
+        end: ScriptEnd::BadHeader,
+    },
+    Row {
+        name: "deep values, and a control character in a key",
+        input: br#"{"rules":"{\"rules\":{\".read\":true,\".write\":true}}"}
+{"do":"open","now":1,"s":1}
+{"do":"set","now":1,"path":"/","s":1,"value":[[[[[[[[[[[[[[[[[[[[[[[[[[[[[[[[[[[[[[[[[[[[[[[[[[[[[[[[[[[[[[[[[[[[[[[[[[[[[[[[[[[[[[[[[[[[[[[[[[[[1]]]]]]]]]]]]]]]]]]]]]]]]]]]]]]]]]]]]]]]]]]]]]]]]]]]]]]]]]]]]]]]]]]]]]]]]]]]]]]]]]]]]]]]]]]]]]]]]]]]]}
+{"do":"set","now":1,"path":"/","s":1,"value":[[[[[[[[[[[[[[[[[[[[[[[[[[[[[[[[[[[[[[[[[[[[[[[[[[[[[[[[[[[[[[[[[[[[[[[[[[[[[[[[[[[[[[[[[[[[[[[[[[[[[[[[[[[[[[[[[[[[[[[[[[[[[[[[[[[[[[[[[[[[[[[[[[[[[[[[[[[[[[[[[[[[[[[[[[[[[[[[[[[[[[[[[[[[[[[[[[[[[[[[1]]]]]]]]]]]]]]]]]]]]]]]]]]]]]]]]]]]]]]]]]]]]]]]]]]]]]]]]]]]]]]]]]]]]]]]]]]]]]]]]]]]]]]]]]]]]]]]]]]]]]]]]]]]]]]]]]]]]]]]]]]]]]]]]]]]]]]]]]]]]]]]]]]]]]]]]]]]]]]]]]]]]]]]]]]]]]]]]]]]]]]]]]]]]]]]]]]]]]]]]}
+{"do":"set","now":1,"path":"/","s":1,"value":{"\u0001":1}}
+"#,
+        output: br#"{"ok":true,"rules":2}
+{"ok":true}
+{"code":105,"name":"TooDeep","ok":false}
+{"code":101,"name":"BadJson","ok":false}
+{"code":104,"name":"BadValue","ok":false}
+"#,
+        end: ScriptEnd::Finished,
+    },
+    Row {
+        name: "limits: depth and length of paths",
+        input: br#"{"rules":"{\"rules\":{\".read\":true,\".write\":true}}"}
+{"do":"open","now":1,"s":1}
+{"do":"get","now":1,"path":"/k/k/k/k/k/k/k/k/k/k/k/k/k/k/k/k/k/k/k/k/k/k/k/k/k/k/k/k/k/k/k/k/k","s":1}
+{"do":"set","now":1,"path":"/k/k/k/k/k/k/k/k/k/k/k/k/k/k/k/k/k/k/k/k/k/k/k/k/k/k/k/k/k/k/k/k/k","s":1,"value":1}
+{"do":"set","now":1,"path":"/k/k/k/k/k/k/k/k/k/k/k/k/k/k/k/k/k/k/k/k/k/k/k/k/k/k/k/k/k/k/k","s":1,"value":{"k":{"k":1}}}
+{"do":"set","now":1,"path":"/k/k/k/k/k/k/k/k/k/k/k/k/k/k/k/k/k/k/k/k/k/k/k/k/k/k/k/k/k/k/k/k","s":1,"value":1}
+{"do":"set","now":1,"path":"/aaaaaaaaaaaaaaaaaaaaaaaaaaaaaaaaaaaaaaaaaaaaaaaaaaaaaaaaaaaaaaaaaaaaaaaaaaaaaaaaaaaaaaaaaaaaaaaaaaaaaaaaaaaaaaaaaaaaaaaaaaaaaaaaaaaaaaaaaaaaaaaaaaaaaaaaaaaaaaaaaaaaaaaaaaaaaaaaaaaaaaaaaaaaaaaaaaaaaaaaaaaaaaaaaaaaaaaaaaaaaaaaaaaaaaaaaaaaaaaaaaaaaaaaaaaaaaaaaaaaaaaaaaaaaaaaaaaaaaaaaaaaaaaaaaaaaaaaaaaaaaaaaaaaaaaaaaaaaaaaaaaaaaaaaaaaaaaaaaaaaaaaaaaaaaaaaaaaaaaaaaaaaaaaaaaaaaaaaaaaaaaaaaaaaaaaaaaaaaaaaaaaaaaaaaaaaaaaaaaaaaaaaaaaaaaaaaaaaaaaaaaaaaaaaaaaaaaaaaaaaaaaaaaaaaaaaaaaaaaaaaaaaaaaaaaaaaaaaaaaaaaaaaaaaaaaaaaaaaaaaaaaaaaaaaaaaaaaaaaaaaaaaaaaaaaaaaaaaaaaaaaaaaaaaaaaaaaaaaaaaaaaaaaaaaaaaaaaaaaaaaaaaaaaaaaaaaaaaaaaaaaaaaaaaaaaaaaaaaaaaaaaaaaaaaaaaaaaaaaaaaaaaaaaaaaaaaaaaaaaaaaaaaaaaaaaaaaaaaaaaaaaaaaaaaaaaaaaaaaaaaaaaaaaaaaaaaaaaaaaaaaaaaaaaaaaaaaaaaaaaaaaaaaa","s":1,"value":1}
+{"do":"set","now":1,"path":"/aaaaaaaaaaaaaaaaaaaaaaaaaaaaaaaaaaaaaaaaaaaaaaaaaaaaaaaaaaaaaaaaaaaaaaaaaaaaaaaaaaaaaaaaaaaaaaaaaaaaaaaaaaaaaaaaaaaaaaaaaaaaaaaaaaaaaaaaaaaaaaaaaaaaaaaaaaaaaaaaaaaaaaaaaaaaaaaaaaaaaaaaaaaaaaaaaaaaaaaaaaaaaaaaaaaaaaaaaaaaaaaaaaaaaaaaaaaaaaaaaaaaaaaaaaaaaaaaaaaaaaaaaaaaaaaaaaaaaaaaaaaaaaaaaaaaaaaaaaaaaaaaaaaaaaaaaaaaaaaaaaaaaaaaaaaaaaaaaaaaaaaaaaaaaaaaaaaaaaaaaaaaaaaaaaaaaaaaaaaaaaaaaaaaaaaaaaaaaaaaaaaaaaaaaaaaaaaaaaaaaaaaaaaaaaaaaaaaaaaaaaaaaaaaaaaaaaaaaaaaaaaaaaaaaaaaaaaaaaaaaaaaaaaaaaaaaaaaaaaaaaaaaaaaaaaaaaaaaaaaaaaaaaaaaaaaaaaaaaaaaaaaaaaaaaaaaaaaaaaaaaaaaaaaaaaaaaaaaaaaaaaaaaaaaaaaaaaaaaaaaaaaaaaaaaaaaaaaaaaaaaaaaaaaaaaaaaaaaaaaaaaaaaaaaaaaaaaaaaaaaaaaaaaaaaaaaaaaaaaaaaaaaaaaaaaaaaaaaaaaaaaaaaaaaaaaaaaaaaaaaaaaaaaaaaaaaaaaaaaaaaaaaaaaaaaaaaaaaaaaaaaaaaaaa","s":1,"value":1}
+"#,
+        output: br#"{"ok":true,"rules":2}
+{"ok":true}
+{"code":105,"name":"TooDeep","ok":false}
+{"code":105,"name":"TooDeep","ok":false}
+{"code":105,"name":"TooDeep","ok":false}
+{"ok":true}
+{"ok":true}
+{"code":103,"name":"BadPath","ok":false}
+"#,
+        end: ScriptEnd::Finished,
+    },
+    Row {
+        name: "limits: the 65th session",
+        input: br#"{"rules":"{\"rules\":{\".read\":true,\".write\":true}}"}
+{"do":"open","now":1,"s":1}
+{"do":"open","now":1,"s":2}
+{"do":"open","now":1,"s":3}
+{"do":"open","now":1,"s":4}
+{"do":"open","now":1,"s":5}
+{"do":"open","now":1,"s":6}
+{"do":"open","now":1,"s":7}
+{"do":"open","now":1,"s":8}
+{"do":"open","now":1,"s":9}
+{"do":"open","now":1,"s":10}
+{"do":"open","now":1,"s":11}
+{"do":"open","now":1,"s":12}
+{"do":"open","now":1,"s":13}
+{"do":"open","now":1,"s":14}
+{"do":"open","now":1,"s":15}
+{"do":"open","now":1,"s":16}
+{"do":"open","now":1,"s":17}
+{"do":"open","now":1,"s":18}
+{"do":"open","now":1,"s":19}
+{"do":"open","now":1,"s":20}
+{"do":"open","now":1,"s":21}
+{"do":"open","now":1,"s":22}
+{"do":"open","now":1,"s":23}
+{"do":"open","now":1,"s":24}
+{"do":"open","now":1,"s":25}
+{"do":"open","now":1,"s":26}
+{"do":"open","now":1,"s":27}
+{"do":"open","now":1,"s":28}
+{"do":"open","now":1,"s":29}
+{"do":"open","now":1,"s":30}
+{"do":"open","now":1,"s":31}
+{"do":"open","now":1,"s":32}
+{"do":"open","now":1,"s":33}
+{"do":"open","now":1,"s":34}
+{"do":"open","now":1,"s":35}
+{"do":"open","now":1,"s":36}
+{"do":"open","now":1,"s":37}
+{"do":"open","now":1,"s":38}
+{"do":"open","now":1,"s":39}
+{"do":"open","now":1,"s":40}
+{"do":"open","now":1,"s":41}
+{"do":"open","now":1,"s":42}
+{"do":"open","now":1,"s":43}
+{"do":"open","now":1,"s":44}
+{"do":"open","now":1,"s":45}
+{"do":"open","now":1,"s":46}
+{"do":"open","now":1,"s":47}
+{"do":"open","now":1,"s":48}
+{"do":"open","now":1,"s":49}
+{"do":"open","now":1,"s":50}
+{"do":"open","now":1,"s":51}
+{"do":"open","now":1,"s":52}
+{"do":"open","now":1,"s":53}
+{"do":"open","now":1,"s":54}
+{"do":"open","now":1,"s":55}
+{"do":"open","now":1,"s":56}
+{"do":"open","now":1,"s":57}
+{"do":"open","now":1,"s":58}
+{"do":"open","now":1,"s":59}
+{"do":"open","now":1,"s":60}
+{"do":"open","now":1,"s":61}
+{"do":"open","now":1,"s":62}
+{"do":"open","now":1,"s":63}
+{"do":"open","now":1,"s":64}
+{"do":"open","now":1,"s":65}
+"#,
+        output: br#"{"ok":true,"rules":2}
+{"ok":true}
+{"ok":true}
+{"ok":true}
+{"ok":true}
+{"ok":true}
+{"ok":true}
+{"ok":true}
+{"ok":true}
+{"ok":true}
+{"ok":true}
+{"ok":true}
+{"ok":true}
+{"ok":true}
+{"ok":true}
+{"ok":true}
+{"ok":true}
+{"ok":true}
+{"ok":true}
+{"ok":true}
+{"ok":true}
+{"ok":true}
+{"ok":true}
+{"ok":true}
+{"ok":true}
+{"ok":true}
+{"ok":true}
+{"ok":true}
+{"ok":true}
+{"ok":true}
+{"ok":true}
+{"ok":true}
+{"ok":true}
+{"ok":true}
+{"ok":true}
+{"ok":true}
+{"ok":true}
+{"ok":true}
+{"ok":true}
+{"ok":true}
+{"ok":true}
+{"ok":true}
+{"ok":true}
+{"ok":true}
+{"ok":true}
+{"ok":true}
+{"ok":true}
+{"ok":true}
+{"ok":true}
+{"ok":true}
+{"ok":true}
+{"ok":true}
+{"ok":true}
+{"ok":true}
+{"ok":true}
+{"ok":true}
+{"ok":true}
+{"ok":true}
+{"ok":true}
+{"ok":true}
+{"ok":true}
+{"ok":true}
+{"ok":true}
+{"ok":true}
+{"ok":true}
+{"code":204,"name":"TooManySessions","ok":false}
+"#,
+        end: ScriptEnd::Finished,
+    },
+    Row {
+        name: "the form of a timestamp",
+        input: br#"{"rules":"{\"rules\":{\".read\":true,\".write\":true}}"}
+{"do":"open","now":1,"s":1}
+{"do":"set","now":1,"path":"/t","s":1,"value":{".sv":"timestamp"}}
+"#,
+        output: br#"{"ok":true,"rules":2}
+{"ok":true}
+{"code":104,"name":"BadValue","ok":false}
+"#,
+        end: ScriptEnd::Finished,
+    },
+];
