@@ -13,3 +13,4 @@ pub mod Answering
 pub mod Feeding
 pub mod Going
 pub mod Ending
+pub mod Running

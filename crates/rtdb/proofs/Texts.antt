@@ -1,14 +1,16 @@
 -- The texts of answers, from what serde_json says of them.
-use Rattle.std.proofs.Common.{◌≡◌, ℕ, zero, suc, ◌||◌, Bool, false, List, [], ◌∷◌, map, Option, Some, None, ℤ, pos, negsuc, refl, ap, ◌∙◌}
+use Rattle.std.proofs.Common.{◌≡◌, ℕ, zero, suc, ◌||◌, ◌++◌, Bool, false, List, [], ◌∷◌, map, Option, Some, None, ℤ, pos, negsuc, refl, ap, ◌∙◌}
 use Rattle.std.specs.Option.{option_map_or}
 use Rattle.std.specs.FinMap as map_of
 use Rattle.serde_json.specs.Data.{Data}
 use Rattle.serde_json.specs.Find.{is_float, of_integer}
 use Rattle.serde_json.specs.Written.{has_float, members_have_float, items_have_float, compact_text}
+use Rattle.serde_json.proofs.OnLiterals.{serde_json_on_literals}
+use Rattle.std.specs.Prelude.{codes, unwrap_or}
 use Rattle.tree_model.specs.Key.{Key}
 use Rattle.tree_model.specs.Primitive.{Primitive, truth, whole, words}
 use Rattle.tree_model.specs.PathMap.{get, depth}
-use Rattle.tree_model.specs.Tree.{Tree, children}
+use Rattle.tree_model.specs.Tree.{Tree, null, children}
 use Rattle.json_tree.specs.Json.{data_of, members_of, object_of, value_within, value_of}
 use Rattle.path_capture.specs.Write.{tree_of}
 use Rattle.rules_reader.specs.declared.fault.RulesFault.{RulesFault}
@@ -18,7 +20,7 @@ use Rattle.rtdb.specs.declared.reply.Reply.{Reply}
 use Rattle.rtdb.specs.declared.reply.Reply.TheVariants.{Done, Value, Refused}
 use Rattle.rtdb.specs.declared.reply.Refusal.{Refusal}
 use Rattle.rtdb.specs.declared.reply.Refusal.TheVariants as refusals
-use Rattle.rtdb.specs.Text.{named_data, items_of, refusal_data, reply_data, rules_fault_data}
+use Rattle.rtdb.specs.Text.{named_data, items_of, refusal_data, reply_data, rules_fault_data, text}
 
 -- ---- no answer has a float
 
@@ -59,7 +61,7 @@ named_is_no_float : (named : List Named) → items_have_float (items_of (map nam
 named_is_no_float [] = refl
 named_is_no_float (rule ∷ rules) = named_is_no_float rules
 
-refusal_is_no_float : (refusal : Refusal) → has_float (refusal_data refusal) ≡ false
+pub refusal_is_no_float : (refusal : Refusal) → has_float (refusal_data refusal) ≡ false
 refusal_is_no_float refusals.SessionOpen = refl
 refusal_is_no_float refusals.TooManySessions = refl
 refusal_is_no_float refusals.NoSession = refl
@@ -81,3 +83,25 @@ rules_fault_is_no_float rules_faults.NoMemory = refl
 -- what is written of a value that is known
 pub text_of_view : (items : List ℕ) (d v : Data) → v ≡ d → has_float d ≡ false → (has_float v ≡ false → items ≡ compact_text v) → items ≡ compact_text d
 text_of_view items d v e f h = h (ap has_float e ∙ f) ∙ ap compact_text e
+
+-- ---- the texts that are written around a value
+
+pub done_text : codes "{\"ok\":true}" ≡ text Done
+unfolding text serde_json_on_literals
+done_text = refl
+
+-- a value between what stands before and after it
+pub value_text : (tree : Option Tree) → codes "{\"ok\":true,\"value\":" ++ (compact_text (value_of (tree_of tree)) ++ codes "}") ≡ text (Value tree)
+unfolding text serde_json_on_literals
+value_text tree = refl
+
+tree_is : (tree : Option Tree) → unwrap_or tree null ≡ tree_of tree
+tree_is None = refl
+tree_is (Some t) = refl
+
+-- what is written of a value is what is written between
+pub value_between : (bytes middle : List ℕ) (tree : Option Tree) (v : Data) → bytes ≡ codes "{\"ok\":true,\"value\":" ++ (middle ++ codes "}") → v ≡ value_of (unwrap_or tree null) → (has_float v ≡ false → middle ≡ compact_text v) → bytes ≡ text (Value tree)
+value_between bytes middle tree v e is h =
+    let seen : v ≡ value_of (tree_of tree) = is ∙ ap value_of (tree_is tree) in
+    let same : middle ≡ compact_text (value_of (tree_of tree)) = text_of_view middle (value_of (tree_of tree)) v seen (tree_is_no_float (tree_of tree)) h in
+    e ∙ ap (λ m. codes "{\"ok\":true,\"value\":" ++ (m ++ codes "}")) same ∙ value_text tree

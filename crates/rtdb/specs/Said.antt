@@ -1,5 +1,5 @@
 -- What a script is answered.
-use Rattle.std.specs.Prelude.{◌≡◌, ℕ, ◌⊎◌, List, [], ◌∷◌, ◌++◌, length, Result, Ok, Err, flat_map}
+use Rattle.std.specs.Prelude.{◌≡◌, ℕ, ◌⊎◌, List, [], ◌∷◌, ◌++◌, length, Result, Ok, Err, ⊤, flat_map}
 use Rattle.tree_model.specs.Tree.{null}
 use Rattle.rules_reader.specs.Book.{Book, rules}
 use Rattle.rtdb.specs.declared.reply.Reply.{Reply}
@@ -11,7 +11,7 @@ use Rattle.rtdb.specs.declared.header.HeaderFault.{HeaderFault}
 use Rattle.rtdb.specs.declared.header.HeaderFault.TheVariants.{Line, Rules}
 use Rattle.rtdb.specs.Lines.{cut, told}
 use Rattle.rtdb.specs.State.{State, opening}
-use Rattle.rtdb.specs.Step.{Step}
+use Rattle.rtdb.specs.Step.{Step, Call, Run}
 use Rattle.rtdb.specs.Message.{asks}
 use Rattle.rtdb.specs.Text as answer
 use Rattle.rtdb.specs.Header.{Opens}
@@ -37,6 +37,36 @@ AreAnswered old [] [] new = new ≡ old
 AreAnswered old (line ∷ lines) (text ∷ texts) new = (mid : State) × IsAnswered old line text mid × AreAnswered mid lines texts new
 AreAnswered old [] (text ∷ texts) new = ⊥
 AreAnswered old (line ∷ lines) [] new = ⊥
+
+-- ---- the same as a run of calls
+
+-- each line is read as what it asks, or refused for want of memory
+abbrev pub AreRead : List (List ℕ) → List (Result Request MessageFault) → Type 0
+AreRead [] [] = ⊤
+AreRead (line ∷ lines) (message ∷ messages) = ((message ≡ asks Script line) ⊎ (message ≡ Err NoMemory)) × AreRead lines messages
+AreRead [] (message ∷ messages) = ⊥
+AreRead (line ∷ lines) [] = ⊥
+
+-- the calls that messages ask for; a fault asks for none
+abbrev pub calls_of : List (Result Request MessageFault) → List Call
+calls_of [] = []
+calls_of (Ok request ∷ messages) = record { now = request.stamp.now; session = request.stamp.session; event = request.event } ∷ calls_of messages
+calls_of (Err fault ∷ messages) = calls_of messages
+
+-- the texts of the replies to calls, each in the place of its message, and of faults in theirs
+abbrev pub texts_of : List (Result Request MessageFault) → List Reply → List (List ℕ)
+texts_of [] replies = []
+texts_of (Ok request ∷ messages) [] = []
+texts_of (Ok request ∷ messages) (reply ∷ replies) = answer.text reply ∷ texts_of messages replies
+texts_of (Err fault ∷ messages) replies = answer.fault_text fault ∷ texts_of messages replies
+
+-- lines are answered by the texts of a run over what they ask
+pub record AreAnsweredByRun (old : State) (lines texts : List (List ℕ)) (new : State) : Type 0 where
+  pub messages : List (Result Request MessageFault)
+  pub read : AreRead lines messages
+  pub replies : List Reply
+  pub run : Run old (calls_of messages) replies new
+  pub written : texts ≡ texts_of messages replies
 
 -- ---- a whole script
 

@@ -1,9 +1,9 @@
 //! Answers: the texts of replies and faults, compact JSON with the members in the order of their
 //! names, and no line feed.
-ghost use Rattle.std.specs.Prelude.{◌≡◌, codes, option_map, IfOk};
+ghost use Rattle.std.specs.Prelude.{◌≡◌, ◌++◌, codes, option_map, IfOk};
 ghost use Rattle.serde_json.specs.Data.{string, object, member, no_members};
 ghost use Rattle.serde_json.specs.View.{view, members_view};
-ghost use Rattle.rtdb.specs.Text.{text, fault_text, rules_fault_text, accepted_text, message_code, refusal_members, plain_data, placed_data, named_data, rules_data, read_denied_data, write_denied_data, accepted_data, refusal_data, reply_data, rules_fault_data};
+ghost use Rattle.rtdb.specs.Text.{text, fault_text, rules_fault_text, accepted_text, message_code, refusal_members, plain_data, placed_data, named_data, rules_data, read_denied_data, write_denied_data, accepted_data, refusal_data, rules_fault_data};
 
 use crate::code::Code;
 use crate::message::MessageFault;
@@ -15,12 +15,14 @@ use serde_json::{Map, Value, json};
 use std::alloc::Global;
 
 /// The text of a reply, in one pass over what it has.
-#[tactic(auto, unfolding(crate::specs::Text::text), using(crate::proofs::Texts::text_of_view, crate::proofs::Texts::reply_is_no_float))]
 pub fn write_reply(alloc: Global, reply: &Reply) -> Result<Vec<u8>, NoMemory>
     ensures { IfOk result (λ bytes. bytes.items ≡ text reply.now) }
 {
-    let value = value_of_reply(alloc, reply)?;
-    Ok(value.to_vec(alloc)?)
+    match reply {
+        Reply::Done => done(alloc),
+        Reply::Value(tree) => write_value(alloc, tree.as_ref()),
+        Reply::Refused(refusal) => write_refusal(alloc, refusal),
+    }
 }
 
 /// The text of a fault of a message.
@@ -70,14 +72,43 @@ fn code_of_message(fault: MessageFault) -> Code
     }
 }
 
-fn value_of_reply(alloc: Global, reply: &Reply) -> Result<Value, NoMemory>
-    ensures { IfOk result (λ value. view value ≡ reply_data reply.now) }
+#[tactic(auto, using(crate::proofs::Texts::done_text))]
+fn done(alloc: Global) -> Result<Vec<u8>, NoMemory>
+    ensures { IfOk result (λ bytes. bytes.items ≡ text Reply.Done) }
 {
-    match reply {
-        Reply::Done => Ok(json!(in alloc; {"ok": true})?),
-        Reply::Value(tree) => value_of_tree(alloc, tree.as_ref()),
-        Reply::Refused(refusal) => value_of_refusal(alloc, refusal),
-    }
+    Ok(Vec::from_slice(alloc, b"{\"ok\":true}")?)
+}
+
+// The value is written between what stands before and after it, and put into no object.
+fn write_value(alloc: Global, tree: Option<&Node>) -> Result<Vec<u8>, NoMemory>
+    ensures { IfOk result (λ bytes. bytes.items ≡ text (Reply.Value (option_map (λ node. node.now) tree.entry))) }
+{
+    let value = to_json(alloc, tree)?;
+    let middle = value.to_vec(alloc)?;
+    between(alloc, b"{\"ok\":true,\"value\":", middle.as_slice(), b"}")
+}
+
+// Three texts as one, with room for a line feed after them.
+fn between(alloc: Global, before: &[u8], middle: &[u8], after: &[u8]) -> Result<Vec<u8>, NoMemory>
+    ensures { IfOk result (λ bytes. bytes.items ≡ before.now ++ (middle.now ++ after.now)) }
+{
+    let length = before
+        .len()
+        .saturating_add(middle.len())
+        .saturating_add(after.len());
+    let mut bytes = Vec::with_capacity(alloc, length.saturating_add(1))?;
+    bytes.extend_from_slice(before)?;
+    bytes.extend_from_slice(middle)?;
+    bytes.extend_from_slice(after)?;
+    Ok(bytes)
+}
+
+#[tactic(auto, unfolding(crate::specs::Text::text), using(crate::proofs::Texts::text_of_view, crate::proofs::Texts::refusal_is_no_float))]
+fn write_refusal(alloc: Global, refusal: &Refusal) -> Result<Vec<u8>, NoMemory>
+    ensures { IfOk result (λ bytes. bytes.items ≡ text (Reply.Refused refusal.now)) }
+{
+    let value = value_of_refusal(alloc, refusal)?;
+    Ok(value.to_vec(alloc)?)
 }
 
 fn value_of_refusal(alloc: Global, refusal: &Refusal) -> Result<Value, NoMemory>
@@ -105,13 +136,6 @@ fn value_of_rules_fault(alloc: Global, fault: &RulesFault) -> Result<Value, NoMe
         RulesFault::TooManyRules => plain(alloc, Code::TooManyRules),
         RulesFault::NoMemory => plain(alloc, Code::NoMemory),
     }
-}
-
-fn value_of_tree(alloc: Global, tree: Option<&Node>) -> Result<Value, NoMemory>
-    ensures { IfOk result (λ value. view value ≡ reply_data (Reply.Value (option_map (λ node. node.now) tree.entry))) }
-{
-    let value = to_json(alloc, tree)?;
-    Ok(json!(in alloc; {"ok": true, "value": value})?)
 }
 
 // A refusal with no further member.

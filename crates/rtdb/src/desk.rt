@@ -1,6 +1,5 @@
 //! Where lines are answered, one at a time, and their answers put behind one another.
-ghost use Rattle.std.specs.Prelude.{◌≡◌, ℕ, ◌++◌, ◌∷◌, [], Bool, true, false, List, IfOk, IfErr, OnOk, OnErr, Option};
-ghost use Rattle.std.specs.Io.KnownBytes.{Appends};
+ghost use Rattle.std.specs.Prelude.{◌≡◌, ℕ, ◌++◌, ◌∷◌, [], List, IfOk, IfErr, OnOk};
 ghost use Rattle.rtdb.specs.Lines.{told};
 ghost use Rattle.rtdb.specs.Sent.{Passes};
 ghost use Rattle.rtdb.specs.Said.{unopened, Stands};

@@ -1,5 +1,5 @@
 //! The line that comes in pieces.
-ghost use Rattle.std.specs.Prelude.{◌≡◌, ℕ, ◌+◌, ◌-◌, ◌≤◌, ◌<◌, ◌++◌, ◌&&◌, ◌↔◌, [], Bool, true, List, length, take, vec_len, IsTrue, IfOk, OnOk, OnErr};
+ghost use Rattle.std.specs.Prelude.{◌≡◌, ℕ, ◌≤◌, ◌++◌, ◌↔◌, [], List, vec_len, IsTrue, OnOk};
 ghost use Rattle.rtdb.specs.Lines.{is_blank};
 ghost use Rattle.rtdb.specs.Parts.{front, Holds};
 

@@ -19,11 +19,14 @@ mod memory;
 mod message;
 mod order;
 mod outgoing;
+#[cfg(test)]
+mod parts;
 mod reply;
 mod respond;
 #[cfg(test)]
 mod rows;
 mod script;
+mod script_laws;
 mod session;
 mod step_laws;
 mod stream;

@@ -1,6 +1,5 @@
 //! A source and a sink in memory, which fail where a test wants it.
-ghost use Rattle.std.specs.Prelude.{◌≡◌, ℕ, ◌+◌, ◌-◌, ◌≤◌, ◌<◌, ◌^◌, Bool, true, false, List, length, take, Some, Option, MatchResult, Result};
-ghost use Rattle.std.specs.Io.KnownBytes.{ReadConsumes, WriteAppends, Keeps};
+ghost use Rattle.std.specs.Prelude.{◌≡◌, Some, false};
 
 use crate::stream::{Broken, Sink, Source};
 

@@ -1,5 +1,5 @@
 //! What a line is answered: a header by its acceptance or its refusal, a request by a reply.
-ghost use Rattle.std.specs.Prelude.{◌≡◌, ℕ, List, IfOk};
+ghost use Rattle.std.specs.Prelude.{◌≡◌, IfOk};
 ghost use Rattle.rtdb.specs.Text.{text, fault_text, rules_fault_text};
 ghost use Rattle.rtdb.specs.Said.{unopened, running, as_line};
 ghost use Rattle.rtdb.specs.Follow.{phase_of, reached, bytes_of, Adds};

@@ -1,6 +1,6 @@
 //! A script: a header and then requests, one to a line, each answered by a line.
-ghost use Rattle.std.specs.Prelude.{◌≡◌, ℕ, ◌+◌, ◌-◌, ◌≤◌, ◌<◌, ◌^◌, ◌++◌, ◌∷◌, [], Bool, true, false, List, length, vec_len, take, drop, IfOk, IfErr, OnOk, OnErr, IfSome, IfNone, MatchResult, MatchOption, Option};
-ghost use Rattle.std.specs.Io.KnownBytes.{Appends, Consumes, IsAtEnd};
+ghost use Rattle.std.specs.Prelude.{◌≡◌, ℕ, ◌<◌, ◌++◌, ◌∷◌, [], Bool, false, List, length, vec_len, IfOk, IfErr, OnOk, IfSome, IfNone, Option};
+ghost use Rattle.std.specs.Io.KnownBytes.{Appends, Consumes};
 ghost use Rattle.rtdb.specs.Lines.{told};
 ghost use Rattle.rtdb.specs.Said.{Stands};
 ghost use Rattle.rtdb.specs.Parts.{Holds, IsPlain};

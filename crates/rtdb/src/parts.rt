@@ -1,0 +1,140 @@
+//! Calls that no script makes, and the order of a message's faults.
+use crate::answer::write_reply;
+use crate::event::Event;
+use crate::header::read_header;
+use crate::machine::Core;
+use crate::message::{Form, MessageFault, Stamp, read_request};
+use crate::reply::{Named, NamedRules, Refusal, Reply, Why};
+use bumpalo::Bump;
+use json_tree::{Leaf, Node};
+use path_capture::Pattern;
+use std::alloc::AllocError;
+
+const SOCKET: Form = Form::Socket(Stamp { now: 5, session: 7 });
+
+#[test]
+fn faults_of_messages_come_in_their_order(rt: HostRuntime) {
+    let rows = [
+        (
+            Form::Script,
+            br#"{"do":"set","now":1,"s":1,"path":"/a.b"}"#.as_slice(),
+            MessageFault::BadRequest,
+        ),
+        (
+            Form::Script,
+            br#"{"do":"set","now":1,"s":1,"path":"/a.b","value":1.5}"#.as_slice(),
+            MessageFault::BadPath,
+        ),
+        (
+            Form::Script,
+            br#"{"do":"set","now":1,"s":1,"path":"/a","value":1.5}"#.as_slice(),
+            MessageFault::BadValue,
+        ),
+        (
+            Form::Script,
+            br#"{"do":"set","now":1,"s":-1,"path":"/a","value":1}"#.as_slice(),
+            MessageFault::BadRequest,
+        ),
+        (
+            Form::Script,
+            br#"{"do":"get","now":9007199254740992,"s":1,"path":"/a"}"#.as_slice(),
+            MessageFault::BadRequest,
+        ),
+        (
+            Form::Script,
+            br#"{"do":"get","now":1,"s":1,"path":"/a","query":{}}"#.as_slice(),
+            MessageFault::BadRequest,
+        ),
+        (
+            Form::Script,
+            br#"{"do":"get","s":1,"path":"/a"}"#.as_slice(),
+            MessageFault::BadRequest,
+        ),
+        (
+            Form::Script,
+            br#"["do"]"#.as_slice(),
+            MessageFault::BadRequest,
+        ),
+        (
+            Form::Script,
+            br#"{"do":"get""#.as_slice(),
+            MessageFault::BadJson,
+        ),
+        (
+            SOCKET,
+            br#"{"do":"open"}"#.as_slice(),
+            MessageFault::BadRequest,
+        ),
+        (
+            SOCKET,
+            br#"{"do":"get","path":"/a","s":7}"#.as_slice(),
+            MessageFault::BadRequest,
+        ),
+    ];
+    for (form, bytes, fault) in rows {
+        match read_request(rt.alloc(), bytes, form) {
+            Ok(_) => assert!(rt; false, "{fault} is told"),
+            Err(told) => assert!(rt; told == fault, "{fault} is told"),
+        }
+    }
+}
+
+fn removes_one_key(event: &Event) -> bool {
+    match event {
+        Event::Set(write) => write.at().keys().len() == 1 && write.tree().is_none(),
+        _ => false,
+    }
+}
+
+#[test]
+fn a_socket_message_has_the_stamp_of_its_form(rt: HostRuntime) {
+    let bytes = br#"{"do":"set","path":"/a","value":{"b":null}}"#;
+    match read_request(rt.alloc(), bytes, SOCKET) {
+        Ok(request) => {
+            assert!(rt; request.stamp == Stamp { now: 5, session: 7 });
+            assert!(rt; removes_one_key(&request.event));
+        }
+        Err(_) => assert!(rt; false),
+    }
+}
+
+#[test]
+fn a_rule_that_errs_is_named_so(rt: HostRuntime) -> Result<(), AllocError> {
+    let mut rules = Vec::new(rt.alloc());
+    rules.push(Named {
+        pattern: Pattern::new(rt.alloc()),
+        why: Why::Erred,
+    })?;
+    let reply = Reply::Refused(Refusal::ReadDenied(NamedRules::of_vec(rules)));
+    let wanted =
+        br#"{"code":501,"name":"ReadDenied","ok":false,"rules":[{"pattern":"/","why":"error"}]}"#;
+    match write_reply(rt.alloc(), &reply) {
+        Ok(text) => assert!(rt; text.as_slice() == wanted.as_slice()),
+        Err(_) => assert!(rt; false),
+    }
+    Ok(())
+}
+
+#[test]
+fn a_core_shows_its_tree_its_rules_and_its_sessions(rt: HostRuntime) {
+    let header = br#"{"rules":"{\"rules\":{\".read\":true,\"a\":{\".write\":false}}}"}"#;
+    let Ok(rules) = read_header(rt.alloc(), header) else {
+        assert!(rt; false);
+        return;
+    };
+    let Ok(node) = Node::of_leaf(Leaf::Truth(true)) else {
+        assert!(rt; false);
+        return;
+    };
+    let mut core = Core::new(rt.alloc(), rules, Some(node));
+    assert!(rt; core.rules().count() == 2);
+    assert!(rt; core.sessions() == 0);
+    let mut arena = Bump::new(rt.alloc());
+    let reply = core.step(&mut arena, 1, 9, Event::Open);
+    assert!(rt; core.sessions() == 1);
+    assert!(rt; core.tree().is_some());
+    match reply {
+        Reply::Done => {}
+        _ => assert!(rt; false),
+    }
+}
