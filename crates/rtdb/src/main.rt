@@ -1,36 +1,17 @@
 //! `rtdb`: a realtime tree database under Security Rules.
 //!
 //! It reads a script of JSON lines, a rules file and then requests, and answers each line. What it
-//! answers is the contract of [`script::run_script`]: each read and write is granted exactly when
+//! answers is the contract of [`run_script`]: each read and write is granted exactly when
 //! the rules hold at some prefix, each denial names its rules, and what is refused changes nothing.
 #![tactic(auto)]
 
-mod answer;
-mod code;
-mod desk;
-mod event;
-mod header;
-mod judge;
-mod limits;
-mod line;
-mod machine;
 #[cfg(test)]
 mod memory;
-mod message;
 mod order;
-mod outgoing;
 #[cfg(test)]
 mod parts;
-mod reply;
-mod respond;
 #[cfg(test)]
 mod rows;
-mod script;
-mod script_laws;
-mod session;
-mod step_laws;
-mod stream;
-mod streams;
 #[cfg(test)]
 mod tests;
 #[cfg(test)]
@@ -38,10 +19,9 @@ mod worked;
 
 use bumpalo::Bump;
 use order::{LineFault, Order};
-use script::{ScriptEnd, run_script};
+use sessions::{Reading, ScriptEnd, Writing, run_script};
 use std::process::ExitCode;
 use std::{env, io};
-use streams::{Reading, Writing};
 
 // The statuses that the program ends with.
 const DONE: u8 = 0;

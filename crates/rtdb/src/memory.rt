@@ -1,7 +1,7 @@
 //! A source and a sink in memory, which fail where a test wants it.
 ghost use Rattle.std.specs.Prelude.{◌≡◌, Some, false};
 
-use crate::stream::{Broken, Sink, Source};
+use sessions::{Broken, Sink, Source};
 
 /// A text that is read in pieces of so many bytes, and breaks after so many of them.
 #[derive(Drop)]

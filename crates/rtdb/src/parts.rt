@@ -1,13 +1,9 @@
 //! Calls that no script makes, and the order of a message's faults.
-use crate::answer::write_reply;
-use crate::event::Event;
-use crate::header::read_header;
-use crate::machine::Core;
-use crate::message::{Form, MessageFault, Stamp, read_request};
-use crate::reply::{Named, NamedRules, Refusal, Reply, Why};
 use bumpalo::Bump;
 use json_tree::{Leaf, Node};
 use path_capture::Pattern;
+use rtdb_core::{Core, Event, Named, NamedRules, Refusal, Reply, Why};
+use sessions::{Form, MessageFault, Stamp, read_header, read_request, write_reply};
 use std::alloc::AllocError;
 
 const SOCKET: Form = Form::Socket(Stamp { now: 5, session: 7 });

@@ -1,6 +1,6 @@
 //! Worked scripts, each with what is written for it and how it ends.
 
-use crate::script::ScriptEnd;
+use sessions::ScriptEnd;
 
 /// A worked script.
 pub struct Row {

@@ -1,8 +1,7 @@
 //! Whole scripts: cut into pieces, with a source or a sink that fails, and longer than a block.
 use crate::memory::{Full, Pieces, Written};
-use crate::script::{ScriptEnd, run_script};
-use crate::streams::{Reading, Writing};
 use bumpalo::Bump;
+use sessions::{Reading, ScriptEnd, Writing, run_script};
 use std::alloc::{AllocError, Global};
 
 const INPUT: &[u8] =

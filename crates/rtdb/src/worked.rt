@@ -1,9 +1,8 @@
 //! Each worked script is answered as its row says, and none by want of memory.
 use crate::memory::{Full, Written};
 use crate::rows::ROWS;
-use crate::script::{ScriptEnd, run_script};
-use crate::streams::Reading;
 use bumpalo::Bump;
+use sessions::{Reading, ScriptEnd, run_script};
 use std::alloc::{AllocError, Global};
 
 const RULES_THAT_GRANT_ALL: &[u8] = br#"{"rules":"{\"rules\":{\".read\":true,\".write\":true}}"}

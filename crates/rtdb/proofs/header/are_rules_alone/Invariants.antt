@@ -1,8 +1,0 @@
-use Rattle.std.proofs.Common.{◌∷◌, []}
-use Rattle.std.specs.Prelude.{codes}
-use Rattle.serde_json.specs.View.{members_view}
-use Rattle.rtdb.proofs.Messages.{LawfulAhead}
-use Rattle.rtdb.proofs.header.are_rules_alone.Given as goal
-
-abbrev pub invariant-loop-name : goal.invariant-loop-name
-invariant-loop-name l = LawfulAhead (codes "rules" ∷ []) (members_view l.name-iterator) (members_view l.members.entries)

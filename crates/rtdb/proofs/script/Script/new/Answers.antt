@@ -1,6 +1,0 @@
-use Rattle.rtdb.proofs.Feeding.{Follows-nothing}
-use Rattle.rtdb.proofs.script.Script.new.Goals as goal
-
-pub returns : goal.returns
-returns c =
-    Follows-nothing _ _ _ _ c.in_ok-desk.ensures.0 c.new-2.ensures c.in_ok-desk.ensures.1

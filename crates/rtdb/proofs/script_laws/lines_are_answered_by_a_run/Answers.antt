@@ -1,5 +1,0 @@
-use Rattle.rtdb.proofs.Running.{as_run}
-use Rattle.rtdb.proofs.script_laws.lines_are_answered_by_a_run.Goals as goal
-
-pub returns : goal.returns
-returns c = as_run

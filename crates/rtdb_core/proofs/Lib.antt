@@ -1,0 +1,4 @@
+pub mod Judging
+pub mod Sessions
+pub mod Walks
+pub mod StepLaws

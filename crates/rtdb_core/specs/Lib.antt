@@ -1,0 +1,4 @@
+pub mod State
+pub mod Verdict
+pub mod Step
+pub mod Denial

@@ -1,0 +1,25 @@
+//! The state machine of the database: one event in, one reply out.
+//!
+//! Contracts see a [`Core`] as its state: a tree, the rules in force, and the sessions that are
+//! open. What the layer above needs is [`Core::step`]: its answer, and the state after it, are a
+//! step.
+#![tactic(auto)]
+
+mod event;
+mod judge;
+mod limits;
+mod machine;
+mod reply;
+mod session;
+mod step_laws;
+
+pub use event::Event;
+pub use judge::{Access, is_granted, named_rules};
+pub use limits::{MAX_MOMENT, MAX_SESSIONS};
+pub use machine::Core;
+pub use reply::{Named, NamedRules, Refusal, Reply, Why};
+pub use session::Session;
+pub use step_laws::{
+    a_read_is_granted_exactly_when_a_rule_holds, a_refused_event_changes_nothing,
+    a_write_is_granted_exactly_when_a_rule_holds,
+};

@@ -1,0 +1,8 @@
+//! The limits of sessions and moments, each with its reason.
+
+/// The most sessions that are open at a time. (This project's profile.)
+pub const MAX_SESSIONS: usize = 64;
+
+/// The latest moment, and the greatest number of a session that a message can name, 2^53 - 1: every
+/// number up to it has an exact double. (This project's profile.)
+pub const MAX_MOMENT: u64 = 9_007_199_254_740_991;

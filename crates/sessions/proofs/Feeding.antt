@@ -1,0 +1,135 @@
+-- Where a script stands after a piece of the input.
+use Rattle.std.proofs.Common.{◌≡◌, ℕ, Bool, false, List, [], ◌∷◌, ◌++◌, Option, refl, sym, ap, subst, ◌∙◌, append_assoc}
+use Rattle.std.specs.Prelude.{◌==◌}
+use Rattle.std.specs.Io.KnownBytes.{Appends}
+use Rattle.std.proofs.lemmas.List.{append-nil}
+use Rattle.std.proofs.lemmas.List.Elements.{All-append, All-nil}
+use Rattle.std.proofs.lemmas.List.Splits.{slice_split_at, slice_split_none}
+use Rattle.sessions.specs.declared.desk.Stop.{Stop}
+use Rattle.sessions.specs.declared.desk.Stop.TheVariants as stops
+use Rattle.sessions.specs.Lines.{cut, told, is_blank}
+use Rattle.sessions.specs.Said.{Phase, unopened, refused, Stands}
+use Rattle.sessions.specs.Parts.{front, IsPlain, Holds, Shows}
+use Rattle.sessions.specs.Follow.{Goes, LineStops, Follows, FeedStops, Fronts, Partly}
+use Rattle.sessions.proofs.Keeping.{nil_of_front}
+use Rattle.sessions.proofs.Sending.{Appends-trans}
+
+-- ---- cutting
+
+pub cut-plain : (rest : List ℕ) → IsPlain rest → cut rest ≡ rest ∷ []
+cut-plain rest h = slice_split_none (λ b. b == 10) rest h
+
+cut-line : (line more : List ℕ) → IsPlain line → cut (line ++ 10 ∷ more) ≡ line ∷ cut more
+cut-line line more h = slice_split_at (λ b. b == 10) line 10 more h refl
+
+-- ---- one step further
+
+pub Follows-nothing : (phase : Phase) (held : List ℕ) (blank : Bool) (kept : List ℕ) → phase ≡ unopened → Holds held blank [] → kept ≡ [] → Follows phase held blank kept [] []
+Follows-nothing phase held blank kept p h e = record {
+  lines = [];
+  rest = [];
+  cuts = λ more. refl;
+  plain = All-nil (λ b. (b == 10) ≡ false);
+  holds = h;
+  stands = (p, e);
+}
+
+module _ {phase : Phase} {held : List ℕ} {blank : Bool} {kept taken sent : List ℕ} (f : Follows phase held blank kept taken sent) where
+  cuts-append : (part more : List ℕ) → cut ((taken ++ part) ++ more) ≡ f.lines ++ cut ((f.rest ++ part) ++ more)
+  cuts-append part more = ap cut (append_assoc taken part more) ∙ f.cuts (part ++ more) ∙ ap (λ x. f.lines ++ cut x) (sym (append_assoc f.rest part more))
+
+  -- a part with no line feed comes
+  pub Follows-part : {held' : List ℕ} {blank' : Bool} (part : List ℕ) → IsPlain part → Holds held' blank' (f.rest ++ part) → Follows phase held' blank' kept (taken ++ part) sent
+  Follows-part part plain holds = record {
+    lines = f.lines;
+    rest = f.rest ++ part;
+    cuts = cuts-append part;
+    plain = All-append (λ b. (b == 10) ≡ false) f.rest part f.plain plain;
+    holds = holds;
+    stands = f.stands;
+  }
+
+  -- a part and a line feed come
+  cuts-line : (part more : List ℕ) → IsPlain part → cut ((taken ++ (part ++ 10 ∷ [])) ++ more) ≡ (f.lines ++ (f.rest ++ part) ∷ []) ++ cut more
+  cuts-line part more plain =
+      ap cut (append_assoc taken (part ++ 10 ∷ []) more ∙ ap (λ x. taken ++ x) (append_assoc part (10 ∷ []) more))
+      ∙ f.cuts (part ++ 10 ∷ more)
+      ∙ ap (λ x. f.lines ++ cut x) (sym (append_assoc f.rest part (10 ∷ more)))
+      ∙ ap (λ x. f.lines ++ x) (cut-line (f.rest ++ part) more (All-append (λ b. (b == 10) ≡ false) f.rest part f.plain plain))
+      ∙ sym (append_assoc f.lines ((f.rest ++ part) ∷ []) (cut more))
+
+  pub Follows-line : {phase' : Phase} {held' : List ℕ} {blank' : Bool} {kept' : List ℕ} (old new : Option (List ℕ)) (part : List ℕ) → IsPlain part → Holds held' blank' [] → Goes (f.lines ++ (f.rest ++ part) ∷ []) phase' old new sent kept' → (more : List ℕ) × Appends old new more × Follows phase' held' blank' kept' (taken ++ (part ++ 10 ∷ [])) (sent ++ more)
+  Follows-line old new part plain holds g = (
+    g.0,
+    g.1,
+    record {
+      lines = f.lines ++ (f.rest ++ part) ∷ [];
+      rest = [];
+      cuts = λ more. cuts-line part more plain;
+      plain = All-nil (λ b. (b == 10) ≡ false);
+      holds = holds;
+      stands = g.2;
+    },
+  )
+
+  -- the script stops at the line that ends there
+  pub FeedStops-line : (stop : Stop) (old new : Option (List ℕ)) (failed : Bool) (kept' part : List ℕ) → IsPlain part → LineStops stop old new failed kept' f.lines (f.rest ++ part) sent → FeedStops stop old new failed kept' (taken ++ (part ++ 10 ∷ [])) sent
+  FeedStops-line stops.BadHeader old new failed kept' part plain s = (s.0, s.1, λ more. (f.lines ++ (f.rest ++ part) ∷ [], cut more, cuts-line part more plain, s.2))
+  FeedStops-line stops.WriteFault old new failed kept' part plain s = (s.0, s.1, s.2, s.3.0, s.3.1, λ more. (f.lines ++ (f.rest ++ part) ∷ [], cut more, cuts-line part more plain, s.3.2))
+  FeedStops-line stops.NoMemory old new failed kept' part plain s = (s.0, s.1.0, s.1.1, λ more. (f.lines, (f.rest ++ part) ∷ cut more, cuts-line part more plain ∙ append_assoc f.lines ((f.rest ++ part) ∷ []) (cut more), s.1.2))
+
+  -- there is no memory for the part
+  pub FeedStops-part : (old new : Option (List ℕ)) (failed : Bool) (part : List ℕ) → Appends old new [] → FeedStops stops.NoMemory old new failed kept (taken ++ part) sent
+  FeedStops-part old new failed part a = (phase, [], a, λ more. (f.lines, cut ((f.rest ++ part) ++ more), cuts-append part more, subst (λ (x : List ℕ). Stands (told f.lines) phase x) (ap (λ x. x ++ kept) (sym (append-nil sent))) f.stands))
+
+  -- nothing of a line is held, so that the part is all of it
+  pub rest-nil : held ≡ [] → f.rest ≡ []
+  rest-nil e = nil_of_front f.rest (sym e ∙ f.holds.0)
+
+  pub Holds-nil : held ≡ [] → Holds held blank []
+  Holds-nil e = subst (λ (x : List ℕ). Holds held blank x) (rest-nil e) f.holds
+
+  pub Shows-part : (part : List ℕ) (blank' : Bool) → held ≡ [] → blank' ≡ is_blank part → Shows part blank' (f.rest ++ part)
+  Shows-part part blank' e b =
+      let same : part ≡ f.rest ++ part = ap (λ x. x ++ part) (sym (rest-nil e)) in
+      (ap front same, b ∙ ap is_blank same)
+
+-- ---- one part of a piece after another
+
+-- what was done of a piece grows by a line
+pub piece-append : (piece done rest part after : List ℕ) → piece ≡ done ++ rest → rest ≡ part ++ 10 ∷ after → piece ≡ (done ++ (part ++ 10 ∷ [])) ++ after
+piece-append piece done rest part after p q = p ∙ ap (λ x. done ++ x) (q ∙ sym (append_assoc part (10 ∷ []) after)) ∙ sym (append_assoc done (part ++ 10 ∷ []) after)
+
+pub Follows-at : {phase : Phase} {held : List ℕ} {blank : Bool} {kept : List ℕ} (taken taken' sent sent' : List ℕ) → Follows phase held blank kept taken sent → taken ≡ taken' → sent ≡ sent' → Follows phase held blank kept taken' sent'
+Follows-at {phase} {held} {blank} {kept} taken taken' sent sent' f e d =
+    subst (λ (s : List ℕ). Follows phase held blank kept taken' s) d (subst (λ (t : List ℕ). Follows phase held blank kept t sent) e f)
+
+pub Follows-after : {phase : Phase} {held : List ℕ} {blank : Bool} {kept : List ℕ} (a b c : Option (List ℕ)) (taken done part sent more : List ℕ) → Appends a b more → (m : List ℕ) × Appends b c m × Follows phase held blank kept ((taken ++ done) ++ part) ((sent ++ more) ++ m) → (m : List ℕ) × Appends a c m × Follows phase held blank kept (taken ++ (done ++ part)) (sent ++ m)
+Follows-after a b c taken done part sent more p r =
+    (more ++ r.0, Appends-trans a b c more r.0 p r.1, Follows-at _ _ _ _ r.2 (append_assoc taken done part) (append_assoc sent more r.0))
+
+Partly-at : (taken part whole : List ℕ) (phase : Phase) (out out' : List ℕ) → taken ++ part ≡ whole → out ≡ out' → Partly taken phase out → Partly whole phase out'
+Partly-at taken part whole phase out out' e d h = λ more.
+    subst (λ (o : List ℕ). Fronts (whole ++ more) phase o) d (subst (λ (t : List ℕ). Fronts t phase out) (sym (append_assoc taken part more) ∙ ap (λ t. t ++ more) e) (h (part ++ more)))
+
+regrouped : (sent more m kept : List ℕ) → ((sent ++ more) ++ m) ++ kept ≡ (sent ++ (more ++ m)) ++ kept
+regrouped sent more m kept = ap (λ x. x ++ kept) (append_assoc sent more m)
+
+pub FeedStops-after : (stop : Stop) (a b c : Option (List ℕ)) (failed : Bool) (kept' taken part whole sent more : List ℕ) → taken ++ part ≡ whole → Appends a b more → FeedStops stop b c failed kept' taken (sent ++ more) → FeedStops stop a c failed kept' whole sent
+FeedStops-after stops.BadHeader a b c failed kept' taken part whole sent more e p s =
+    (more ++ s.0, Appends-trans a b c more s.0 p s.1, Partly-at taken part whole refused _ _ e (regrouped sent more s.0 kept') s.2)
+FeedStops-after stops.WriteFault a b c failed kept' taken part whole sent more e p s =
+    (s.0, s.1, s.2, more ++ s.3, Appends-trans a b c more s.3 p s.4, Partly-at taken part whole s.1 _ _ e (regrouped sent more s.3 s.2) s.5)
+FeedStops-after stops.NoMemory a b c failed kept' taken part whole sent more e p s =
+    (s.0, more ++ s.1, Appends-trans a b c more s.1 p s.2, Partly-at taken part whole s.0 _ _ e (regrouped sent more s.1 kept') s.3)
+
+pub FeedStops-at : (old new : Option (List ℕ)) (failed : Bool) (kept taken sent : List ℕ) (stop stop' : Stop) → stop ≡ stop' → FeedStops stop old new failed kept taken sent → FeedStops stop' old new failed kept taken sent
+FeedStops-at old new failed kept taken sent stop stop' e s = subst (λ (x : Stop). FeedStops x old new failed kept taken sent) e s
+
+-- ---- the lines that are answered
+
+pub Partly-of-Follows : {phase : Phase} {held : List ℕ} {blank : Bool} {kept taken sent : List ℕ} → Follows phase held blank kept taken sent → Partly taken phase (sent ++ kept)
+Partly-of-Follows f = λ more. (f.lines, cut (f.rest ++ more), f.cuts more, f.stands)
+
+pub Fronts-of-Partly : (taken : List ℕ) (phase : Phase) (out : List ℕ) → Partly taken phase out → Fronts taken phase out
+Fronts-of-Partly taken phase out h = subst (λ (t : List ℕ). Fronts t phase out) (append-nil taken) (h [])

@@ -1,0 +1,12 @@
+pub mod Texts
+pub mod Messages
+pub mod Headers
+pub mod Sending
+pub mod Keeping
+pub mod Fixed
+pub mod Standing
+pub mod Answering
+pub mod Feeding
+pub mod Going
+pub mod Ending
+pub mod Running

@@ -1,0 +1,11 @@
+use Rattle.std.proofs.Common.{◌≡◌, ℕ, List}
+use Rattle.std.specs.Io.KnownBytes.{Appends, Consumes}
+use Rattle.sessions.specs.Follow.{IsAfter}
+use Rattle.sessions.proofs.script.Script.read_all.Given as goal
+
+abbrev pub invariant-loop-made : goal.invariant-loop-made
+invariant-loop-made g l =
+    (g.R.Source.reads l.source ≡ l._made)
+    × (taken sent : List ℕ) × Consumes (g.R.Source.left l.fn.source) (g.R.Source.left l.source) taken
+    × Appends (g.W.Sink.written l.fn.sink) (g.W.Sink.written l.sink) sent
+    × IsAfter l.self taken sent

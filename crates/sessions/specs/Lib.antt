@@ -1,0 +1,9 @@
+pub mod Message
+pub mod Text
+pub mod Header
+pub mod Lines
+pub mod Said
+pub mod Parts
+pub mod Sent
+pub mod Follow
+pub mod Ends

@@ -1,0 +1,69 @@
+//! The names of all refusals, with their numbers.
+ghost use Rattle.std.specs.Prelude.{◌≡◌};
+ghost use Rattle.sessions.specs.Text.{number_of, name_of};
+
+/// The name of a refusal, as an answer gives it.
+#[derive(Clone, Copy, Debug, PartialEq, Eq)]
+pub enum Code {
+    BadJson,
+    BadRequest,
+    BadPath,
+    BadValue,
+    TooDeep,
+    TooLarge,
+    NoSession,
+    SessionOpen,
+    TooManySessions,
+    BadRulesJson,
+    BadRulesShape,
+    TooManyRules,
+    ReadDenied,
+    WriteDenied,
+    NoMemory,
+}
+
+impl Code {
+    pub fn number(self) -> u64
+        ensures { result ≡ number_of self }
+    {
+        match self {
+            Code::BadJson => 101,
+            Code::BadRequest => 102,
+            Code::BadPath => 103,
+            Code::BadValue => 104,
+            Code::TooDeep => 105,
+            Code::TooLarge => 109,
+            Code::NoSession => 202,
+            Code::SessionOpen => 203,
+            Code::TooManySessions => 204,
+            Code::BadRulesJson => 401,
+            Code::BadRulesShape => 402,
+            Code::TooManyRules => 407,
+            Code::ReadDenied => 501,
+            Code::WriteDenied => 502,
+            Code::NoMemory => 601,
+        }
+    }
+
+    pub fn name(self) -> &'static str
+        ensures { result.now ≡ name_of self }
+    {
+        match self {
+            Code::BadJson => "BadJson",
+            Code::BadRequest => "BadRequest",
+            Code::BadPath => "BadPath",
+            Code::BadValue => "BadValue",
+            Code::TooDeep => "TooDeep",
+            Code::TooLarge => "TooLarge",
+            Code::NoSession => "NoSession",
+            Code::SessionOpen => "SessionOpen",
+            Code::TooManySessions => "TooManySessions",
+            Code::BadRulesJson => "BadRulesJson",
+            Code::BadRulesShape => "BadRulesShape",
+            Code::TooManyRules => "TooManyRules",
+            Code::ReadDenied => "ReadDenied",
+            Code::WriteDenied => "WriteDenied",
+            Code::NoMemory => "NoMemory",
+        }
+    }
+}

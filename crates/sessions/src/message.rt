@@ -1,0 +1,293 @@
+//! Messages: what a line of a script or a message of a socket asks.
+ghost use Rattle.std.specs.Prelude.{◌≡◌, ◌≤◌, ◌++◌, option_map, IfOk, IfSome};
+ghost use Rattle.std.specs.List.{list_all, list_any};
+ghost use Rattle.std.specs.Str.{bytes_eq};
+ghost use Rattle.serde_json.specs.View.{view, members_view};
+ghost use Rattle.path_capture.specs.Write.{tree_of};
+ghost use Rattle.sessions.specs.Message.{Tells, value_of, names_of, has_only, text_at, whole_at, verb_of, verb_in, form_members, verb_members, stamp_of, IsWithin, path_of, tree_of_value, write_of, event_of, request_of, asks};
+ghost use Rattle.sessions.specs.declared.message.MessageFault.TheVariants.{NoMemory as no_memory};
+
+use crate::limits::MAX_MESSAGE_BYTES;
+use json_tree::{NoMemory, Node, ValueFault, from_json};
+use path_capture::{Path, PathFault, Write};
+use rtdb_core::{Event, MAX_MOMENT};
+use serde_json::{Map, Value};
+use std::alloc::Global;
+use thiserror::Error;
+
+/// Who asks, and at which moment, in milliseconds since 1970.
+#[derive(Clone, Copy, Debug, PartialEq, Eq)]
+pub struct Stamp {
+    pub now: u64,
+    pub session: u64,
+}
+
+/// How a message says who asks, and when.
+#[derive(Clone, Copy, Debug, PartialEq, Eq)]
+pub enum Form {
+    /// A line of a script says both itself.
+    Script,
+    /// The server knows both of a message of a socket.
+    Socket(Stamp),
+}
+
+/// What a message asks for, by its member `do`.
+#[derive(Clone, Copy, Debug, PartialEq, Eq)]
+pub enum Verb {
+    Open,
+    Get,
+    Set,
+}
+
+/// What a message asks.
+#[derive(Debug, Drop)]
+pub struct Request {
+    pub stamp: Stamp,
+    pub event: Event,
+}
+
+/// Why a message asks nothing: the first of its faults.
+#[derive(Clone, Copy, Debug, PartialEq, Eq, Error)]
+pub enum MessageFault {
+    /// It has over 1,048,576 bytes.
+    #[error("a message over 1048576 bytes")]
+    TooLarge,
+    /// It is no JSON.
+    #[error("no JSON")]
+    BadJson,
+    /// A member is wanting, unknown or of the wrong type or range, or the verb is unknown.
+    #[error("no lawful request")]
+    BadRequest,
+    /// A key of the path is not lawful.
+    #[error("no lawful path")]
+    BadPath,
+    /// A key or a primitive of the value is not lawful.
+    #[error("a key or a primitive is not lawful")]
+    BadValue,
+    /// The path, the value, or both together are over 32 keys deep.
+    #[error("more than 32 keys deep")]
+    TooDeep,
+    #[error("out of memory")]
+    NoMemory,
+}
+
+impl From<NoMemory> for MessageFault {
+    ghost from_gives = { λ _ fault. fault ≡ no_memory };
+
+    fn from(_refused: NoMemory) -> MessageFault {
+        MessageFault::NoMemory
+    }
+}
+
+/// What a message asks, or its first fault: one pass over the bytes for the value, and one over
+/// what the value has.
+#[tactic(auto, unfolding(crate::specs::Message::asks))]
+pub fn read_request(alloc: Global, bytes: &[u8], form: Form) -> Result<Request, MessageFault>
+    ensures asked { Tells (λ request. request) result (asks form bytes.now) }
+    ensures moment { IfOk result (λ request. IsWithin form → request.stamp.now ≤ MAX_MOMENT) }
+{
+    let value = match read_value(alloc, bytes) {
+        Ok(value) => value,
+        Err(fault) => return Err(fault),
+    };
+    request_of(alloc, form, &value)
+}
+
+/// The value of a message.
+#[tactic(auto, unfolding(crate::specs::Message::value_of))]
+pub(crate) fn read_value(alloc: Global, bytes: &[u8]) -> Result<Value, MessageFault>
+    ensures { Tells view result (value_of bytes.now) }
+{
+    if bytes.len() > MAX_MESSAGE_BYTES {
+        return Err(MessageFault::TooLarge);
+    }
+    match Value::from_slice(alloc, bytes) {
+        Ok(value) => Ok(value),
+        Err(fault) => if fault.is_memory() {
+            Err(MessageFault::NoMemory)
+        } else {
+            Err(MessageFault::BadJson)
+        },
+    }
+}
+
+fn request_of(alloc: Global, form: Form, value: &Value) -> Result<Request, MessageFault>
+    ensures asked { Tells (λ request. request) result (request_of form (view value.now)) }
+    ensures moment { IfOk result (λ request. IsWithin form → request.stamp.now ≤ MAX_MOMENT) }
+{
+    let Some(verb) = verb_in(form, value) else {
+        return Err(MessageFault::BadRequest);
+    };
+    if !has_only_members(form, verb, value) {
+        return Err(MessageFault::BadRequest);
+    }
+    let Some(stamp) = stamp_of(form, value) else {
+        return Err(MessageFault::BadRequest);
+    };
+    match event_of(alloc, verb, value) {
+        Ok(event) => Ok(Request { stamp, event }),
+        Err(fault) => Err(fault),
+    }
+}
+
+fn verb_in(form: Form, value: &Value) -> Option<Verb>
+    ensures { result ≡ verb_in form (view value.now) }
+{
+    verb_of(form, text_at(value, "do")?)
+}
+
+fn verb_of(form: Form, name: &str) -> Option<Verb>
+    ensures { result ≡ verb_of form name.now }
+{
+    match form {
+        Form::Script => if name == "open" {
+            return Some(Verb::Open);
+        },
+        Form::Socket(_) => {}
+    }
+    if name == "get" {
+        Some(Verb::Get)
+    } else if name == "set" {
+        Some(Verb::Set)
+    } else {
+        None
+    }
+}
+
+// Whether no member has a name that the verb has not in this form.
+fn has_only_members(form: Form, verb: Verb, value: &Value) -> bool
+    ensures { result ≡ has_only (form_members form ++ verb_members verb) (view value.now) }
+{
+    match value.as_object() {
+        Some(members) => are_members(form, verb, members),
+        None => true,
+    }
+}
+
+fn are_members(form: Form, verb: Verb, members: &Map<String, Value>) -> bool
+    ensures { result ≡ list_all (λ name. list_any (bytes_eq name) (form_members form ++ verb_members verb)) (names_of (members_view members.now.entries)) }
+{
+    for (name, _) in members.iter() {
+        if !is_member(form, verb, name.as_str()) {
+            return false;
+        }
+    }
+    true
+}
+
+fn is_member(form: Form, verb: Verb, name: &str) -> bool
+    ensures { result ≡ list_any (bytes_eq name.now) (form_members form ++ verb_members verb) }
+{
+    let of_form = match form {
+        Form::Script => name == "do" || name == "now" || name == "s",
+        Form::Socket(_) => name == "do",
+    };
+    of_form
+        || match verb {
+            Verb::Open => false,
+            Verb::Get => name == "path",
+            Verb::Set => name == "path" || name == "value",
+        }
+}
+
+fn stamp_of(form: Form, value: &Value) -> Option<Stamp>
+    ensures stamp { result ≡ stamp_of form (view value.now) }
+    ensures moment { IfSome result (λ stamp. IsWithin form → stamp.now ≤ MAX_MOMENT) }
+{
+    match form {
+        Form::Script => {
+            let now = whole_at(value, "now")?;
+            let session = whole_at(value, "s")?;
+            Some(Stamp { now, session })
+        }
+        Form::Socket(stamp) => Some(stamp),
+    }
+}
+
+// A member that is a whole number from 0 to 2^53 - 1.
+fn whole_at(value: &Value, name: &str) -> Option<u64>
+    ensures number { result ≡ whole_at name.now (view value.now) }
+    ensures within { IfSome result (λ number. number ≤ MAX_MOMENT) }
+{
+    let number = value.get(name).and_then(Value::as_u64)?;
+    if number <= MAX_MOMENT {
+        Some(number)
+    } else {
+        None
+    }
+}
+
+// A member that is a text.
+pub(crate) fn text_at<'a>(value: &'a Value, name: &str) -> Option<&'a str>
+    ensures { option_map (λ text. text.now) result ≡ text_at name.now (view value.now) }
+{
+    value.get(name).and_then(Value::as_str)
+}
+
+fn event_of(alloc: Global, verb: Verb, value: &Value) -> Result<Event, MessageFault>
+    ensures { Tells (λ event. event) result (event_of verb (view value.now)) }
+{
+    match verb {
+        Verb::Open => Ok(Event::Open),
+        Verb::Get => {
+            let Some(text) = text_at(value, "path") else {
+                return Err(MessageFault::BadRequest);
+            };
+            match path_of(alloc, text) {
+                Ok(path) => Ok(Event::Get(path)),
+                Err(fault) => Err(fault),
+            }
+        }
+        Verb::Set => set_of(alloc, value),
+    }
+}
+
+fn set_of(alloc: Global, value: &Value) -> Result<Event, MessageFault>
+    ensures { Tells (λ event. event) result (event_of Verb.Set (view value.now)) }
+{
+    let Some(text) = text_at(value, "path") else {
+        return Err(MessageFault::BadRequest);
+    };
+    let Some(written) = value.get("value") else {
+        return Err(MessageFault::BadRequest);
+    };
+    let path = match path_of(alloc, text) {
+        Ok(path) => path,
+        Err(fault) => return Err(fault),
+    };
+    match tree_of_value(alloc, written) {
+        Ok(tree) => write_of(path, tree),
+        Err(fault) => Err(fault),
+    }
+}
+
+fn path_of(alloc: Global, text: &str) -> Result<Path, MessageFault>
+    ensures { Tells (λ path. path) result (path_of text.now) }
+{
+    match Path::parse(alloc, text) {
+        Ok(path) => Ok(path),
+        Err(PathFault::BadPath) => Err(MessageFault::BadPath),
+        Err(PathFault::TooDeep) => Err(MessageFault::TooDeep),
+        Err(PathFault::NoMemory) => Err(MessageFault::NoMemory),
+    }
+}
+
+fn tree_of_value(alloc: Global, value: &Value) -> Result<Option<Node>, MessageFault>
+    ensures { Tells tree_of result (tree_of_value (view value.now)) }
+{
+    match from_json(alloc, value) {
+        Ok(tree) => Ok(tree),
+        Err(ValueFault::BadValue) => Err(MessageFault::BadValue),
+        Err(ValueFault::TooDeep) => Err(MessageFault::TooDeep),
+        Err(ValueFault::NoMemory) => Err(MessageFault::NoMemory),
+    }
+}
+
+fn write_of(path: Path, tree: Option<Node>) -> Result<Event, MessageFault>
+    ensures { Tells (λ event. event) result (write_of path (tree_of tree)) }
+{
+    match Write::new(path, tree) {
+        Ok(write) => Ok(Event::Set(write)),
+        Err(_) => Err(MessageFault::TooDeep),
+    }
+}

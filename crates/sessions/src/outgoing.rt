@@ -1,0 +1,85 @@
+//! Text on its way to a sink, which is kept until there is much of it.
+ghost use Rattle.std.specs.Prelude.{◌≡◌, ◌≤◌, ◌++◌, [], true, vec_len, vec_capacity, IfOk, OnOk, OnErr, MatchResult};
+ghost use Rattle.std.specs.Io.KnownBytes.{Appends};
+ghost use Rattle.sessions.specs.Sent.{Passes, Breaks};
+
+use crate::stream::{Broken, Sink};
+use json_tree::NoMemory;
+use std::alloc::Global;
+
+/// How many bytes are kept at most, 64 KiB: so much goes to the sink by one write, and not each line
+/// by its own.
+pub const MAX_KEPT_BYTES: usize = 65_536;
+
+/// Text on its way to a sink. All its memory is taken when it is made.
+#[derive(Drop)]
+pub struct Outgoing {
+    bytes: Vec<u8>,
+    ghost room: { 65536 ≤ vec_capacity bytes },
+    ghost fits: { vec_len bytes ≤ 65536 },
+}
+
+impl Outgoing {
+    /// Nothing on its way, with room for 65,536 bytes.
+    pub fn new(alloc: Global) -> Result<Outgoing, NoMemory>
+        ensures { IfOk result (λ outgoing. outgoing.bytes.items ≡ []) }
+    {
+        Ok(Outgoing {
+            bytes: Vec::with_capacity(alloc, MAX_KEPT_BYTES)?,
+        })
+    }
+
+    /// Puts a text behind what is kept, which is written before if both are too long together. A text
+    /// that is itself too long is written at once. After an error all that was kept is lost.
+    pub fn put<W: Sink>(&mut self, sink: &mut W, text: &[u8]) -> Result<(), Broken>
+        ensures ok { OnOk result (Passes (W.written sink.old) (W.written sink.new)
+            (self.old.bytes.items ++ text.now) self.new.bytes.items) }
+        ensures err { OnErr result (Breaks (W.written sink.old) (W.written sink.new)
+            (self.old.bytes.items ++ text.now)) }
+        ensures failed { MatchResult result (λ _. W.failed sink.new ≡ W.failed sink.old) (λ _. W.failed sink.new ≡ true) }
+    {
+        if MAX_KEPT_BYTES - self.bytes.len() < text.len() {
+            if let Err(broken) = self.send(sink) {
+                return Err(broken);
+            }
+            if MAX_KEPT_BYTES < text.len() {
+                return match write_all(sink, text) {
+                    Ok(()) => Ok(()),
+                    Err(broken) => Err(broken),
+                };
+            }
+        }
+        match self.bytes.extend_from_slice(text) {
+            Ok(()) => Ok(()),
+            Err(_) => Err(Broken),
+        }
+    }
+
+    /// Writes all that is kept, so that nothing is. After an error it is lost.
+    pub fn send<W: Sink>(&mut self, sink: &mut W) -> Result<(), Broken>
+        ensures ok { OnOk result (Passes (W.written sink.old) (W.written sink.new) self.old.bytes.items []
+            × (self.new.bytes.items ≡ [])) }
+        ensures err { OnErr result (Breaks (W.written sink.old) (W.written sink.new) self.old.bytes.items) }
+        ensures failed { MatchResult result (λ _. W.failed sink.new ≡ W.failed sink.old) (λ _. W.failed sink.new ≡ true) }
+    {
+        let result = write_all(sink, &self.bytes);
+        self.bytes.clear();
+        result
+    }
+}
+
+// Writes a whole text, by as many writes as the sink wants.
+fn write_all<W: Sink>(sink: &mut W, text: &[u8]) -> Result<(), Broken>
+    ensures ok { OnOk result (Appends (W.written sink.old) (W.written sink.new) text.now) }
+    ensures err { OnErr result (Breaks (W.written sink.old) (W.written sink.new) text.now) }
+    ensures failed { MatchResult result (λ _. W.failed sink.new ≡ W.failed sink.old) (λ _. W.failed sink.new ≡ true) }
+{
+    let mut at = 0;
+    while at < text.len() {
+        match sink.write(&text[at..]) {
+            Ok(count) => at += count,
+            Err(broken) => return Err(broken),
+        }
+    }
+    Ok(())
+}

@@ -1,0 +1,144 @@
+//! What a line is answered: a header by its acceptance or its refusal, a request by a reply.
+ghost use Rattle.std.specs.Prelude.{◌≡◌, IfOk};
+ghost use Rattle.sessions.specs.Text.{text, fault_text, rules_fault_text};
+ghost use Rattle.sessions.specs.Said.{unopened, running, as_line};
+ghost use Rattle.sessions.specs.Follow.{phase_of, reached, bytes_of, Adds};
+ghost use Rattle.rtdb_core.specs.declared.reply.Reply.TheVariants as replies;
+ghost use Rattle.sessions.specs.declared.message.MessageFault.TheVariants as message_faults;
+
+use crate::answer::{write_accepted, write_fault, write_reply, write_rules_fault};
+use crate::header::{HeaderFault, read_header};
+use crate::message::{Form, MessageFault, read_request};
+use bumpalo::Bump;
+use json_tree::NoMemory;
+use rtdb_core::{Core, Refusal, Reply};
+use rules_reader::RulesFault;
+use std::alloc::Global;
+
+/// An answer, as a line of the output with its line feed.
+#[derive(Debug, Drop)]
+pub enum Answer {
+    /// It was done.
+    Done,
+    /// Memory was wanted.
+    NoMemory,
+    /// Any other, written out.
+    Written(Vec<u8>),
+}
+
+impl Answer {
+    /// The bytes of the answer. Those of `Done` and `NoMemory` are constants, so that neither takes
+    /// memory.
+    pub fn as_slice(&self) -> &[u8]
+        ensures { result.now ≡ bytes_of self.now }
+    {
+        match self {
+            Answer::Done => done_line(),
+            Answer::NoMemory => no_memory_line(),
+            Answer::Written(bytes) => bytes.as_slice(),
+        }
+    }
+}
+
+/// Answers a line that is not blank: the header, where there is no machine yet, else a request. A
+/// header that is refused leaves no machine. An error is want of memory for the answer's text, and
+/// the request may have been done.
+pub fn respond(
+    alloc: Global,
+    machine: &mut Option<Core>,
+    arena: &mut Bump,
+    line: &[u8],
+) -> Result<Answer, NoMemory>
+    ensures { IfOk result (λ answer. Adds (phase_of machine.old) line.now (reached machine.new) (bytes_of answer)) }
+{
+    if let Some(core) = machine {
+        return answer_request(alloc, core, arena, line);
+    }
+    let (opened, answer) = open(alloc, line)?;
+    *machine = opened;
+    Ok(answer)
+}
+
+fn answer_request(
+    alloc: Global,
+    core: &mut Core,
+    arena: &mut Bump,
+    line: &[u8],
+) -> Result<Answer, NoMemory>
+    ensures { IfOk result (λ answer. Adds (running core.old) line.now (running core.new) (bytes_of answer)) }
+{
+    match read_request(alloc, line, Form::Script) {
+        Ok(request) => {
+            let stamp = request.stamp;
+            let reply = core.step(arena, stamp.now, stamp.session, request.event);
+            say(alloc, &reply)
+        }
+        Err(fault) => say_fault(alloc, fault),
+    }
+}
+
+// The database that a header opens, None where it is refused, and the answer to it.
+fn open(alloc: Global, line: &[u8]) -> Result<(Option<Core>, Answer), NoMemory>
+    ensures { IfOk result (λ r. Adds unopened line.now (reached r.0) (bytes_of r.1)) }
+{
+    match read_header(alloc, line) {
+        Ok(rules) => {
+            let answer = written(write_accepted(alloc, rules.count())?)?;
+            Ok((Some(Core::new(alloc, rules, None)), answer))
+        }
+        Err(HeaderFault::Line(fault)) => Ok((None, say_fault(alloc, fault)?)),
+        Err(HeaderFault::Rules(fault)) => Ok((None, say_rules_fault(alloc, &fault)?)),
+    }
+}
+
+#[tactic(auto, using(crate::proofs::Fixed::no_memory_of_reply))]
+fn say(alloc: Global, reply: &Reply) -> Result<Answer, NoMemory>
+    ensures { IfOk result (λ answer. bytes_of answer ≡ as_line (text reply.now)) }
+{
+    match reply {
+        Reply::Done => Ok(Answer::Done),
+        Reply::Refused(Refusal::NoMemory) => Ok(Answer::NoMemory),
+        _ => written(write_reply(alloc, reply)?),
+    }
+}
+
+fn say_fault(alloc: Global, fault: MessageFault) -> Result<Answer, NoMemory>
+    ensures { IfOk result (λ answer. bytes_of answer ≡ as_line (fault_text fault)) }
+{
+    match fault {
+        MessageFault::NoMemory => Ok(Answer::NoMemory),
+        _ => written(write_fault(alloc, fault)?),
+    }
+}
+
+#[tactic(auto, using(crate::proofs::Fixed::no_memory_of_rules))]
+fn say_rules_fault(alloc: Global, fault: &RulesFault) -> Result<Answer, NoMemory>
+    ensures { IfOk result (λ answer. bytes_of answer ≡ as_line (rules_fault_text fault.now)) }
+{
+    match fault {
+        RulesFault::NoMemory => Ok(Answer::NoMemory),
+        _ => written(write_rules_fault(alloc, fault)?),
+    }
+}
+
+// The answer of a text, which gets its line feed.
+fn written(mut text: Vec<u8>) -> Result<Answer, NoMemory>
+    ensures { IfOk result (λ answer. bytes_of answer ≡ as_line text.items) }
+{
+    text.push(b'\n')?;
+    Ok(Answer::Written(text))
+}
+
+#[tactic(auto, using(crate::proofs::Fixed::done_is))]
+fn done_line() -> &'static [u8]
+    ensures { result.now ≡ as_line (text replies.Done) }
+{
+    b"{\"ok\":true}\n"
+}
+
+#[tactic(auto, using(crate::proofs::Fixed::no_memory_is))]
+fn no_memory_line() -> &'static [u8]
+    ensures { result.now ≡ as_line (fault_text message_faults.NoMemory) }
+{
+    b"{\"code\":601,\"name\":\"NoMemory\",\"ok\":false}\n"
+}

@@ -1,0 +1,254 @@
+//! A script: a header and then requests, one to a line, each answered by a line.
+ghost use Rattle.std.specs.Prelude.{◌≡◌, ℕ, ◌<◌, ◌++◌, ◌∷◌, [], Bool, false, List, length, vec_len, IfOk, IfErr, OnOk, IfSome, IfNone, Option};
+ghost use Rattle.std.specs.Io.KnownBytes.{Appends, Consumes};
+ghost use Rattle.sessions.specs.Lines.{told};
+ghost use Rattle.sessions.specs.Said.{Stands};
+ghost use Rattle.sessions.specs.Parts.{Holds, IsPlain};
+ghost use Rattle.sessions.specs.Follow.{phase_of, Goes, LineStops, IsAfter, FeedStops, Halts, Sends};
+ghost use Rattle.sessions.specs.Ends.{Ends};
+
+use crate::desk::{Desk, Stop};
+use crate::line::{Line, is_blank};
+use crate::stream::{Sink, Source};
+use bumpalo::Bump;
+use json_tree::NoMemory;
+use memchr::memchr;
+use std::alloc::Global;
+
+/// How many bytes are read at a time, 64 KiB: most lines lie whole within a block, and are answered
+/// from it.
+const BLOCK_BYTES: usize = 65_536;
+
+/// How many reads are made at most, 2^40, since each loop is to end.
+const MAX_READS: u64 = 1_099_511_627_776;
+
+/// How a script ended.
+#[derive(Clone, Copy, Debug, PartialEq, Eq)]
+pub enum ScriptEnd {
+    /// All its lines are answered.
+    Finished,
+    /// Its header was refused.
+    BadHeader,
+    /// A read failed, or 2^40 were made. A line that was not complete has no answer.
+    ReadFault,
+    /// A write failed.
+    WriteFault,
+    /// Memory was wanted, for a line or for the text of its answer.
+    NoMemory,
+}
+
+/// A script that is being read: the line that is not complete yet, and the desk where complete ones
+/// are answered.
+#[derive(Drop)]
+struct Script {
+    line: Line,
+    desk: Desk,
+}
+
+impl Script {
+    fn new(alloc: Global) -> Result<Script, NoMemory>
+        ensures { IfOk result (λ script. IsAfter script [] []) }
+    {
+        let desk = Desk::new(alloc)?;
+        Ok(Script {
+            line: Line::new(alloc),
+            desk,
+        })
+    }
+
+    // Answers the line that is held, and begins the next.
+    fn end_line<W: Sink>(&mut self, sink: &mut W, arena: &mut Bump) -> Result<(), Stop>
+        ensures ok { (lines : List (List ℕ)) (line sent : List ℕ)
+            → Holds self.old.line.kept.items self.old.line.blank line
+            → Stands (told lines) (phase_of self.old.desk.machine) (sent ++ self.old.desk.outgoing.bytes.items)
+            → OnOk result (Goes (lines ++ line ∷ []) (phase_of self.new.desk.machine) (W.written sink.old) (W.written sink.new) sent self.new.desk.outgoing.bytes.items) }
+        ensures next { OnOk result (Holds self.new.line.kept.items self.new.line.blank []) }
+        ensures err { (lines : List (List ℕ)) (line sent : List ℕ)
+            → Holds self.old.line.kept.items self.old.line.blank line
+            → Stands (told lines) (phase_of self.old.desk.machine) (sent ++ self.old.desk.outgoing.bytes.items)
+            → IfErr result (λ stop. LineStops stop (W.written sink.old) (W.written sink.new) (W.failed sink.new)
+            self.new.desk.outgoing.bytes.items lines line sent) }
+    {
+        match self
+            .desk
+            .answer(sink, arena, &self.line.kept, self.line.blank)
+        {
+            Ok(()) => {
+                self.line.clear();
+                Ok(())
+            }
+            Err(stop) => Err(stop),
+        }
+    }
+
+    // Takes the end of a line, without its line feed, and answers the line: from where it lies, if
+    // nothing of it is held.
+    fn take_line<W: Sink>(
+        &mut self,
+        sink: &mut W,
+        arena: &mut Bump,
+        part: &[u8],
+    ) -> Result<(), Stop>
+        requires { IsPlain part.now }
+        ensures ok { (taken sent : List ℕ)
+            → IsAfter self.old taken sent
+            → OnOk result ((more : List ℕ) × Appends (W.written sink.old) (W.written sink.new) more
+            × IsAfter self.new (taken ++ (part.now ++ 10 ∷ [])) (sent ++ more)) }
+        ensures err { (taken sent : List ℕ)
+            → IsAfter self.old taken sent
+            → IfErr result (λ stop. FeedStops stop (W.written sink.old) (W.written sink.new) (W.failed sink.new)
+            self.new.desk.outgoing.bytes.items (taken ++ (part.now ++ 10 ∷ [])) sent) }
+    {
+        if self.line.is_empty() {
+            return match self.desk.answer(sink, arena, part, is_blank(part)) {
+                Ok(()) => Ok(()),
+                Err(stop) => Err(stop),
+            };
+        }
+        match self.line.add(part) {
+            Ok(()) => {}
+            Err(_) => return Err(Stop::NoMemory),
+        }
+        match self.end_line(sink, arena) {
+            Ok(()) => Ok(()),
+            Err(stop) => Err(stop),
+        }
+    }
+
+    // Takes the next piece of the input, and answers each line that ends in it.
+    fn feed<W: Sink>(&mut self, sink: &mut W, arena: &mut Bump, piece: &[u8]) -> Result<(), Stop>
+        ensures ok { (taken sent : List ℕ)
+            → IsAfter self.old taken sent
+            → OnOk result ((more : List ℕ) × Appends (W.written sink.old) (W.written sink.new) more
+            × IsAfter self.new (taken ++ piece.now) (sent ++ more)) }
+        ensures err { (taken sent : List ℕ)
+            → IsAfter self.old taken sent
+            → IfErr result (λ stop. FeedStops stop (W.written sink.old) (W.written sink.new) (W.failed sink.new)
+            self.new.desk.outgoing.bytes.items (taken ++ piece.now) sent) }
+    {
+        let mut rest = piece;
+        while let Some((part, after)) = split_line(rest) {
+            match self.take_line(sink, arena, part) {
+                Ok(()) => {}
+                Err(stop) => return Err(stop),
+            }
+            rest = after;
+        }
+        match self.line.add(rest) {
+            Ok(()) => Ok(()),
+            Err(_) => Err(Stop::NoMemory),
+        }
+    }
+
+    // Reads and answers, up to the end of the input, a fault, or 2^40 reads.
+    fn read_all<R: Source, W: Sink>(
+        &mut self,
+        source: &mut R,
+        sink: &mut W,
+        arena: &mut Bump,
+        block: &mut [u8],
+    ) -> ScriptEnd
+        requires unread { R.reads source.old ≡ 0 }
+        requires room { 0 < length block.old }
+        requires begins { IsAfter self.old [] [] }
+        ensures { (taken sent : List ℕ) × Consumes (R.left source.old) (R.left source.new) taken
+            × Appends (W.written sink.old) (W.written sink.new) sent
+            × Halts result (R.left source.new) (R.failed source.new) (R.reads source.new) (W.failed sink.new) self.new taken sent }
+    {
+        for _made in 0..MAX_READS {
+            match source.read(block) {
+                Ok(0) => return ScriptEnd::Finished,
+                Ok(count) => match self.feed(sink, arena, &block[..count]) {
+                    Ok(()) => {}
+                    Err(Stop::BadHeader) => return ScriptEnd::BadHeader,
+                    Err(Stop::WriteFault) => return ScriptEnd::WriteFault,
+                    Err(Stop::NoMemory) => return ScriptEnd::NoMemory,
+                },
+                Err(_) => return ScriptEnd::ReadFault,
+            }
+        }
+        ScriptEnd::ReadFault
+    }
+
+    // Writes what is kept of the answers, and ends so if that succeeds.
+    fn send<W: Sink>(&mut self, sink: &mut W, end: ScriptEnd) -> ScriptEnd
+        ensures { Sends end result (W.written sink.old) (W.written sink.new) (W.failed sink.new) self.old.desk.outgoing.bytes.items }
+    {
+        match self.desk.outgoing.send(sink) {
+            Ok(()) => match sink.flush() {
+                Ok(()) => end,
+                Err(_) => ScriptEnd::WriteFault,
+            },
+            Err(_) => ScriptEnd::WriteFault,
+        }
+    }
+
+    // Answers a last line that has no line feed, where the input is at its end, and writes what is
+    // kept of the answers.
+    fn finish<W: Sink>(&mut self, sink: &mut W, arena: &mut Bump, end: ScriptEnd) -> ScriptEnd
+        ensures { (taken sent : List ℕ) (left : Option (List ℕ)) (source_failed : Bool) (reads : ℕ)
+            → Halts end left source_failed reads (W.failed sink.old) self.old taken sent
+            → (more : List ℕ) × Appends (W.written sink.old) (W.written sink.new) more
+            × Ends result taken left source_failed reads (W.failed sink.new) (sent ++ more) }
+    {
+        match end {
+            ScriptEnd::Finished => match self.end_line(sink, arena) {
+                Ok(()) => self.send(sink, ScriptEnd::Finished),
+                Err(Stop::BadHeader) => self.send(sink, ScriptEnd::BadHeader),
+                Err(Stop::WriteFault) => ScriptEnd::WriteFault,
+                Err(Stop::NoMemory) => self.send(sink, ScriptEnd::NoMemory),
+            },
+            ScriptEnd::BadHeader => self.send(sink, ScriptEnd::BadHeader),
+            ScriptEnd::ReadFault => self.send(sink, ScriptEnd::ReadFault),
+            ScriptEnd::NoMemory => self.send(sink, ScriptEnd::NoMemory),
+            ScriptEnd::WriteFault => ScriptEnd::WriteFault,
+        }
+    }
+}
+
+/// Runs a script: reads its header and its requests from the source, and writes their answers to the
+/// sink, which has them when the script ends or 64 KiB of them are kept. It takes 128 KiB for what is
+/// read and written, up to about 1 MiB for a line that is cut by the end of a block, and what each
+/// line needs; each step is handed the arena. A sink that has failed is written to no more.
+pub fn run_script<R: Source, W: Sink>(
+    alloc: Global,
+    source: &mut R,
+    sink: &mut W,
+    arena: &mut Bump,
+) -> ScriptEnd
+    requires unread { R.reads source.old ≡ 0 }
+    requires source { R.failed source.old ≡ false }
+    requires sink { W.failed sink.old ≡ false }
+    ensures { (taken out : List ℕ) × Consumes (R.left source.old) (R.left source.new) taken
+        × Appends (W.written sink.old) (W.written sink.new) out
+        × Ends result taken (R.left source.new) (R.failed source.new) (R.reads source.new) (W.failed sink.new) out }
+{
+    let mut block = match new_block(alloc) {
+        Ok(block) => block,
+        Err(_) => return ScriptEnd::NoMemory,
+    };
+    let mut script = match Script::new(alloc) {
+        Ok(script) => script,
+        Err(_) => return ScriptEnd::NoMemory,
+    };
+    let end = script.read_all(source, sink, arena, &mut block);
+    script.finish(sink, arena, end)
+}
+
+// Room for a read. Callers see that there is some, and not the zeros in it.
+fn new_block(alloc: Global) -> Result<Vec<u8>, NoMemory>
+    ensures { IfOk result (λ block. 0 < vec_len block) }
+{
+    Ok(vec![in alloc; 0u8; BLOCK_BYTES]?)
+}
+
+// The first line of a text, without its line feed, and what comes after that.
+fn split_line(text: &[u8]) -> Option<(&[u8], &[u8])>
+    ensures some { IfSome result (λ p. IsPlain p.0.now × (text.now ≡ p.0.now ++ 10 ∷ p.1.now)) }
+    ensures none { IfNone result (IsPlain text.now) }
+{
+    match memchr(b'\n', text) {
+        Some(n) => Some((&text[..n], &text[n + 1..])),
+        None => None,
+    }
+}
