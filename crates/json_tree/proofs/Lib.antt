@@ -1,6 +1,7 @@
 pub mod Limits
 pub mod Lists
 pub mod Nodes
+pub mod Shares
 pub mod Places
 pub mod Sizes
 pub mod Counting

@@ -1,5 +1,6 @@
 -- What holds of the tree that a node is seen as.
-use Rattle.std.proofs.Common.{◌≡◌, ◌≢◌, ◌≤◌, ◌<◌, Vec, Global, sym, ap, ◌∙◌, subst}
+use Rattle.std.proofs.Common.{◌≡◌, ◌≢◌, ◌≤◌, ◌<◌, List, Vec, Global, sym, ap, ◌∙◌, subst}
+use Rattle.std.specs.List.{All}
 use Rattle.tree_model.specs.declared.limits.TheConstants.{MAX_DEPTH}
 use Rattle.tree_model.specs.Key.{Key}
 use Rattle.tree_model.specs.PathMap.{depth}
@@ -10,10 +11,10 @@ use Rattle.tree_model.proofs.Grafts.{lone≢null, graft≢null}
 use Rattle.tree_model.proofs.Lawful.{path_length}
 use Rattle.json_tree.specs.declared.leaf.Leaf.{Leaf}
 use Rattle.json_tree.specs.Leaf.{primitive_of}
-use Rattle.json_tree.specs.Node.{tree_of, IsKind, MayBeChildren}
+use Rattle.json_tree.specs.Node.{tree_of, IsKind, AreLawfulChildren}
 use Rattle.json_tree.specs.declared.node.Kind.{Kind}
 use Rattle.json_tree.specs.declared.node.Kind.TheVariants.{Primitive, Parent}
-use Rattle.json_tree.proofs.Lists.{weaker}
+use Rattle.json_tree.proofs.Lists.{weaker, all_from_recursion}
 
 pub kind≢null : (k : Kind) → IsKind k → tree_of k ≢ null
 kind≢null (Primitive leaf) h = lone≢null (primitive_of leaf)
@@ -32,9 +33,8 @@ at_parent view_is is = sym view_is ∙ ap tree_of is
 pub parts_at_parent : {k : Kind} {cs : Vec (Key × Tree) Global} → IsKind k → k ≡ Parent cs → IsKind (Parent cs)
 parts_at_parent h is = subst IsKind is h
 
--- the children of a node may become a node's children
-pub may_be_children : {k : Kind} {cs : Vec (Key × Tree) Global} → IsKind k → k ≡ Parent cs → MayBeChildren cs.items
-may_be_children {cs = cs} h is =
-    let parts = parts_at_parent h is in
+-- lawful children leave room for their keys
+pub room_of : (cs : List (Key × Tree)) → AreLawfulChildren cs → All (λ c. depth c.1 < MAX_DEPTH) cs
+room_of cs h =
     let F : Key × Tree → Type 0 = λ c. depth c.1 < MAX_DEPTH in
-    record { some = parts.0.some; ascending = parts.0.ascending; room = weaker IsLawfulChild F (λ c lawful. lawful.depth) cs.items parts.1 }
+    all_from_recursion F cs (weaker IsLawfulChild F (λ c lawful. lawful.depth) cs h.1)

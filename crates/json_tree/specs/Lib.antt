@@ -1,5 +1,6 @@
 pub mod Leaf
 pub mod Node
+pub mod Share
 pub mod NodeFalls
 pub mod Json
 pub mod Levels

@@ -1,9 +1,7 @@
 -- What a node is seen as, and what holds of its parts.
-use Rattle.std.specs.Prelude.{◌≡◌, ◌≢◌, ℕ, ◌-◌, ◌^◌, ◌<◌, min, List, [], true}
+use Rattle.std.specs.Prelude.{◌≡◌, ℕ, ◌-◌, ◌^◌, min, List}
 use Rattle.std.specs.List.{AllByRecursion}
-use Rattle.std.specs.FinMap.{is_sorted}
-use Rattle.tree_model.specs.declared.limits.TheConstants.{MAX_DEPTH}
-use Rattle.tree_model.specs.Key.{Key, key_cmp}
+use Rattle.tree_model.specs.Key.{Key}
 use Rattle.tree_model.specs.PathMap.{depth}
 use Rattle.tree_model.specs.Tree.{Tree, lone, count, IsLawful}
 use Rattle.tree_model.specs.Children.{graft, AreChildren, IsLawfulChild}
@@ -15,16 +13,14 @@ abbrev pub tree_of : Kind → Tree
 tree_of (Primitive leaf) = lone (primitive_of leaf)
 tree_of (Parent children) = graft children.items
 
--- children may stand together, and each is lawful below its key
+-- children that may stand together, each lawful below its key
+abbrev pub AreLawfulChildren : List (Key × Tree) → Type 0
+AreLawfulChildren cs = AreChildren cs × AllByRecursion IsLawfulChild cs
+
+-- a leaf, or lawful children
 abbrev pub IsKind : Kind → Type 0
 IsKind (Primitive leaf) = Unit {0}
-IsKind (Parent children) = AreChildren children.items × AllByRecursion IsLawfulChild children.items
-
--- these may become a node's children: there is one, their keys strictly ascend, and each leaves room for its key
-pub record MayBeChildren (cs : List (Key × Tree)) : Type 0 where
-  pub some : cs ≢ []
-  pub ascending : is_sorted key_cmp cs ≡ true
-  pub room : AllByRecursion (λ c. depth c.1 < MAX_DEPTH) cs
+IsKind (Parent children) = AreLawfulChildren children.items
 
 -- the parts of a node: its kind, and beside it the depth and the count of its tree, the count up to the greatest `usize`
 pub record IsNode (kind : Kind) (deep many : ℕ) : Type 0 where

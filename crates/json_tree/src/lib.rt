@@ -12,6 +12,7 @@ mod leaf;
 mod memory;
 mod node;
 mod puts;
+mod share;
 
 pub use json::{ValueFault, from_json, to_json};
 pub use json_laws::{what_a_tree_is_written_as, what_is_written_is_read_back};

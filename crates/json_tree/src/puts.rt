@@ -1,23 +1,26 @@
 //! Puts in place: one location of a stored tree is written, and memory is taken before anything
 //! changes.
-ghost use Rattle.std.specs.Prelude.{◌≡◌, ◌+◌, ◌<◌, ◌≤◌, ◌∷◌, [], length, unwrap_or, IfOk, OnOk, OnErr};
+ghost use Rattle.std.specs.Prelude.{◌≡◌, ◌+◌, ◌<◌, ◌≤◌, ◌∷◌, [], length, unwrap_or, IfOk, IfSome, OnSome, IfNone, OnOk, OnErr};
 ghost use Rattle.std.specs.Bool.{OnTrue, OnFalse};
 ghost use Rattle.tree_model.specs.PathMap.{depth};
 ghost use Rattle.tree_model.specs.Tree.{null};
 ghost use Rattle.tree_model.specs.Children.{graft};
 ghost use Rattle.tree_model.specs.Write.{proposed};
-ghost use Rattle.json_tree.specs.Node.{MayBeChildren};
+ghost use Rattle.json_tree.specs.Node.{AreLawfulChildren};
+ghost use Rattle.json_tree.specs.Share.{Exchanges};
 
 use crate::key::Key;
 use crate::memory::NoMemory;
-use crate::node::{Kind, Node, place_of, sizes_of};
+use crate::node::{Kind, Node, place_of};
+use crate::share::{Exchange, NO_EXCHANGE, NO_SHARE, share_of, sizes_after};
 use std::alloc::Global;
 use tree_model::MAX_DEPTH;
 
 /// Puts a tree at a path of a stored tree, or removes what is there, in place. Memory is taken only
 /// for what is new, and before anything changes: at an `Err` nothing has changed. It takes one step
-/// down for each key and one pass over the children at each of them: d · w for d keys and w children,
-/// beside what is written.
+/// down for each key, log w of w children each, beside what is written, and where a child is new or
+/// goes the places behind it: d · w at most. The children of a node are counted anew only where its
+/// deepest child was replaced by one less deep and no other is as deep.
 pub fn put(
     alloc: Global,
     tree: &mut Option<Node>,
@@ -79,8 +82,8 @@ fn insert(alloc: Global, node: &mut Node, path: &[Key], value: Node) -> Result<(
                 Ok(())
             }
             Kind::Parent(children) => {
-                insert_below(alloc, children, key, rest, value)?;
-                let (depth, count) = sizes_of(children);
+                let exchange = insert_below(alloc, children, key, rest, value)?;
+                let (depth, count) = sizes_after(children, node.depth, node.count, exchange);
                 node.depth = depth;
                 node.count = count;
                 Ok(())
@@ -97,20 +100,30 @@ fn insert_below(
     key: &Key,
     rest: &[Key],
     value: Node,
-) -> Result<(), NoMemory>
-    requires children { MayBeChildren children.old.items }
+) -> Result<Exchange, NoMemory>
+    requires children { AreLawfulChildren children.old.items }
     requires room { length rest.now + depth value < MAX_DEPTH }
-    ensures children { MayBeChildren children.new.items }
+    ensures children { AreLawfulChildren children.new.items }
+    ensures exchange { IfOk result (λ exchange. Exchanges children.old.items children.new.items exchange) }
     ensures ok { OnOk result (graft children.new.items
         ≡ proposed (graft children.old.items) ((key.now ∷ rest.now, value) ∷ [])) }
     ensures err { OnErr result (children.new.items ≡ children.old.items) }
 {
     match place_of(children, key.text()) {
-        Ok(place) => insert(alloc, &mut children[place].1, rest, value),
+        Ok(place) => {
+            let before = share_of(&children[place].1);
+            insert(alloc, &mut children[place].1, rest, value)?;
+            let after = share_of(&children[place].1);
+            Ok(Exchange { before, after })
+        }
         Err(place) => {
             let below = chain(alloc, rest, value)?;
+            let after = share_of(&below);
             children.insert(place, (key.copy(alloc)?, below))?;
-            Ok(())
+            Ok(Exchange {
+                before: NO_SHARE,
+                after,
+            })
         }
     }
 }
@@ -158,10 +171,10 @@ fn remove(node: &mut Node, path: &[Key]) -> bool
         [key, rest @ ..] => match &mut node.kind {
             Kind::Primitive(_) => false,
             Kind::Parent(children) => {
-                if remove_below(children, key, rest) {
+                let Some(exchange) = remove_below(children, key, rest) else {
                     return true;
-                }
-                let (depth, count) = sizes_of(children);
+                };
+                let (depth, count) = sizes_after(children, node.depth, node.count, exchange);
                 node.depth = depth;
                 node.count = count;
                 false
@@ -170,29 +183,36 @@ fn remove(node: &mut Node, path: &[Key]) -> bool
     }
 }
 
-// Removes what is at a path below the child of a key. True where no child is left.
+// Removes what is at a path below the child of a key. None where no child is left, and then they are
+// as they were.
 #[cycle(remove)]
-fn remove_below(children: &mut Vec<(Key, Node)>, key: &Key, rest: &[Key]) -> bool
-    requires { MayBeChildren children.old.items }
-    ensures children { MayBeChildren children.new.items }
-    ensures gone { OnTrue result
+fn remove_below(children: &mut Vec<(Key, Node)>, key: &Key, rest: &[Key]) -> Option<Exchange>
+    requires { AreLawfulChildren children.old.items }
+    ensures children { AreLawfulChildren children.new.items }
+    ensures exchange { IfSome result (λ exchange. Exchanges children.old.items children.new.items exchange) }
+    ensures gone { IfNone result
         (proposed (graft children.old.items) ((key.now ∷ rest.now, null) ∷ []) ≡ null) }
-    ensures same { OnTrue result (children.new.items ≡ children.old.items) }
-    ensures left { OnFalse result (graft children.new.items
+    ensures same { IfNone result (children.new.items ≡ children.old.items) }
+    ensures left { OnSome result (graft children.new.items
         ≡ proposed (graft children.old.items) ((key.now ∷ rest.now, null) ∷ [])) }
 {
     match place_of(children, key.text()) {
         Ok(place) => {
+            let before = share_of(&children[place].1);
             if !remove(&mut children[place].1, rest) {
-                return false;
+                let after = share_of(&children[place].1);
+                return Some(Exchange { before, after });
             }
             let is_only_child = children.len() == 1;
             if is_only_child {
-                return true;
+                return None;
             }
             children.remove(place);
-            false
+            Some(Exchange {
+                before,
+                after: NO_SHARE,
+            })
         }
-        Err(_) => false,
+        Err(_) => Some(NO_EXCHANGE),
     }
 }

@@ -64,9 +64,8 @@ impl Core {
     }
 
     /// Answers one event of a session, at a moment in milliseconds since 1970. Reading costs one
-    /// step for each key of the path, log w of w children each, and the answer; writing one step
-    /// for each key, w of w children each, and what is written. The arena is for what one event
-    /// needs, and nothing needs it yet.
+    /// step for each key of the path, log w of w children each, and the answer; writing the same,
+    /// and what is written. The arena is for what one event needs, and nothing needs it yet.
     pub fn step(&mut self, arena: &mut Bump, now: u64, session: u64, event: Event) -> Reply
         requires { now ≤ MAX_MOMENT }
         ensures { Step self.old now session event result self.new }

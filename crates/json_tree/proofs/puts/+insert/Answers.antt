@@ -1,20 +1,20 @@
-use Rattle.std.proofs.Common.{◌<◌, ◌∷◌, [], length, sym, ap, ◌∙◌, subst, arith}
+use Rattle.std.proofs.Common.{◌≢◌, ◌<◌, ◌∷◌, [], length, sym, ap, ◌∙◌, subst, refl, arith}
 use Rattle.std.specs.List.{insert}
 use Rattle.std.proofs.lemmas.List.{nil_from_length}
-use Rattle.std.proofs.lemmas.Result.{IfOk-weaker}
 use Rattle.tree_model.specs.declared.limits.TheConstants.{MAX_DEPTH}
-use Rattle.tree_model.specs.Key.{Key}
+use Rattle.tree_model.specs.Key.{Key, is_key}
 use Rattle.tree_model.specs.PathMap.{depth}
-use Rattle.tree_model.specs.Tree.{Tree, null}
+use Rattle.tree_model.specs.Tree.{Tree, null, IsLawful}
 use Rattle.tree_model.specs.Children.{graft}
 use Rattle.tree_model.specs.Write.{proposed}
 use Rattle.tree_model.proofs.Lawful.{IsLawful-graft}
 use Rattle.json_tree.specs.Leaf.{primitive_of}
-use Rattle.json_tree.specs.Node.{MayBeChildren}
-use Rattle.json_tree.proofs.Nodes.{at_primitive, may_be_children}
+use Rattle.json_tree.specs.Node.{AreLawfulChildren}
+use Rattle.json_tree.proofs.Nodes.{at_primitive, parts_at_parent}
 use Rattle.json_tree.proofs.Edits.{first_and_rest}
 use Rattle.json_tree.proofs.Proposing.{proposed-root, proposed-lone, depth-chain, room_after}
 use Rattle.json_tree.proofs.ChildEdits.{StandsAt, depth_there, children-set, graft-set, missing_at, children-insert, graft-insert}
+use Rattle.json_tree.proofs.Shares.{IsShareOf, size_of_node, set_there, exchanges-set, exchanges-insert}
 use Rattle.json_tree.proofs.puts.+insert.Goals as goal
 
 -- ---- a node
@@ -22,12 +22,16 @@ use Rattle.json_tree.proofs.puts.+insert.Goals as goal
 pub insert-insert_below-requires : goal.insert-insert_below-requires
 insert-insert_below-requires t c =
     let long = ap length (first_and_rest c.args.path.now c.key-item.result (omega arith) c.key-item.is) in
-    (omega arith, (may_be_children c.node.invariant.parts c.in-Parent.is, omega arith))
+    (omega arith, (parts_at_parent c.node.invariant.parts c.in-Parent.is, omega arith))
+
+pub insert-sizes_after-depth-requires-clause-sizes : goal.insert-sizes_after-depth-requires-clause-sizes
+insert-sizes_after-depth-requires-clause-sizes t c = (c.in-Parent.children.items, size_of_node c.node.invariant c.in-Parent.is, c.in_ok-exchange-in-Parent.ensures.exchange)
 
 pub insert-invariant_of-node-in-Parent : goal.insert-invariant_of-node-in-Parent
 insert-invariant_of-node-in-Parent t c =
-    let sizes = c.sizes_of-depth.ensures in
-    record { parts = (sizes.children, sizes.lawful); lawful = IsLawful-graft _ sizes.children.ascending sizes.lawful; depth = sizes.depth; count = sizes.count }
+    let children = c.in_ok-exchange-in-Parent.ensures.children in
+    let sizes = c.sizes_after-depth.ensures in
+    record { parts = children; lawful = IsLawful-graft _ children.0.ascending children.1; depth = sizes.depth; count = sizes.count }
 
 pub insert-returns-in-empty-clause-ok : goal.insert-returns-in-empty-clause-ok
 insert-returns-in-empty-clause-ok t c =
@@ -47,19 +51,32 @@ insert-returns-in_ok-node-inside-in-Primitive-clause-ok t c =
 
 -- ---- its children
 
-pub insert_below-returns-in-Ok-clause-children : goal.insert_below-returns-in-Ok-clause-children
-insert_below-returns-in-Ok-clause-children t c =
-    let d : Key × Tree = c.index_mut.result.now in
-    let found : StandsAt c.args.children.now.items c.in-Ok.place d c.text.result.now = record { children = c.requires.children; within = c.in-Ok.ensures.bound; at = c.index_mut.ensures.value; tied = c.in-Ok.ensures.position d } in
-    children-set found c.insert.new.node (room_after c.insert.result d.1 c.insert.new.node c.args.rest.now c.args.value c.insert.ensures.ok c.insert.ensures.err (depth_there found) c.requires.room)
-
-pub insert_below-returns-in-Ok-clause-ok : goal.insert_below-returns-in-Ok-clause-ok
-insert_below-returns-in-Ok-clause-ok t c =
+pub insert_below-returns-in_ok-insert-in-Ok-clause-children : goal.insert_below-returns-in_ok-insert-in-Ok-clause-children
+insert_below-returns-in_ok-insert-in-Ok-clause-children t c =
     let cs = c.args.children.now.items in
     let d : Key × Tree = c.index_mut.result.now in
     let found : StandsAt cs c.in-Ok.place d c.text.result.now = record { children = c.requires.children; within = c.in-Ok.ensures.bound; at = c.index_mut.ensures.value; tied = c.in-Ok.ensures.position d } in
     let room = room_after c.insert.result d.1 c.insert.new.node c.args.rest.now c.args.value c.insert.ensures.ok c.insert.ensures.err (depth_there found) c.requires.room in
-    IfOk-weaker c.insert.result _ _ (λ _ is. graft-set found c.args.rest.now c.insert.new.node c.args.value room is ∙ ap (λ k. proposed (graft cs) ((k ∷ c.args.rest.now, c.args.value) ∷ [])) c.text.ensures.bytes) c.insert.ensures.ok
+    let after = set_there cs c.in-Ok.place (d.0, c.insert.new.node) c.index-in-Ok.result.now c.in-Ok.ensures.bound c.index-in-Ok.ensures in
+    children-set found c.insert.new.node (subst (λ (x : Key × Tree). x.1 ≢ null) after c.share_of-after.ensures.some) (subst (λ (x : Key × Tree). IsLawful x.1) after c.share_of-after.ensures.lawful) room
+
+pub insert_below-returns-in_ok-insert-in-Ok-clause-exchange : goal.insert_below-returns-in_ok-insert-in-Ok-clause-exchange
+insert_below-returns-in_ok-insert-in-Ok-clause-exchange t c =
+    let cs = c.args.children.now.items in
+    let d : Key × Tree = c.index_mut.result.now in
+    let after = set_there cs c.in-Ok.place (d.0, c.insert.new.node) c.index-in-Ok.result.now c.in-Ok.ensures.bound c.index-in-Ok.ensures in
+    let before = c.share_of-before.ensures in
+    let later = c.share_of-after.ensures in
+    exchanges-set cs c.in-Ok.place _ c.index.result.now d.0 c.insert.new.node c.in-Ok.ensures.bound c.index.ensures
+    (record { depth = before.depth; count = before.count })
+    (subst (λ (x : Key × Tree). IsShareOf x.1 c.share_of-after.result.depth c.share_of-after.result.count) after (record { depth = later.depth; count = later.count }))
+
+pub insert_below-returns-in_ok-insert-in-Ok-clause-ok : goal.insert_below-returns-in_ok-insert-in-Ok-clause-ok
+insert_below-returns-in_ok-insert-in-Ok-clause-ok t c =
+    let cs = c.args.children.now.items in
+    let d : Key × Tree = c.index_mut.result.now in
+    let found : StandsAt cs c.in-Ok.place d c.text.result.now = record { children = c.requires.children; within = c.in-Ok.ensures.bound; at = c.index_mut.ensures.value; tied = c.in-Ok.ensures.position d } in
+    graft-set found c.args.rest.now c.insert.new.node c.args.value c.in_ok-insert-in-Ok.ensures.ok ∙ ap (λ k. proposed (graft cs) ((k ∷ c.args.rest.now, c.args.value) ∷ [])) c.text.ensures.bytes
 
 pub insert_below-returns-in_ok-insert-in-Err-clause-children : goal.insert_below-returns-in_ok-insert-in-Err-clause-children
 insert_below-returns-in_ok-insert-in-Err-clause-children t c =
@@ -70,7 +87,14 @@ insert_below-returns-in_ok-insert-in-Err-clause-children t c =
     let deep = depth-chain below c.args.rest.now c.args.value c.in_ok-below-in-Err.ensures in
     let within = c.requires.room in
     let room : depth below < MAX_DEPTH = omega arith in
-    subst MayBeChildren (sym items) (children-insert missing below room)
+    let share = c.share_of-after-in-Err.ensures in
+    subst AreLawfulChildren (sym items) (children-insert missing below (ap is_key c.text.ensures.bytes ∙ c.text.ensures.lawful) share.some share.lawful room)
+
+pub insert_below-returns-in_ok-insert-in-Err-clause-exchange : goal.insert_below-returns-in_ok-insert-in-Err-clause-exchange
+insert_below-returns-in_ok-insert-in-Err-clause-exchange t c =
+    let cs = c.args.children.now.items in
+    let share = c.share_of-after-in-Err.ensures in
+    rw (c.in_ok-insert-in-Err.ensures.items) (exchanges-insert cs c.in-Err.place _ c.in_ok-copy-in-Err.field-0 c.in_ok-below-in-Err.below refl refl (record { depth = share.depth; count = share.count }))
 
 pub insert_below-returns-in_ok-insert-in-Err-clause-ok : goal.insert_below-returns-in_ok-insert-in-Err-clause-ok
 insert_below-returns-in_ok-insert-in-Err-clause-ok t c =
