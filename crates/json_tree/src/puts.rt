@@ -1,6 +1,6 @@
 //! Puts in place: one location of a stored tree is written, and memory is taken before anything
 //! changes.
-ghost use Rattle.std.specs.Prelude.{◌≡◌, ◌+◌, ◌<◌, ◌≤◌, ◌∷◌, [], length, unwrap_or, IfOk, OnOk, OnErr};
+ghost use Rattle.std.specs.Prelude.{◌≡◌, ◌+◌, ◌<◌, ◌≤◌, ◌∷◌, [], length, unwrap_or, IfOk, IsOk, IsNone, OnOk, OnErr};
 ghost use Rattle.std.specs.Bool.{OnTrue, OnFalse};
 ghost use Rattle.tree_model.specs.PathMap.{depth};
 ghost use Rattle.tree_model.specs.Tree.{null};
@@ -15,9 +15,9 @@ use std::alloc::Global;
 use tree_model::MAX_DEPTH;
 
 /// Puts a tree at a path of a stored tree, or removes what is there, in place. Memory is taken only
-/// for what is new, and before anything changes: at an `Err` nothing has changed. It takes one step
-/// down for each key and one pass over the children at each of them: d · w for d keys and w children,
-/// beside what is written.
+/// for what is new, and before anything changes: at an `Err` nothing has changed, and to remove takes
+/// none. It takes one step down for each key and one pass over the children at each of them: d · w for
+/// d keys and w children, beside what is written.
 pub fn put(
     alloc: Global,
     tree: &mut Option<Node>,
@@ -28,6 +28,7 @@ pub fn put(
     ensures ok { OnOk result (unwrap_or tree.new null
         ≡ proposed (unwrap_or tree.old null) ((path.now, unwrap_or value null) ∷ [])) }
     ensures err { OnErr result (tree.new ≡ tree.old) }
+    ensures removal { IsNone value → IsOk result }
 {
     match value {
         Some(node) => put_node(alloc, tree, path, node),
