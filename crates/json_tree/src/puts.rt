@@ -1,6 +1,6 @@
 //! Puts in place: one location of a stored tree is written, and memory is taken before anything
 //! changes.
-ghost use Rattle.std.specs.Prelude.{◌≡◌, ◌+◌, ◌<◌, ◌≤◌, ◌∷◌, [], length, unwrap_or, IfOk, IfSome, OnSome, IfNone, OnOk, OnErr};
+ghost use Rattle.std.specs.Prelude.{◌≡◌, ◌+◌, ◌<◌, ◌≤◌, ◌∷◌, [], length, unwrap_or, IfOk, IsOk, IsNone, IfSome, OnSome, IfNone, OnOk, OnErr};
 ghost use Rattle.std.specs.Bool.{OnTrue, OnFalse};
 ghost use Rattle.tree_model.specs.PathMap.{depth};
 ghost use Rattle.tree_model.specs.Tree.{null};
@@ -17,10 +17,10 @@ use std::alloc::Global;
 use tree_model::MAX_DEPTH;
 
 /// Puts a tree at a path of a stored tree, or removes what is there, in place. Memory is taken only
-/// for what is new, and before anything changes: at an `Err` nothing has changed. It takes one step
-/// down for each key, log w of w children each, beside what is written, and where a child is new or
-/// goes the places behind it: d · w at most. The children of a node are counted anew only where its
-/// deepest child was replaced by one less deep and no other is as deep.
+/// for what is new, and before anything changes: at an `Err` nothing has changed, and to remove takes
+/// none. It takes one step down for each key, log w of w children each, beside what is written, and
+/// where a child is new or goes, those behind it move: d · w at most. The children of a node are
+/// counted anew only where its deepest child became less deep and no other is as deep.
 pub fn put(
     alloc: Global,
     tree: &mut Option<Node>,
@@ -31,6 +31,7 @@ pub fn put(
     ensures ok { OnOk result (unwrap_or tree.new null
         ≡ proposed (unwrap_or tree.old null) ((path.now, unwrap_or value null) ∷ [])) }
     ensures err { OnErr result (tree.new ≡ tree.old) }
+    ensures removal { IsNone value → IsOk result }
 {
     match value {
         Some(node) => put_node(alloc, tree, path, node),

@@ -1,7 +1,7 @@
 //! A write: a location, and the tree that is put there.
-ghost use Rattle.std.specs.Prelude.{◌≡◌, ◌↔◌, ◌+◌, ◌≤◌, ◌<◌, ◌∷◌, [], length, option_map, IsErr, IfOk, IfErr, OnOk, OnErr};
+ghost use Rattle.std.specs.Prelude.{◌≡◌, ◌↔◌, ◌+◌, ◌≤◌, ◌<◌, ◌∷◌, [], length, option_map, IsOk, IsErr, IfOk, IfErr, OnOk, OnErr};
 ghost use Rattle.tree_model.specs.PathMap.{depth};
-ghost use Rattle.tree_model.specs.Tree.{non_null, IsLawful};
+ghost use Rattle.tree_model.specs.Tree.{null, non_null, IsLawful};
 ghost use Rattle.tree_model.specs.Write.{location, written, proposed, IsLawfulWrite};
 ghost use Rattle.path_capture.specs.Write.{tree_of};
 
@@ -80,12 +80,16 @@ impl Write {
     }
 
     /// Makes the write in a stored tree, in place: memory is taken only for what is new, and before
-    /// anything changes. At an `Err` nothing has changed.
+    /// anything changes. At an `Err` nothing has changed, and to remove takes none.
     pub fn make(self, alloc: Global, tree: &mut Option<Node>) -> Result<(), NoMemory>
         ensures ok { OnOk result (tree_of tree.new ≡ proposed (tree_of tree.old) (self ∷ [])) }
         ensures err { OnErr result (tree.new ≡ tree.old) }
+        ensures removal { written self ≡ null → IsOk result }
     {
         let Write { path, tree: value } = self;
+        if let Some(node) = &value {
+            node.is_there();
+        }
         put(alloc, tree, path.keys(), value)
     }
 }

@@ -143,9 +143,9 @@ fn build_children(
     Ok(children)
 }
 
-/// The rules of a rules file, in one pass over its bytes and one over its value; the rules do not
-/// borrow the bytes. (Guide "Core syntax"; the limits and what counts as one fault of many are this
-/// project's profile.)
+/// The rules of a rules file, in one pass over its bytes and a few over each object, with a copy of
+/// the pattern of each; the rules do not borrow the bytes. (Guide "Core syntax"; the limits and what
+/// counts as one fault of many are this project's profile.)
 pub fn compile(alloc: Global, bytes: &[u8]) -> Result<Rules, RulesFault>
     ensures accepted { IfOk result (States bytes.now) }
     ensures refused { IfErr result (Refuses bytes.now) }
