@@ -7,7 +7,7 @@ use path_capture::Pattern;
 use thiserror::Error;
 
 /// Why a text is no rules file: the first of these that applies, in this order, but for want of
-/// memory, which may come in the place of any.
+/// memory, which may come in the place of any, unless the text is too long.
 #[derive(Debug, Drop, Error)]
 pub enum RulesFault {
     /// The text has over 1,048,576 bytes, or is no JSON.

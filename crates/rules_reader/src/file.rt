@@ -1,5 +1,5 @@
 //! From the bytes of a rules file to its rules.
-ghost use Rattle.std.specs.Prelude.{◌≡◌, ◌++◌, [], ◌∷◌, ◌⊎◌, true, Some, None, option_map, option_and_then, codes, IfOk, OnOk, IfErr, IfSome};
+ghost use Rattle.std.specs.Prelude.{◌≡◌, ◌<◌, ◌++◌, [], ◌∷◌, ◌⊎◌, true, length, Some, None, option_map, option_and_then, codes, IfOk, OnOk, IfErr, IfSome, IsErrOf};
 ghost use Rattle.std.specs.List.{AllByRecursion};
 ghost use Rattle.std.specs.FinMap.{is_sorted};
 ghost use Rattle.serde_json.specs.View.{view, members_view};
@@ -26,6 +26,7 @@ use std::alloc::Global;
 fn read(alloc: Global, bytes: &[u8]) -> Result<Value, RulesFault>
     ensures ok { IfOk result (λ value. json_of bytes.now ≡ Some (view value)) }
     ensures err { IfErr result (λ fault. (fault ≡ RulesFault.NoMemory) ⊎ ((fault ≡ RulesFault.BadRulesJson) × (json_of bytes.now ≡ None))) }
+    ensures too_long { MAX_FILE_BYTES < length bytes.now → IsErrOf result RulesFault.BadRulesJson }
 {
     if bytes.len() > MAX_FILE_BYTES {
         return Err(RulesFault::BadRulesJson);
@@ -149,6 +150,7 @@ fn build_children(
 pub fn compile(alloc: Global, bytes: &[u8]) -> Result<Rules, RulesFault>
     ensures accepted { IfOk result (States bytes.now) }
     ensures refused { IfErr result (Refuses bytes.now) }
+    ensures too_long { MAX_FILE_BYTES < length bytes.now → IsErrOf result RulesFault.BadRulesJson }
 {
     let value = match read(alloc, bytes) {
         Ok(value) => value,
