@@ -19,7 +19,7 @@ use Rattle.path_capture.specs.Name.{is_name}
 use Rattle.rules_reader.specs.Part.{PartText, Pattern, is_capture, is_part}
 use Rattle.rules_reader.specs.File.{listed, is_object, objects, inner_objects, rule_set, book_of, is_sound, is_sound_member, faulty}
 use Rattle.rules_reader.specs.Inner.{faulty_inner}
-use Rattle.rules_reader.specs.Place.{captures, NamesOnce, HasNamesOnce}
+use Rattle.rules_reader.specs.Place.{captures, IsCaptureOf, NamesOnce, HasNamesOnce}
 use Rattle.rules_reader.proofs.Faulty.{faulty_inner-part, faulty_inner-other, faulty-sound, faulty-unsound}
 
 -- ---- one part more
@@ -140,10 +140,6 @@ captures_given (part ∷ p) (k ∷ path) (suc i) e l h = one_more (cond (is_capt
     one_more None xs x g = g
     one_more (Some y) xs x g = let within = g.1 in (suc g.0, omega arith, g.2)
 
--- where the pattern has this capture, and the path this key
-abbrev IsCaptureOf : Pattern → Path → PartText → Key → Type 0
-IsCaptureOf p path name k = (i : ℕ) × (i < length p) × (get_or p i [] ≡ name) × (get_or path i [] ≡ k) × (is_capture name ≡ true)
-
 later : (part : PartText) (p : Pattern) (l : Key) (path : Path) (name : PartText) (k : Key) → IsCaptureOf p path name k → IsCaptureOf (part ∷ p) (l ∷ path) name k
 later part p l path name k r = let within = r.1 in (suc r.0, omega arith, r.2, r.3, r.4)
 
@@ -152,7 +148,8 @@ first_captured : (part : PartText) (p : Pattern) (l : Key) (path : Path) (name :
 first_captured part p l path name k rest c zero below e = (zero, omega arith, ap (λ x. x.0) e, ap (λ x. x.1) e, ap (λ x. is_capture x.0) (sym e) ∙ c)
 first_captured part p l path name k rest c (suc i) below e = later part p l path name k (rest (i, omega arith, e))
 
-captured_at : (p : Pattern) (path : Path) (name : PartText) (k : Key) → Contains (captures p path) (name, k) → IsCaptureOf p path name k
+-- what is among the captures is one of the pattern, with the key at its place
+pub captured_at : (p : Pattern) (path : Path) (name : PartText) (k : Key) → Contains (captures p path) (name, k) → IsCaptureOf p path name k
 captured_at [] path name k h = let none = h.1 in absurd (omega arith)
 captured_at (part ∷ p) [] name k h = let none = h.1 in absurd (omega arith)
 captured_at (part ∷ p) (l ∷ path) name k h =

@@ -22,6 +22,10 @@ pub record StandsAt (book : Book) (p : Pattern) (path : Path) : Type 0 where
 abbrev pub captures : Pattern → Path → List (PartText × Key)
 captures p path = filter_map (λ pair. if is_capture pair.0 then Some pair else None) (zip p path)
 
+-- at one place the pattern has this capture, and the path this key
+abbrev pub IsCaptureOf : Pattern → Path → PartText → Key → Type 0
+IsCaptureOf p path name k = (i : ℕ) × (i < length p) × (slice_index_or p i [] ≡ name) × (slice_index_or path i [] ≡ k) × (is_capture name ≡ true)
+
 -- a capture stands once in the pattern, so that its name has one key. (Guide "Core syntax", using $ variables to capture path segments.)
 abbrev pub NamesOnce : Pattern → Type 0
 NamesOnce p = (i j : ℕ) → i < j → j < length p → is_capture (slice_index_or p j []) ≡ true → slice_index_or p i [] ≢ slice_index_or p j []

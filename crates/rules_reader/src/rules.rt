@@ -6,7 +6,7 @@ ghost use Rattle.tree_model.specs.Path.{Path};
 ghost use Rattle.tree_model.specs.PathMap.{sub};
 ghost use Rattle.rules_reader.specs.Part.{PartText, Pattern, is_capture};
 ghost use Rattle.rules_reader.specs.Book.{rules, has_validate};
-ghost use Rattle.rules_reader.specs.Place.{StandsAt, HasOneCapture, HasNamesOnce, captures};
+ghost use Rattle.rules_reader.specs.Place.{StandsAt, IsCaptureOf, HasOneCapture, HasNamesOnce, captures};
 
 use crate::node::RuleNode;
 use json_tree::Key;
@@ -90,10 +90,11 @@ impl Rules {
     }
 
     /// The captures of a place: each capture of the pattern that stands at a path is given with the
-    /// key at its place, and no name with another. (Guide "Core syntax", using $ variables to capture
+    /// key at its place, nothing else is given, and no name with two keys. (Guide "Core syntax", using $ variables to capture
     /// path segments.)
     pub fn the_captures_of_a_place(&self)
         ensures given { (p : Pattern) (path : Path) (i : ℕ) → StandsAt self.now p path → i < length p → is_capture (slice_index_or p i []) ≡ true → Contains (captures p path) (slice_index_or p i [], slice_index_or path i []) }
+        ensures alone { (p : Pattern) (path : Path) (name : PartText) (k : KeyBytes) → Contains (captures p path) (name, k) → IsCaptureOf p path name k }
         ensures once { (p : Pattern) (path : Path) (name : PartText) (k l : KeyBytes) → StandsAt self.now p path → Contains (captures p path) (name, k) → Contains (captures p path) (name, l) → k ≡ l }
     {
         let _root = &self.root;
