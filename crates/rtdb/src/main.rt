@@ -5,6 +5,9 @@
 //! the rules hold at some prefix, each denial names its rules, and what is refused changes nothing.
 #![tactic(auto)]
 
+ghost use Rattle.std.specs.Prelude.{◌≡◌};
+ghost use Rattle.rtdb.specs.Status.{status_of};
+
 #[cfg(test)]
 mod memory;
 mod order;
@@ -74,13 +77,21 @@ fn run(rt: &HostRuntime) -> u8 {
     let mut source = Reading::new(rt.reader());
     let mut sink = Writing::new(io::writer(rt));
     let mut arena = Bump::new(rt.alloc());
-    match run_script(rt.alloc(), &mut source, &mut sink, &mut arena) {
+    let end = run_script(rt.alloc(), &mut source, &mut sink, &mut arena);
+    let status = status_of(end);
+    if status == STREAM_FAILED {
+        let _told = eprintln!(rt; "rtdb: input or output failed");
+    }
+    status
+}
+
+fn status_of(end: ScriptEnd) -> u8
+    ensures { result ≡ status_of end }
+{
+    match end {
         ScriptEnd::Finished => DONE,
         ScriptEnd::BadHeader => REFUSED,
-        ScriptEnd::ReadFault | ScriptEnd::WriteFault => {
-            let _told = eprintln!(rt; "rtdb: input or output failed");
-            STREAM_FAILED
-        }
+        ScriptEnd::ReadFault | ScriptEnd::WriteFault => STREAM_FAILED,
         ScriptEnd::NoMemory => NO_MEMORY,
     }
 }

@@ -1,7 +1,8 @@
 //! A source and a sink in memory, which fail where a test wants it.
-ghost use Rattle.std.specs.Prelude.{◌≡◌, Some, false};
+ghost use Rattle.std.specs.Prelude.{◌≡◌, Some, true, false};
 
 use sessions::{Broken, Sink, Source};
+use std::io;
 
 /// A text that is read in pieces of so many bytes, and breaks after so many of them.
 #[derive(Drop)]
@@ -87,6 +88,8 @@ impl Sink for Written {
 
     ghost failed = { λ sink. sink.failed };
 
+    ghost handed_on = { λ _. true };
+
     fn write(&mut self, text: &[u8]) -> Result<usize, Broken> {
         let mut count = text.len().min(self.step.max(1));
         if self.full == Full::Fails {
@@ -107,5 +110,73 @@ impl Sink for Written {
             return Err(Broken);
         }
         Ok(())
+    }
+}
+
+/// A text that is read a few bytes at a time, where each read is interrupted once before.
+#[derive(Drop)]
+pub struct Halting<'a> {
+    text: &'a [u8],
+    ready: bool,
+}
+
+impl<'a> Halting<'a> {
+    pub fn new(text: &'a [u8]) -> Halting<'a> {
+        Halting { text, ready: false }
+    }
+}
+
+impl<'a> io::Read for Halting<'a> {
+    fn read(&mut self, buffer: &mut [u8]) -> io::Result<usize> {
+        self.ready = !self.ready;
+        if self.ready {
+            return Err(io::Error::from(io::ErrorKind::Interrupted));
+        }
+        let count = self.text.len().min(buffer.len()).min(50);
+        let (piece, rest) = self.text.split_at(count);
+        buffer[..count].copy_from_slice(piece);
+        self.text = rest;
+        Ok(count)
+    }
+}
+
+/// A writer that takes a few bytes at a time, where each write is interrupted once before, and that
+/// may fail to flush.
+#[derive(Drop)]
+pub struct Held {
+    pub bytes: Vec<u8>,
+    ready: bool,
+    flushes: bool,
+}
+
+impl Held {
+    pub fn new(bytes: Vec<u8>, flushes: bool) -> Held {
+        Held {
+            bytes,
+            ready: false,
+            flushes,
+        }
+    }
+}
+
+impl io::Write for Held {
+    fn write(&mut self, text: &[u8]) -> io::Result<usize> {
+        self.ready = !self.ready;
+        if self.ready {
+            return Err(io::Error::from(io::ErrorKind::Interrupted));
+        }
+        let count = text.len().min(20);
+        match self.bytes.extend_from_slice(&text[..count]) {
+            Ok(()) => Ok(count),
+            Err(_) => Err(io::Error::from(io::ErrorKind::OutOfMemory)),
+        }
+    }
+
+    fn flush(&mut self) -> io::Result<()> {
+        if self.flushes {
+            Ok(())
+        } else {
+            Err(io::Error::from(io::ErrorKind::WriteZero))
+        }
     }
 }

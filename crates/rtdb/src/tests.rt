@@ -1,5 +1,5 @@
 //! Whole scripts: cut into pieces, with a source or a sink that fails, and longer than a block.
-use crate::memory::{Full, Pieces, Written};
+use crate::memory::{Full, Halting, Held, Pieces, Written};
 use bumpalo::Bump;
 use sessions::{Reading, ScriptEnd, Writing, run_script};
 use std::alloc::{AllocError, Global};
@@ -128,6 +128,19 @@ fn a_flush_that_fails_is_a_fault_of_the_sink(rt: HostRuntime) {
     let end = run_script(alloc, &mut source, &mut sink, &mut Bump::new(alloc));
     assert!(rt; end == ScriptEnd::WriteFault);
     assert!(rt; sink.bytes.as_slice() == OUTPUT);
+}
+
+#[test]
+fn interrupted_calls_are_made_again_and_the_writer_is_flushed(rt: HostRuntime) {
+    let alloc = rt.alloc();
+    for (flushes, wanted) in [(true, ScriptEnd::Finished), (false, ScriptEnd::WriteFault)] {
+        let mut held = Held::new(Vec::new(alloc), flushes);
+        let mut source = Reading::new(Halting::new(INPUT));
+        let mut sink = Writing::new(&mut held);
+        let end = run_script(alloc, &mut source, &mut sink, &mut Bump::new(alloc));
+        assert!(rt; end == wanted);
+        assert!(rt; held.bytes.as_slice() == OUTPUT);
+    }
 }
 
 #[test]

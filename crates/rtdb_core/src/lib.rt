@@ -15,7 +15,7 @@ mod step_laws;
 
 pub use event::Event;
 pub use judge::{Access, is_granted, named_rules};
-pub use limits::{MAX_MOMENT, MAX_SESSIONS};
+pub use limits::{MAX_MOMENT, MAX_SESSIONS, the_limits};
 pub use machine::Core;
 pub use reply::{Named, NamedRules, Refusal, Reply, Why};
 pub use session::Session;

@@ -10,11 +10,11 @@ use Rattle.rtdb_core.specs.State.{State}
 use Rattle.sessions.specs.Lines.{cut, told}
 use Rattle.sessions.specs.Said.{Phase, unopened, refused, running, Stands, Said}
 use Rattle.sessions.specs.Sent.{Breaks}
-use Rattle.sessions.specs.Follow.{phase_of, Goes, LineStops, Follows, Fronts, Partly, Halts, Sends}
+use Rattle.sessions.specs.Follow.{phase_of, Goes, LineStops, Follows, Fronts, Partly, FallsShort, Halts, Sends}
 use Rattle.sessions.specs.Ends.{Ends}
 use Rattle.sessions.proofs.Sending.{Appends-refl, Appends-trans, Consumes-refl}
 use Rattle.sessions.proofs.Standing.{told-append, Stands-refused}
-use Rattle.sessions.proofs.Feeding.{cut-plain, Partly-of-Follows, Fronts-of-Partly}
+use Rattle.sessions.proofs.Feeding.{cut-plain, Partly-of-Follows, Partly-of-FallsShort}
 use Rattle.sessions.proofs.Going.{Stands-more}
 
 -- ---- of the whole input
@@ -50,7 +50,7 @@ Said-refused-left : (left : Option (List ℕ)) (taken out : List ℕ) → Begins
 Said-refused-left None taken out h = tt
 Said-refused-left (Some rest) taken out h = Said-refused (taken ++ rest) out h
 
-phase_of-refused : (machine : Option State) → phase_of machine ≢ refused
+pub phase_of-refused : (machine : Option State) → phase_of machine ≢ refused
 phase_of-refused None e = let e' : unopened ≡ refused = e in cc
 phase_of-refused (Some state) e = let e' : running state ≡ refused = e in cc
 
@@ -102,10 +102,10 @@ module _ (result : ScriptEnd) (a b c : Option (List ℕ)) (failed source_failed 
       let begins = Begins-last refused _ g.2 in
       Ends-by-Sends ends.BadHeader result a b c failed source_failed reads taken left sent g.0 kept' refused g.1 s begins (λ k. Said-refused-left left taken _ begins)
 
-  pub Ends-last-no-memory : (phase' : Phase) (kept' : List ℕ) → Goes f.lines phase' a b sent kept' → Sends ends.NoMemory result b c failed kept' → (m : List ℕ) × Appends a c m × Ends result taken left source_failed reads failed (sent ++ m)
-  Ends-last-no-memory phase' kept' g s =
+  pub Ends-last-no-memory : (phase' : Phase) → phase' ≢ refused → (kept' : List ℕ) → Goes f.lines phase' a b sent kept' → Sends ends.NoMemory result b c failed kept' → (m : List ℕ) × Appends a c m × Ends result taken left source_failed reads failed (sent ++ m)
+  Ends-last-no-memory phase' going kept' g s =
       let fronts : Fronts taken phase' ((sent ++ g.0) ++ kept') = (f.lines, f.rest ∷ [], cut-taken f, g.2) in
-      Ends-by-Sends ends.NoMemory result a b c failed source_failed reads taken left sent g.0 kept' phase' g.1 s (Begins-at-end left taken phase' _ at_end fronts) (λ k. (phase', f.lines, f.rest ∷ [], cut-taken f, g.2))
+      Ends-by-Sends ends.NoMemory result a b c failed source_failed reads taken left sent g.0 kept' phase' g.1 s (Begins-at-end left taken phase' _ at_end fronts) (λ k. (phase', going, f.lines, f.rest, [], cut-taken f, g.2))
 
   pub Ends-last-broken : (phase' : Phase) (lost : List ℕ) → failed ≡ true → Goes (f.lines ++ f.rest ∷ []) phase' a c sent lost → (m : List ℕ) × Appends a c m × Ends ends.WriteFault taken left source_failed reads failed (sent ++ m)
   Ends-last-broken phase' lost e g = (g.0, g.1, (e, Said-lost left taken phase' (sent ++ g.0) lost (Begins-last phase' _ g.2)))
@@ -118,14 +118,14 @@ module _ (result : ScriptEnd) (a c : Option (List ℕ)) (failed source_failed : 
       let begins = Begins-of-Partly left taken refused _ h in
       Ends-by-Sends-alone ends.BadHeader result a c failed source_failed reads taken left sent kept refused s begins (λ k. Said-refused-left left taken _ begins)
 
-  pub Ends-no-memory : (phase : Phase) (kept taken sent : List ℕ) → Partly taken phase (sent ++ kept) → Sends ends.NoMemory result a c failed kept → (m : List ℕ) × Appends a c m × Ends result taken left source_failed reads failed (sent ++ m)
+  pub Ends-no-memory : (phase : Phase) (kept taken sent : List ℕ) → FallsShort taken phase (sent ++ kept) → Sends ends.NoMemory result a c failed kept → (m : List ℕ) × Appends a c m × Ends result taken left source_failed reads failed (sent ++ m)
   Ends-no-memory phase kept taken sent h s =
-      let fronts : Fronts taken phase (sent ++ kept) = Fronts-of-Partly taken phase _ h in
-      Ends-by-Sends-alone ends.NoMemory result a c failed source_failed reads taken left sent kept phase s (Begins-of-Partly left taken phase _ h) (λ k. (phase, fronts.0, fronts.1, fronts.2, fronts.3))
+      let w = h.1 [] in
+      Ends-by-Sends-alone ends.NoMemory result a c failed source_failed reads taken left sent kept phase s (Begins-of-Partly left taken phase _ (Partly-of-FallsShort taken phase _ h)) (λ k. (phase, h.0, w.0, w.1, w.2, ap cut (sym (append-nil taken)) ∙ w.3, w.4))
 
-  pub Ends-read-fault : {phase : Phase} {held : List ℕ} {blank : Bool} {kept taken sent : List ℕ} → ((source_failed ≡ true) ⊎ (2 ^ 40 ≤ reads)) → Follows phase held blank kept taken sent → Sends ends.ReadFault result a c failed kept → (m : List ℕ) × Appends a c m × Ends result taken left source_failed reads failed (sent ++ m)
-  Ends-read-fault {phase} {held} {blank} {kept} {taken} {sent} why f s =
-      Ends-by-Sends-alone ends.ReadFault result a c failed source_failed reads taken left sent kept phase s (Begins-of-Partly left taken phase _ (Partly-of-Follows f)) (λ k. (why, phase, f.lines, f.rest, cut-taken f, f.stands))
+  pub Ends-read-fault : {phase : Phase} {held : List ℕ} {blank : Bool} {kept taken sent : List ℕ} → phase ≢ refused → ((source_failed ≡ true) ⊎ (2 ^ 40 ≤ reads)) → Follows phase held blank kept taken sent → Sends ends.ReadFault result a c failed kept → (m : List ℕ) × Appends a c m × Ends result taken left source_failed reads failed (sent ++ m)
+  Ends-read-fault {phase} {held} {blank} {kept} {taken} {sent} going why f s =
+      Ends-by-Sends-alone ends.ReadFault result a c failed source_failed reads taken left sent kept phase s (Begins-of-Partly left taken phase _ (Partly-of-Follows f)) (λ k. (why, phase, going, f.lines, f.rest, cut-taken f, f.stands))
 
 -- the sink broke before, and nothing more is written
 pub Ends-broken : (a : Option (List ℕ)) (failed source_failed : Bool) (reads : ℕ) (left : Option (List ℕ)) (phase : Phase) (lost taken sent : List ℕ) → failed ≡ true → Partly taken phase (sent ++ lost) → (m : List ℕ) × Appends a a m × Ends ends.WriteFault taken left source_failed reads failed (sent ++ m)
@@ -134,7 +134,7 @@ Ends-broken a failed source_failed reads left phase lost taken sent e h =
 
 -- nothing was read
 pub Ends-before : (a b : Option (List ℕ)) (source_failed : Bool) (reads : ℕ) (failed : Bool) → (taken out : List ℕ) × Consumes a a taken × Appends b b out × Ends ends.NoMemory taken a source_failed reads failed out
-Ends-before a b source_failed reads failed = ([], [], Consumes-refl a, Appends-refl b, (unopened, [], [] ∷ [], refl, (refl, refl)))
+Ends-before a b source_failed reads failed = ([], [], Consumes-refl a, Appends-refl b, (unopened, phase_of-refused None, [], [], [], refl, (refl, refl)))
 
 -- ---- the same by another name
 

@@ -1,16 +1,16 @@
 -- Where a script stands after a piece of the input.
-use Rattle.std.proofs.Common.{◌≡◌, ℕ, Bool, false, List, [], ◌∷◌, ◌++◌, Option, refl, sym, ap, subst, ◌∙◌, append_assoc}
+use Rattle.std.proofs.Common.{◌≡◌, ◌≢◌, ℕ, ◌+◌, length, arith, Bool, false, List, [], ◌∷◌, ◌++◌, Option, refl, sym, ap, subst, ◌∙◌, append_assoc}
 use Rattle.std.specs.Prelude.{◌==◌}
 use Rattle.std.specs.Io.KnownBytes.{Appends}
 use Rattle.std.proofs.lemmas.List.{append-nil}
 use Rattle.std.proofs.lemmas.List.Elements.{All-append, All-nil}
-use Rattle.std.proofs.lemmas.List.Splits.{slice_split_at, slice_split_none}
+use Rattle.std.proofs.lemmas.List.Splits.{length-slice_split, slice_split_at, slice_split_none}
 use Rattle.sessions.specs.declared.desk.Stop.{Stop}
 use Rattle.sessions.specs.declared.desk.Stop.TheVariants as stops
 use Rattle.sessions.specs.Lines.{cut, told, is_blank}
 use Rattle.sessions.specs.Said.{Phase, unopened, refused, Stands}
 use Rattle.sessions.specs.Parts.{front, IsPlain, Holds, Shows}
-use Rattle.sessions.specs.Follow.{Goes, LineStops, Follows, FeedStops, Fronts, Partly}
+use Rattle.sessions.specs.Follow.{Goes, LineStops, Follows, FeedStops, Fronts, Partly, FallsShort}
 use Rattle.sessions.proofs.Keeping.{nil_of_front}
 use Rattle.sessions.proofs.Sending.{Appends-trans}
 
@@ -21,6 +21,14 @@ cut-plain rest h = slice_split_none (λ b. b == 10) rest h
 
 cut-line : (line more : List ℕ) → IsPlain line → cut (line ++ 10 ∷ more) ≡ line ∷ cut more
 cut-line line more h = slice_split_at (λ b. b == 10) line 10 more h refl
+
+some_line : (lines : List (List ℕ)) (n : ℕ) → length lines ≡ n + 1 → (line : List ℕ) × (tail : List (List ℕ)) × (lines ≡ line ∷ tail)
+some_line [] n e = absurd (omega arith)
+some_line (line ∷ tail) n e = (line, tail, refl)
+
+-- there is a line in each text
+cut-some : (text : List ℕ) → (line : List ℕ) × (tail : List (List ℕ)) × (cut text ≡ line ∷ tail)
+cut-some text = some_line (cut text) _ (length-slice_split (λ b. b == 10) text)
 
 -- ---- one step further
 
@@ -76,11 +84,21 @@ module _ {phase : Phase} {held : List ℕ} {blank : Bool} {kept taken sent : Lis
   pub FeedStops-line : (stop : Stop) (old new : Option (List ℕ)) (failed : Bool) (kept' part : List ℕ) → IsPlain part → LineStops stop old new failed kept' f.lines (f.rest ++ part) sent → FeedStops stop old new failed kept' (taken ++ (part ++ 10 ∷ [])) sent
   FeedStops-line stops.BadHeader old new failed kept' part plain s = (s.0, s.1, λ more. (f.lines ++ (f.rest ++ part) ∷ [], cut more, cuts-line part more plain, s.2))
   FeedStops-line stops.WriteFault old new failed kept' part plain s = (s.0, s.1, s.2, s.3.0, s.3.1, λ more. (f.lines ++ (f.rest ++ part) ∷ [], cut more, cuts-line part more plain, s.3.2))
-  FeedStops-line stops.NoMemory old new failed kept' part plain s = (s.0, s.1.0, s.1.1, λ more. (f.lines, (f.rest ++ part) ∷ cut more, cuts-line part more plain ∙ append_assoc f.lines ((f.rest ++ part) ∷ []) (cut more), s.1.2))
+  FeedStops-line stops.NoMemory old new failed kept' part plain s = (s.0, s.2.0, s.2.1, (s.1, λ more. (f.lines, f.rest ++ part, cut more, cuts-line part more plain ∙ append_assoc f.lines ((f.rest ++ part) ∷ []) (cut more), s.2.2)))
 
   -- there is no memory for the part
-  pub FeedStops-part : (old new : Option (List ℕ)) (failed : Bool) (part : List ℕ) → Appends old new [] → FeedStops stops.NoMemory old new failed kept (taken ++ part) sent
-  FeedStops-part old new failed part a = (phase, [], a, λ more. (f.lines, cut ((f.rest ++ part) ++ more), cuts-append part more, subst (λ (x : List ℕ). Stands (told f.lines) phase x) (ap (λ x. x ++ kept) (sym (append-nil sent))) f.stands))
+  pub FeedStops-part : phase ≢ refused → (old new : Option (List ℕ)) (failed : Bool) (part : List ℕ) → Appends old new [] → FeedStops stops.NoMemory old new failed kept (taken ++ part) sent
+  FeedStops-part going old new failed part a = (
+    phase,
+    [],
+    a,
+    (
+      going,
+      λ more.
+          let some = cut-some ((f.rest ++ part) ++ more) in
+          (f.lines, some.0, some.1, cuts-append part more ∙ ap (λ x. f.lines ++ x) some.2, subst (λ (x : List ℕ). Stands (told f.lines) phase x) (ap (λ x. x ++ kept) (sym (append-nil sent))) f.stands),
+    ),
+  )
 
   -- nothing of a line is held, so that the part is all of it
   pub rest-nil : held ≡ [] → f.rest ≡ []
@@ -112,6 +130,14 @@ Partly-at : (taken part whole : List ℕ) (phase : Phase) (out out' : List ℕ) 
 Partly-at taken part whole phase out out' e d h = λ more.
     subst (λ (o : List ℕ). Fronts (whole ++ more) phase o) d (subst (λ (t : List ℕ). Fronts t phase out) (sym (append_assoc taken part more) ∙ ap (λ t. t ++ more) e) (h (part ++ more)))
 
+FallsShort-at : (taken part whole : List ℕ) (phase : Phase) (out out' : List ℕ) → taken ++ part ≡ whole → out ≡ out' → FallsShort taken phase out → FallsShort whole phase out'
+FallsShort-at taken part whole phase out out' e d h = (
+  h.0,
+  λ more.
+      let w = h.1 (part ++ more) in
+      (w.0, w.1, w.2, ap (λ t. cut (t ++ more)) (sym e) ∙ ap cut (append_assoc taken part more) ∙ w.3, subst (λ (o : List ℕ). Stands (told w.0) phase o) d w.4),
+)
+
 regrouped : (sent more m kept : List ℕ) → ((sent ++ more) ++ m) ++ kept ≡ (sent ++ (more ++ m)) ++ kept
 regrouped sent more m kept = ap (λ x. x ++ kept) (append_assoc sent more m)
 
@@ -121,7 +147,7 @@ FeedStops-after stops.BadHeader a b c failed kept' taken part whole sent more e 
 FeedStops-after stops.WriteFault a b c failed kept' taken part whole sent more e p s =
     (s.0, s.1, s.2, more ++ s.3, Appends-trans a b c more s.3 p s.4, Partly-at taken part whole s.1 _ _ e (regrouped sent more s.3 s.2) s.5)
 FeedStops-after stops.NoMemory a b c failed kept' taken part whole sent more e p s =
-    (s.0, more ++ s.1, Appends-trans a b c more s.1 p s.2, Partly-at taken part whole s.0 _ _ e (regrouped sent more s.1 kept') s.3)
+    (s.0, more ++ s.1, Appends-trans a b c more s.1 p s.2, FallsShort-at taken part whole s.0 _ _ e (regrouped sent more s.1 kept') s.3)
 
 pub FeedStops-at : (old new : Option (List ℕ)) (failed : Bool) (kept taken sent : List ℕ) (stop stop' : Stop) → stop ≡ stop' → FeedStops stop old new failed kept taken sent → FeedStops stop' old new failed kept taken sent
 FeedStops-at old new failed kept taken sent stop stop' e s = subst (λ (x : Stop). FeedStops x old new failed kept taken sent) e s
@@ -131,5 +157,5 @@ FeedStops-at old new failed kept taken sent stop stop' e s = subst (λ (x : Stop
 pub Partly-of-Follows : {phase : Phase} {held : List ℕ} {blank : Bool} {kept taken sent : List ℕ} → Follows phase held blank kept taken sent → Partly taken phase (sent ++ kept)
 Partly-of-Follows f = λ more. (f.lines, cut (f.rest ++ more), f.cuts more, f.stands)
 
-pub Fronts-of-Partly : (taken : List ℕ) (phase : Phase) (out : List ℕ) → Partly taken phase out → Fronts taken phase out
-Fronts-of-Partly taken phase out h = subst (λ (t : List ℕ). Fronts t phase out) (append-nil taken) (h [])
+pub Partly-of-FallsShort : (taken : List ℕ) (phase : Phase) (out : List ℕ) → FallsShort taken phase out → Partly taken phase out
+Partly-of-FallsShort taken phase out h = λ more. let w = h.1 more in (w.0, w.1 ∷ w.2, w.3, w.4)

@@ -1,5 +1,5 @@
 -- Where a script stands after one line more.
-use Rattle.std.proofs.Common.{◌≡◌, ℕ, ◌≤◌, ◌<◌, Bool, true, false, not, cond, nat_le, List, [], ◌∷◌, ◌++◌, length, Option, Result, Ok, Err, refl, sym, ap, subst, inl, inr, ◌∙◌, append_assoc, arith, flat_map}
+use Rattle.std.proofs.Common.{◌≡◌, ◌≢◌, ℕ, ◌≤◌, ◌<◌, Bool, true, false, not, cond, nat_le, List, [], ◌∷◌, ◌++◌, length, Option, Result, Ok, Err, refl, sym, ap, subst, inl, inr, ◌∙◌, append_assoc, arith, flat_map}
 use Rattle.std.proofs.lemmas.List.{append-nil, take_all, length-take-le, flat_map_more}
 use Rattle.std.proofs.lemmas.List.Elements.{filter-append}
 use Rattle.std.proofs.lemmas.Bool.Decides.{nat_tests}
@@ -154,11 +154,12 @@ module _ (lines : List (List ℕ)) (line text : List ℕ) (blank : Bool) (phase 
   )
 
   -- the script stops at it
-  pub LineStops-line : (stop : Stop) (failed : Bool) (kept' : List ℕ) → blank ≡ false → AddStops stop old new failed phase text kept kept' → LineStops stop old new failed kept' lines line sent
-  LineStops-line stops.BadHeader failed kept' b a = Goes-line refused a.0 kept' b a.1 a.2
-  LineStops-line stops.WriteFault failed kept' b a = (a.0, a.1, a.4.1, Goes-line a.1 a.2 a.4.1 b a.3 (a.4.0, a.4.2, a.4.3))
-  LineStops-line stops.NoMemory failed kept' b a = (
+  pub LineStops-line : phase ≢ refused → (stop : Stop) (failed : Bool) (kept' : List ℕ) → blank ≡ false → AddStops stop old new failed phase text kept kept' → LineStops stop old new failed kept' lines line sent
+  LineStops-line going stops.BadHeader failed kept' b a = Goes-line refused a.0 kept' b a.1 a.2
+  LineStops-line going stops.WriteFault failed kept' b a = (a.0, a.1, a.4.1, Goes-line a.1 a.2 a.4.1 b a.3 (a.4.0, a.4.2, a.4.3))
+  LineStops-line going stops.NoMemory failed kept' b a = (
     phase,
+    going,
     (
       [],
       subst (λ (x : Option (List ℕ)). Appends old x []) (sym a.0) (Appends-refl old),

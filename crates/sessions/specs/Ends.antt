@@ -15,10 +15,10 @@ Ends ends.BadHeader taken left source_failed reads sink_failed out = IfSome left
 -- a read has failed, or as many were made as may be; the answers to the lines that were complete
 Ends ends.ReadFault taken left source_failed reads sink_failed out =
     ((source_failed ≡ true) ⊎ (2 ^ 40 ≤ reads))
-    × (phase : Phase) × (lines : List (List ℕ)) × (rest : List ℕ) × (cut taken ≡ lines ++ rest ∷ []) × Stands (told lines) phase out
+    × (phase : Phase) × (phase ≢ refused) × (lines : List (List ℕ)) × (rest : List ℕ) × (cut taken ≡ lines ++ rest ∷ []) × Stands (told lines) phase out
 -- the sink has failed; the front of what is said to the whole input
 Ends ends.WriteFault taken left source_failed reads sink_failed out =
     (sink_failed ≡ true) × IfSome left (λ rest. (phase : Phase) × (lost : List ℕ) × Said (taken ++ rest) phase (out ++ lost))
 -- a line could not be held or answered; the whole answers to the lines before it
 Ends ends.NoMemory taken left source_failed reads sink_failed out =
-    (phase : Phase) × (lines tail : List (List ℕ)) × (cut taken ≡ lines ++ tail) × Stands (told lines) phase out
+    (phase : Phase) × (phase ≢ refused) × (lines : List (List ℕ)) × (line : List ℕ) × (tail : List (List ℕ)) × (cut taken ≡ lines ++ line ∷ tail) × Stands (told lines) phase out

@@ -1,5 +1,5 @@
 -- Where a script stands while it runs: after a line, after a piece of the input, and once no more is read.
-use Rattle.std.specs.Prelude.{◌≡◌, ℕ, ◌≤◌, ◌^◌, ◌⊎◌, Bool, true, List, [], ◌∷◌, ◌++◌, Option, Some, None, Result}
+use Rattle.std.specs.Prelude.{◌≡◌, ◌≢◌, ℕ, ◌≤◌, ◌^◌, ◌⊎◌, Bool, true, List, [], ◌∷◌, ◌++◌, Option, Some, None, Result}
 use Rattle.std.specs.Io.KnownBytes.{Appends, IsAtEnd}
 use Rattle.rules_reader.specs.Book.{Book}
 use Rattle.sessions.specs.declared.desk.Stop.{Stop}
@@ -63,7 +63,7 @@ Goes lines phase old new sent kept = (more : List ℕ) × Appends old new more �
 abbrev pub LineStops : Stop → Option (List ℕ) → Option (List ℕ) → Bool → List ℕ → List (List ℕ) → List ℕ → List ℕ → Type 0
 LineStops stops.BadHeader old new failed kept lines line sent = Goes (lines ++ line ∷ []) refused old new sent kept
 LineStops stops.WriteFault old new failed kept lines line sent = (failed ≡ true) × (phase : Phase) × (lost : List ℕ) × Goes (lines ++ line ∷ []) phase old new sent lost
-LineStops stops.NoMemory old new failed kept lines line sent = (phase : Phase) × Goes lines phase old new sent kept
+LineStops stops.NoMemory old new failed kept lines line sent = (phase : Phase) × (phase ≢ refused) × Goes lines phase old new sent kept
 
 -- ---- input in pieces
 
@@ -89,11 +89,17 @@ Fronts input phase out = (lines tail : List (List ℕ)) × (cut input ≡ lines 
 abbrev pub Partly : List ℕ → Phase → List ℕ → Type 0
 Partly taken phase out = (more : List ℕ) → Fronts (taken ++ more) phase out
 
+-- The first lines of an input are answered, and not by a refused header; a line stands after them, whatever comes after what was taken of the input.
+abbrev pub FallsShort : List ℕ → Phase → List ℕ → Type 0
+FallsShort taken phase out =
+    (phase ≢ refused)
+    × ((more : List ℕ) → (lines : List (List ℕ)) × (line : List ℕ) × (tail : List (List ℕ)) × (cut (taken ++ more) ≡ lines ++ line ∷ tail) × Stands (told lines) phase out)
+
 -- why a script stops within a piece of the input
 abbrev pub FeedStops : Stop → Option (List ℕ) → Option (List ℕ) → Bool → List ℕ → List ℕ → List ℕ → Type 0
 FeedStops stops.BadHeader old new failed kept taken sent = (more : List ℕ) × Appends old new more × Partly taken refused ((sent ++ more) ++ kept)
 FeedStops stops.WriteFault old new failed kept taken sent = (failed ≡ true) × (phase : Phase) × (lost more : List ℕ) × Appends old new more × Partly taken phase ((sent ++ more) ++ lost)
-FeedStops stops.NoMemory old new failed kept taken sent = (phase : Phase) × (more : List ℕ) × Appends old new more × Partly taken phase ((sent ++ more) ++ kept)
+FeedStops stops.NoMemory old new failed kept taken sent = (phase : Phase) × (more : List ℕ) × Appends old new more × FallsShort taken phase ((sent ++ more) ++ kept)
 
 -- ---- once no more is read
 
@@ -103,7 +109,7 @@ Halts ends.Finished left source_failed reads sink_failed script taken sent = IsA
 Halts ends.BadHeader left source_failed reads sink_failed script taken sent = Partly taken refused (sent ++ script.desk.outgoing.bytes.items)
 Halts ends.ReadFault left source_failed reads sink_failed script taken sent = ((source_failed ≡ true) ⊎ (2 ^ 40 ≤ reads)) × IsAfter script taken sent
 Halts ends.WriteFault left source_failed reads sink_failed script taken sent = (sink_failed ≡ true) × (phase : Phase) × (lost : List ℕ) × Partly taken phase (sent ++ lost)
-Halts ends.NoMemory left source_failed reads sink_failed script taken sent = (phase : Phase) × Partly taken phase (sent ++ script.desk.outgoing.bytes.items)
+Halts ends.NoMemory left source_failed reads sink_failed script taken sent = (phase : Phase) × FallsShort taken phase (sent ++ script.desk.outgoing.bytes.items)
 
 -- all that is kept is written, or the sink broke
 abbrev pub Sends : ScriptEnd → ScriptEnd → Option (List ℕ) → Option (List ℕ) → Bool → List ℕ → Type 0

@@ -1,5 +1,5 @@
 //! Where lines are answered, one at a time, and their answers put behind one another.
-ghost use Rattle.std.specs.Prelude.{◌≡◌, ℕ, ◌++◌, ◌∷◌, [], List, IfOk, IfErr, OnOk};
+ghost use Rattle.std.specs.Prelude.{◌≡◌, ◌≢◌, ℕ, ◌++◌, ◌∷◌, [], false, List, IfOk, IfErr, OnOk, MatchResult};
 ghost use Rattle.sessions.specs.Lines.{told};
 ghost use Rattle.sessions.specs.Sent.{Passes};
 ghost use Rattle.sessions.specs.Said.{unopened, Stands};
@@ -57,6 +57,7 @@ impl Desk {
         text: &[u8],
         blank: bool,
     ) -> Result<(), Stop>
+        requires { W.failed sink.old ≡ false }
         ensures ok { (lines : List (List ℕ)) (line sent : List ℕ) → Shows text.now blank line
             → Stands (told lines) (phase_of self.old.machine) (sent ++ self.old.outgoing.bytes.items)
             → OnOk result (Goes (lines ++ line ∷ []) (phase_of self.new.machine) (W.written sink.old) (W.written sink.new) sent self.new.outgoing.bytes.items) }
@@ -64,6 +65,7 @@ impl Desk {
             → Stands (told lines) (phase_of self.old.machine) (sent ++ self.old.outgoing.bytes.items)
             → IfErr result (λ stop. LineStops stop (W.written sink.old) (W.written sink.new) (W.failed sink.new)
             self.new.outgoing.bytes.items lines line sent) }
+        ensures sound { MatchResult result (λ _. W.failed sink.new ≡ W.failed sink.old) (λ stop. stop ≢ Stop.WriteFault → W.failed sink.new ≡ W.failed sink.old) }
     {
         if blank {
             return Ok(());
@@ -81,10 +83,12 @@ impl Desk {
         arena: &mut Bump,
         line: &[u8],
     ) -> Result<(), Stop>
+        requires { W.failed sink.old ≡ false }
         ensures ok { OnOk result ((out : List ℕ) × Adds (phase_of self.old.machine) line.now (phase_of self.new.machine) out
             × Passes (W.written sink.old) (W.written sink.new) (self.old.outgoing.bytes.items ++ out) self.new.outgoing.bytes.items) }
         ensures err { IfErr result (λ stop. AddStops stop (W.written sink.old) (W.written sink.new)
             (W.failed sink.new) (phase_of self.old.machine) line.now self.old.outgoing.bytes.items self.new.outgoing.bytes.items) }
+        ensures sound { MatchResult result (λ _. W.failed sink.new ≡ W.failed sink.old) (λ stop. stop ≢ Stop.WriteFault → W.failed sink.new ≡ W.failed sink.old) }
     {
         let answer = match respond(self.alloc, &mut self.machine, arena, line) {
             Ok(answer) => answer,

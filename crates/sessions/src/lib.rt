@@ -21,7 +21,7 @@ mod streams;
 pub use answer::{write_accepted, write_fault, write_reply, write_rules_fault};
 pub use code::Code;
 pub use header::{HeaderFault, read_header};
-pub use limits::MAX_MESSAGE_BYTES;
+pub use limits::{MAX_MESSAGE_BYTES, the_limit_of_messages};
 pub use message::{Form, MessageFault, Request, Stamp, Verb, read_request};
 pub use script::{ScriptEnd, run_script};
 pub use script_laws::{every_line_has_an_answer, lines_are_answered_by_a_run};

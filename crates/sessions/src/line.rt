@@ -8,8 +8,8 @@ use json_tree::NoMemory;
 use std::alloc::{AllocError, Global};
 
 /// Of a line that is not complete yet, what its answer rests on: its first 1,048,577 bytes, one more
-/// than a message may have, and whether it is blank so far. So a line of any length takes little
-/// over 1 MiB.
+/// than a message may have, and whether it is blank so far. So a line of any length takes about 2 MiB
+/// at most, as a vector that grows doubles.
 #[derive(Drop)]
 pub struct Line {
     /// The first bytes of the line.

@@ -1,5 +1,5 @@
 //! Text on its way to a sink, which is kept until there is much of it.
-ghost use Rattle.std.specs.Prelude.{◌≡◌, ◌≤◌, ◌++◌, [], true, vec_len, vec_capacity, IfOk, OnOk, OnErr, MatchResult};
+ghost use Rattle.std.specs.Prelude.{◌≡◌, ◌≤◌, ◌++◌, [], true, false, vec_len, vec_capacity, IfOk, OnOk, OnErr, MatchResult};
 ghost use Rattle.std.specs.Io.KnownBytes.{Appends};
 ghost use Rattle.sessions.specs.Sent.{Passes, Breaks};
 
@@ -32,6 +32,7 @@ impl Outgoing {
     /// Puts a text behind what is kept, which is written before if both are too long together. A text
     /// that is itself too long is written at once. After an error all that was kept is lost.
     pub fn put<W: Sink>(&mut self, sink: &mut W, text: &[u8]) -> Result<(), Broken>
+        requires { W.failed sink.old ≡ false }
         ensures ok { OnOk result (Passes (W.written sink.old) (W.written sink.new)
             (self.old.bytes.items ++ text.now) self.new.bytes.items) }
         ensures err { OnErr result (Breaks (W.written sink.old) (W.written sink.new)
@@ -57,6 +58,7 @@ impl Outgoing {
 
     /// Writes all that is kept, so that nothing is. After an error it is lost.
     pub fn send<W: Sink>(&mut self, sink: &mut W) -> Result<(), Broken>
+        requires { W.failed sink.old ≡ false }
         ensures ok { OnOk result (Passes (W.written sink.old) (W.written sink.new) self.old.bytes.items []
             × (self.new.bytes.items ≡ [])) }
         ensures err { OnErr result (Breaks (W.written sink.old) (W.written sink.new) self.old.bytes.items) }
@@ -70,6 +72,7 @@ impl Outgoing {
 
 // Writes a whole text, by as many writes as the sink wants.
 fn write_all<W: Sink>(sink: &mut W, text: &[u8]) -> Result<(), Broken>
+    requires { W.failed sink.old ≡ false }
     ensures ok { OnOk result (Appends (W.written sink.old) (W.written sink.new) text.now) }
     ensures err { OnErr result (Breaks (W.written sink.old) (W.written sink.new) text.now) }
     ensures failed { MatchResult result (λ _. W.failed sink.new ≡ W.failed sink.old) (λ _. W.failed sink.new ≡ true) }

@@ -1,5 +1,5 @@
 //! A script: a header and then requests, one to a line, each answered by a line.
-ghost use Rattle.std.specs.Prelude.{◌≡◌, ℕ, ◌<◌, ◌++◌, ◌∷◌, [], Bool, false, List, length, vec_len, IfOk, IfErr, OnOk, IfSome, IfNone, Option};
+ghost use Rattle.std.specs.Prelude.{◌≡◌, ◌≢◌, ℕ, ◌<◌, ◌++◌, ◌∷◌, [], Bool, true, false, List, length, vec_len, IfOk, IfErr, OnOk, MatchResult, IfSome, IfNone, Option};
 ghost use Rattle.std.specs.Io.KnownBytes.{Appends, Consumes};
 ghost use Rattle.sessions.specs.Lines.{told};
 ghost use Rattle.sessions.specs.Said.{Stands};
@@ -58,6 +58,7 @@ impl Script {
 
     // Answers the line that is held, and begins the next.
     fn end_line<W: Sink>(&mut self, sink: &mut W, arena: &mut Bump) -> Result<(), Stop>
+        requires { W.failed sink.old ≡ false }
         ensures ok { (lines : List (List ℕ)) (line sent : List ℕ)
             → Holds self.old.line.kept.items self.old.line.blank line
             → Stands (told lines) (phase_of self.old.desk.machine) (sent ++ self.old.desk.outgoing.bytes.items)
@@ -68,6 +69,7 @@ impl Script {
             → Stands (told lines) (phase_of self.old.desk.machine) (sent ++ self.old.desk.outgoing.bytes.items)
             → IfErr result (λ stop. LineStops stop (W.written sink.old) (W.written sink.new) (W.failed sink.new)
             self.new.desk.outgoing.bytes.items lines line sent) }
+        ensures sound { MatchResult result (λ _. W.failed sink.new ≡ W.failed sink.old) (λ stop. stop ≢ Stop.WriteFault → W.failed sink.new ≡ W.failed sink.old) }
     {
         match self
             .desk
@@ -89,7 +91,8 @@ impl Script {
         arena: &mut Bump,
         part: &[u8],
     ) -> Result<(), Stop>
-        requires { IsPlain part.now }
+        requires plain { IsPlain part.now }
+        requires sound { W.failed sink.old ≡ false }
         ensures ok { (taken sent : List ℕ)
             → IsAfter self.old taken sent
             → OnOk result ((more : List ℕ) × Appends (W.written sink.old) (W.written sink.new) more
@@ -98,6 +101,7 @@ impl Script {
             → IsAfter self.old taken sent
             → IfErr result (λ stop. FeedStops stop (W.written sink.old) (W.written sink.new) (W.failed sink.new)
             self.new.desk.outgoing.bytes.items (taken ++ (part.now ++ 10 ∷ [])) sent) }
+        ensures sound { MatchResult result (λ _. W.failed sink.new ≡ W.failed sink.old) (λ stop. stop ≢ Stop.WriteFault → W.failed sink.new ≡ W.failed sink.old) }
     {
         if self.line.is_empty() {
             return match self.desk.answer(sink, arena, part, is_blank(part)) {
@@ -117,6 +121,7 @@ impl Script {
 
     // Takes the next piece of the input, and answers each line that ends in it.
     fn feed<W: Sink>(&mut self, sink: &mut W, arena: &mut Bump, piece: &[u8]) -> Result<(), Stop>
+        requires { W.failed sink.old ≡ false }
         ensures ok { (taken sent : List ℕ)
             → IsAfter self.old taken sent
             → OnOk result ((more : List ℕ) × Appends (W.written sink.old) (W.written sink.new) more
@@ -125,6 +130,7 @@ impl Script {
             → IsAfter self.old taken sent
             → IfErr result (λ stop. FeedStops stop (W.written sink.old) (W.written sink.new) (W.failed sink.new)
             self.new.desk.outgoing.bytes.items (taken ++ piece.now) sent) }
+        ensures sound { MatchResult result (λ _. W.failed sink.new ≡ W.failed sink.old) (λ stop. stop ≢ Stop.WriteFault → W.failed sink.new ≡ W.failed sink.old) }
     {
         let mut rest = piece;
         while let Some((part, after)) = split_line(rest) {
@@ -151,7 +157,10 @@ impl Script {
         requires unread { R.reads source.old ≡ 0 }
         requires room { 0 < length block.old }
         requires begins { IsAfter self.old [] [] }
-        ensures { (taken sent : List ℕ) × Consumes (R.left source.old) (R.left source.new) taken
+        requires sound { W.failed sink.old ≡ false }
+        ensures source { result ≢ ScriptEnd.ReadFault → R.failed source.new ≡ R.failed source.old }
+        ensures sink { result ≢ ScriptEnd.WriteFault → W.failed sink.new ≡ W.failed sink.old }
+        ensures halts { (taken sent : List ℕ) × Consumes (R.left source.old) (R.left source.new) taken
             × Appends (W.written sink.old) (W.written sink.new) sent
             × Halts result (R.left source.new) (R.failed source.new) (R.reads source.new) (W.failed sink.new) self.new taken sent }
     {
@@ -172,7 +181,9 @@ impl Script {
 
     // Writes what is kept of the answers, and ends so if that succeeds.
     fn send<W: Sink>(&mut self, sink: &mut W, end: ScriptEnd) -> ScriptEnd
-        ensures { Sends end result (W.written sink.old) (W.written sink.new) (W.failed sink.new) self.old.desk.outgoing.bytes.items }
+        requires { W.failed sink.old ≡ false }
+        ensures sends { Sends end result (W.written sink.old) (W.written sink.new) (W.failed sink.new) self.old.desk.outgoing.bytes.items }
+        ensures sound { result ≢ ScriptEnd.WriteFault → (W.failed sink.new ≡ W.failed sink.old) × (W.handed_on sink.new ≡ true) }
     {
         match self.desk.outgoing.send(sink) {
             Ok(()) => match sink.flush() {
@@ -186,7 +197,10 @@ impl Script {
     // Answers a last line that has no line feed, where the input is at its end, and writes what is
     // kept of the answers.
     fn finish<W: Sink>(&mut self, sink: &mut W, arena: &mut Bump, end: ScriptEnd) -> ScriptEnd
-        ensures { (taken sent : List ℕ) (left : Option (List ℕ)) (source_failed : Bool) (reads : ℕ)
+        requires { end ≢ ScriptEnd.WriteFault → W.failed sink.old ≡ false }
+        ensures sound { result ≢ ScriptEnd.WriteFault → (end ≢ ScriptEnd.WriteFault) × (W.failed sink.new ≡ W.failed sink.old) × (W.handed_on sink.new ≡ true) }
+        ensures fault { end ≡ ScriptEnd.ReadFault → result ≢ ScriptEnd.WriteFault → result ≡ ScriptEnd.ReadFault }
+        ensures ends { (taken sent : List ℕ) (left : Option (List ℕ)) (source_failed : Bool) (reads : ℕ)
             → Halts end left source_failed reads (W.failed sink.old) self.old taken sent
             → (more : List ℕ) × Appends (W.written sink.old) (W.written sink.new) more
             × Ends result taken left source_failed reads (W.failed sink.new) (sent ++ more) }
@@ -208,7 +222,7 @@ impl Script {
 
 /// Runs a script: reads its header and its requests from the source, and writes their answers to the
 /// sink, which has them when the script ends or 64 KiB of them are kept. It takes 128 KiB for what is
-/// read and written, up to about 1 MiB for a line that is cut by the end of a block, and what each
+/// read and written, up to about 2 MiB for a line that is cut by the end of a block, and what each
 /// line needs; each step is handed the arena. A sink that has failed is written to no more.
 pub fn run_script<R: Source, W: Sink>(
     alloc: Global,
@@ -219,7 +233,9 @@ pub fn run_script<R: Source, W: Sink>(
     requires unread { R.reads source.old ≡ 0 }
     requires source { R.failed source.old ≡ false }
     requires sink { W.failed sink.old ≡ false }
-    ensures { (taken out : List ℕ) × Consumes (R.left source.old) (R.left source.new) taken
+    ensures source { result ≢ ScriptEnd.ReadFault → result ≢ ScriptEnd.WriteFault → R.failed source.new ≡ false }
+    ensures sink { result ≢ ScriptEnd.WriteFault → (W.failed sink.new ≡ false) × (W.handed_on sink.old ≡ true → W.handed_on sink.new ≡ true) }
+    ensures ends { (taken out : List ℕ) × Consumes (R.left source.old) (R.left source.new) taken
         × Appends (W.written sink.old) (W.written sink.new) out
         × Ends result taken (R.left source.new) (R.failed source.new) (R.reads source.new) (W.failed sink.new) out }
 {

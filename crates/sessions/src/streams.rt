@@ -1,5 +1,5 @@
 //! Sources and sinks over the streams of std.
-ghost use Rattle.std.specs.Prelude.{◌≡◌, false};
+ghost use Rattle.std.specs.Prelude.{◌≡◌, true, false};
 ghost use Rattle.std.specs.Io.{ReadsAtMost, WritesAtMost};
 ghost use Rattle.std.specs.Io.KnownBytes.{ReadConsumes, WriteAppends};
 
@@ -22,6 +22,7 @@ pub struct Reading<R> {
 pub struct Writing<W> {
     inner: W,
     failed: bool,
+    handed_on: bool,
 }
 
 impl<R: io::Read> Reading<R> {
@@ -44,10 +45,12 @@ impl<W: io::Write> Writing<W> {
     pub fn new(inner: W) -> Writing<W>
         ensures written { W.contents result.inner ≡ W.contents inner }
         ensures failed { result.failed ≡ false }
+        ensures handed_on { result.handed_on ≡ true }
     {
         Writing {
             inner,
             failed: false,
+            handed_on: true,
         }
     }
 }
@@ -76,7 +79,10 @@ impl<W: io::Write> Sink for Writing<W> {
 
     ghost failed = { λ sink. sink.failed };
 
+    ghost handed_on = { λ sink. sink.handed_on };
+
     fn write(&mut self, text: &[u8]) -> Result<usize, Broken> {
+        self.handed_on = false;
         match write_once(&mut self.inner, text) {
             Ok(0) => {
                 if text.is_empty() {
@@ -95,7 +101,10 @@ impl<W: io::Write> Sink for Writing<W> {
 
     fn flush(&mut self) -> Result<(), Broken> {
         match self.inner.flush() {
-            Ok(()) => Ok(()),
+            Ok(()) => {
+                self.handed_on = true;
+                Ok(())
+            }
             Err(_) => {
                 self.failed = true;
                 Err(Broken)

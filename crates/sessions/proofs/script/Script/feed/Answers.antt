@@ -2,6 +2,7 @@ use Rattle.std.proofs.Common.{◌≡◌, [], ◌∷◌, ◌++◌, refl, sym, ap,
 use Rattle.std.proofs.lemmas.List.{append-nil}
 use Rattle.sessions.specs.declared.desk.Stop.TheVariants as stops
 use Rattle.sessions.proofs.Sending.{Appends-refl}
+use Rattle.sessions.proofs.Ending.{phase_of-refused}
 use Rattle.sessions.proofs.Feeding.{piece-append, Follows-at, Follows-after, Follows-part, FeedStops-after, FeedStops-part}
 use Rattle.sessions.proofs.script.Script.feed.Goals as goal
 
@@ -14,6 +15,7 @@ loop-part-preserved g c =
       λ taken sent f.
           let r = i.2 taken sent f in
           Follows-after _ _ _ taken i.0 (part ++ 10 ∷ []) sent r.0 r.1 (c.in-Ok.ensures.ok (taken ++ i.0) (sent ++ r.0) r.2),
+      c.in-Ok.ensures.sound ∙ i.3,
     )
 
 pub returns-in-Err-clause-err : goal.returns-in-Err-clause-err
@@ -40,4 +42,13 @@ returns-in-Err-add-clause-err g c = λ taken sent f.
     let r = i.2 taken sent f in
     let whole : ((taken ++ i.0) ++ c.loop-part.rest.now) ++ [] ≡ taken ++ c.args.piece.now =
     append-nil _ ∙ append_assoc taken i.0 c.loop-part.rest.now ∙ ap (λ x. taken ++ x) (sym i.1) in
-    FeedStops-after stops.NoMemory _ _ _ (g.W.Sink.failed c.args.sink.now) _ _ [] _ sent r.0 whole r.1 (FeedStops-part r.2 _ _ (g.W.Sink.failed c.args.sink.now) c.loop-part.rest.now (Appends-refl _))
+    FeedStops-after stops.NoMemory _ _ _ (g.W.Sink.failed c.args.sink.now) _ _ [] _ sent r.0 whole r.1 (FeedStops-part r.2 (phase_of-refused _) _ _ (g.W.Sink.failed c.args.sink.now) c.loop-part.rest.now (Appends-refl _))
+
+pub returns-in-Err-clause-sound : goal.returns-in-Err-clause-sound
+returns-in-Err-clause-sound g c = λ n. c.in-Err.ensures.sound n ∙ c.loop-part.invariant.3
+
+pub returns-in-Ok-add-clause-sound : goal.returns-in-Ok-add-clause-sound
+returns-in-Ok-add-clause-sound g c = c.loop-part.invariant.3
+
+pub returns-in-Err-add-clause-sound : goal.returns-in-Err-add-clause-sound
+returns-in-Err-add-clause-sound g c = λ n. c.loop-part.invariant.3

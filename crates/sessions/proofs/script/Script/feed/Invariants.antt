@@ -8,6 +8,7 @@ invariant-loop-part g l =
     (done : List ℕ) × (l.piece ≡ done ++ l.rest) × ((taken sent : List ℕ) →
     IsAfter l.fn.self taken sent →
     (more : List ℕ) × Appends (g.W.Sink.written l.fn.sink) (g.W.Sink.written l.sink) more × IsAfter l.self (taken ++ done) (sent ++ more))
+    × (g.W.Sink.failed l.sink ≡ g.W.Sink.failed l.fn.sink)
 
 abbrev pub decreases-loop-part : goal.decreases-loop-part
 decreases-loop-part g l = length l.rest
