@@ -1,9 +1,11 @@
 //! What a line is answered: a header by its acceptance or its refusal, a request by a reply.
-ghost use Rattle.std.specs.Prelude.{◌≡◌, IfOk};
+ghost use Rattle.std.specs.Prelude.{◌≡◌, IfOk, IsOk};
 ghost use Rattle.sessions.specs.Text.{text, fault_text, rules_fault_text};
 ghost use Rattle.sessions.specs.Said.{unopened, running, as_line};
 ghost use Rattle.sessions.specs.Follow.{phase_of, reached, bytes_of, Adds};
 ghost use Rattle.rtdb_core.specs.declared.reply.Reply.TheVariants as replies;
+ghost use Rattle.rtdb_core.specs.declared.reply.Refusal.TheVariants as refusals;
+ghost use Rattle.rules_reader.specs.declared.fault.RulesFault.TheVariants as rules_faults;
 ghost use Rattle.sessions.specs.declared.message.MessageFault.TheVariants as message_faults;
 
 use crate::answer::{write_accepted, write_fault, write_reply, write_rules_fault};
@@ -93,7 +95,9 @@ fn open(alloc: Global, line: &[u8]) -> Result<(Option<Core>, Answer), NoMemory>
 
 #[tactic(auto, using(crate::proofs::Fixed::no_memory_of_reply))]
 fn say(alloc: Global, reply: &Reply) -> Result<Answer, NoMemory>
-    ensures { IfOk result (λ answer. bytes_of answer ≡ as_line (text reply.now)) }
+    ensures line { IfOk result (λ answer. bytes_of answer ≡ as_line (text reply.now)) }
+    ensures done { reply.now ≡ replies.Done → IsOk result }
+    ensures no_memory { reply.now ≡ replies.Refused refusals.NoMemory → IsOk result }
 {
     match reply {
         Reply::Done => Ok(Answer::Done),
@@ -103,7 +107,8 @@ fn say(alloc: Global, reply: &Reply) -> Result<Answer, NoMemory>
 }
 
 fn say_fault(alloc: Global, fault: MessageFault) -> Result<Answer, NoMemory>
-    ensures { IfOk result (λ answer. bytes_of answer ≡ as_line (fault_text fault)) }
+    ensures line { IfOk result (λ answer. bytes_of answer ≡ as_line (fault_text fault)) }
+    ensures no_memory { fault ≡ message_faults.NoMemory → IsOk result }
 {
     match fault {
         MessageFault::NoMemory => Ok(Answer::NoMemory),
@@ -113,7 +118,8 @@ fn say_fault(alloc: Global, fault: MessageFault) -> Result<Answer, NoMemory>
 
 #[tactic(auto, using(crate::proofs::Fixed::no_memory_of_rules))]
 fn say_rules_fault(alloc: Global, fault: &RulesFault) -> Result<Answer, NoMemory>
-    ensures { IfOk result (λ answer. bytes_of answer ≡ as_line (rules_fault_text fault.now)) }
+    ensures line { IfOk result (λ answer. bytes_of answer ≡ as_line (rules_fault_text fault.now)) }
+    ensures no_memory { fault.now ≡ rules_faults.NoMemory → IsOk result }
 {
     match fault {
         RulesFault::NoMemory => Ok(Answer::NoMemory),

@@ -3,7 +3,7 @@ use Rattle.sessions.proofs.respond.answer_request.Goals as goal
 
 pub returns-in-Ok : goal.returns-in-Ok
 returns-in-Ok c =
-    IfOk-Adds-reply _ _ _ _ c.in-Ok.request c.step-reply.result c.in-Ok.ensures.asked c.step-reply.ensures c.say.ensures
+    IfOk-Adds-reply _ _ _ _ c.in-Ok.request c.step-reply.result c.in-Ok.ensures.asked c.step-reply.ensures c.say.ensures.line
 
 pub returns-in-Err : goal.returns-in-Err
-returns-in-Err c = IfOk-Adds-fault _ _ _ c.in-Err.fault c.in-Err.ensures.asked c.say_fault.ensures
+returns-in-Err c = IfOk-Adds-fault _ _ _ c.in-Err.fault c.in-Err.ensures.asked c.say_fault.ensures.line
