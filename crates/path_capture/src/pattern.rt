@@ -66,7 +66,7 @@ impl Part {
 }
 
 /// A pattern: a list of keys and captures, from the root down to where a rule stands. It keeps the
-/// allocator that it was made with. Contracts see the list of its parts. (Reference, core syntax:
+/// allocator that it was made with, for all that it takes later. Contracts see the list of its parts. (Reference, core syntax:
 /// `$` captures.)
 #[derive(Debug, Drop)]
 pub struct Pattern {
@@ -133,18 +133,18 @@ impl Pattern {
     }
 
     /// The text of the pattern: `/` where it is empty, else as `/rooms/$r`.
-    pub fn print(&self, alloc: Global) -> Result<String, NoMemory>
+    pub fn print(&self) -> Result<String, NoMemory>
         ensures { IfOk result (λ text. string_bytes text ≡ printed_pattern self.now) }
     {
-        print_parts(alloc, self.held.as_slice())
+        print_parts(*self.held.allocator(), self.held.as_slice())
     }
 
     /// The same pattern once more, by one growth for the list and one for each part.
-    pub fn copy(&self, alloc: Global) -> Result<Pattern, NoMemory>
+    pub fn copy(&self) -> Result<Pattern, NoMemory>
         ensures { IfOk result (λ pattern. pattern ≡ self.now) }
     {
         Ok(Pattern {
-            held: copies(alloc, self.held.as_slice())?,
+            held: copies(*self.held.allocator(), self.held.as_slice())?,
         })
     }
 }

@@ -127,15 +127,15 @@ fn rooms(alloc: Global) -> Result<Pattern, Fail> {
 fn a_pattern_and_its_parts(rt: HostRuntime) -> Result<(), Fail> {
     let alloc = rt.alloc();
     let mut pattern = rooms(alloc)?;
-    assert_eq!(rt; pattern.copy(alloc)?.print(alloc)?.as_str(), "/rooms/$r");
+    assert_eq!(rt; pattern.copy()?.print()?.as_str(), "/rooms/$r");
     assert_eq!(rt; pattern.len(), 2);
     assert!(rt; matches!(pattern.part(0), Some(Part::Literal(_))));
     assert!(rt; pattern.part(2).is_none());
     assert!(rt; matches!(pattern.pop(), Some(Part::Capture(_))));
-    assert_eq!(rt; pattern.print(alloc)?.as_str(), "/rooms");
+    assert_eq!(rt; pattern.print()?.as_str(), "/rooms");
     assert!(rt; pattern.pop().is_some());
     assert!(rt; pattern.pop().is_none());
-    assert_eq!(rt; pattern.print(alloc)?.as_str(), "/");
+    assert_eq!(rt; pattern.print()?.as_str(), "/");
     Ok(())
 }
 

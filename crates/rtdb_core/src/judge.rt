@@ -52,13 +52,13 @@ pub fn named_rules(
 {
     let mut named = Vec::new(alloc);
     let mut node = rules.root();
-    name(alloc, node, access, &mut named)?;
+    name(node, access, &mut named)?;
     for key in path {
         match node.step(key) {
             Some(next) => node = next,
             None => return Ok(NamedRules::of_vec(named)),
         }
-        name(alloc, node, access, &mut named)?;
+        name(node, access, &mut named)?;
     }
     Ok(NamedRules::of_vec(named))
 }
@@ -81,17 +81,12 @@ fn stated(node: &RuleNode, access: Access) -> Option<bool>
 }
 
 // Adds the rule of this access that the node states, if it does.
-fn name(
-    alloc: Global,
-    node: &RuleNode,
-    access: Access,
-    named: &mut Vec<Named>,
-) -> Result<(), NoMemory>
+fn name(node: &RuleNode, access: Access, named: &mut Vec<Named>) -> Result<(), NoMemory>
     ensures none { option_and_then (stated_for (kind_of access)) (get node.now.book []) ≡ None → OnOk result (named.new.items ≡ named.old.items) }
     ensures some { IsSome (option_and_then (stated_for (kind_of access)) (get node.now.book [])) → OnOk result ((rule : Named) × (named.new.items ≡ named.old.items ++ rule ∷ []) × (texts rule.pattern ≡ node.now.at) × (rule.why ≡ Why.No)) }
 {
     if stated(node, access).is_some() {
-        let pattern = node.pattern().copy(alloc)?;
+        let pattern = node.pattern().copy()?;
         named.push(Named {
             pattern,
             why: Why::No,

@@ -78,7 +78,7 @@ fn constant(value: &Value, name: &str) -> Option<bool>
 fn below(alloc: Global, pattern: &Pattern, part: &Part) -> Result<Pattern, NoMemory>
     ensures { IfOk result (λ longer. texts longer ≡ texts pattern.now ++ text_of part.now ∷ []) }
 {
-    let mut longer = pattern.copy(alloc)?;
+    let mut longer = pattern.copy()?;
     longer.push(part.copy(alloc)?)?;
     Ok(longer)
 }

@@ -9,7 +9,7 @@ fn answer(alloc: Global, file: &str) -> Result<String, Fail> {
     match compile(alloc, file.as_bytes()) {
         Ok(rules) => Ok(format!(in alloc; "{} rules", rules.count())?),
         Err(RulesFault::BadRulesShape(pattern)) => {
-            let pattern = pattern.print(alloc)?;
+            let pattern = pattern.print()?;
             Ok(format!(in alloc; "BadRulesShape {pattern}")?)
         }
         Err(RulesFault::BadRulesJson) => Ok(String::from_str(alloc, "BadRulesJson")?),
@@ -172,7 +172,7 @@ fn literal_before_capture(rt: HostRuntime) -> Result<(), Fail> {
         let keys = Path::parse(alloc, path)?;
         let found = match rules.find(keys.keys()) {
             Some(node) => {
-                let pattern = node.pattern().print(alloc)?;
+                let pattern = node.pattern().print()?;
                 let read = node.read();
                 let write = node.write();
                 let validate = node.validate();

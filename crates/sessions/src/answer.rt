@@ -130,7 +130,7 @@ fn value_of_rules_fault(alloc: Global, fault: &RulesFault) -> Result<Value, NoMe
     match fault {
         RulesFault::BadRulesJson => plain(alloc, Code::BadRulesJson),
         RulesFault::BadRulesShape(pattern) => {
-            let place = pattern.print(alloc)?;
+            let place = pattern.print()?;
             placed(alloc, Code::BadRulesShape, place.as_str())
         }
         RulesFault::TooManyRules => plain(alloc, Code::TooManyRules),
@@ -209,7 +209,7 @@ fn values_of(alloc: Global, named: &[Named]) -> Result<Value, NoMemory>
 fn value_of_named(alloc: Global, named: &Named) -> Result<Value, NoMemory>
     ensures { IfOk result (λ value. view value ≡ named_data named.now) }
 {
-    let pattern = named.pattern.print(alloc)?;
+    let pattern = named.pattern.print()?;
     let why = match named.why {
         Why::No => "false",
         Why::Erred => "error",
