@@ -1,0 +1,7 @@
+pub mod Tree
+pub mod View
+pub mod Grammar
+pub mod Stopping
+pub mod Printing
+pub mod Reading
+pub mod Gives
