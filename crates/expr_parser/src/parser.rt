@@ -295,8 +295,8 @@ fn elements<'a, 't>(
     let (first, mut rest) = whole(alloc, depth, tokens)?;
     found.push(first)?;
     while let [Token::Comma, after @ ..] = rest {
-        let (next, after) = whole(alloc, depth, after)?;
-        found.push(next)?;
+        let (element, after) = whole(alloc, depth, after)?;
+        found.push(element)?;
         rest = after;
     }
     let [Token::CloseBracket, rest @ ..] = rest else {

@@ -57,13 +57,13 @@ elements-loop-rest-init m c = record {
   shorter = c.in_ok-first.ensures.shorter;
 }
 
-pub elements-returns-in_err-next-clause-gives : goal.elements-returns-in_err-next-clause-gives
-elements-returns-in_err-next-clause-gives m c = rw (← c.loop-rest.invariant.reading) (grind (arith, common_steps, items_is))
+pub elements-returns-in_err-element-clause-gives : goal.elements-returns-in_err-element-clause-gives
+elements-returns-in_err-element-clause-gives m c = rw (← c.loop-rest.invariant.reading) (grind (arith, common_steps, items_is))
 
 pub elements-loop-rest-preserved : goal.elements-loop-rest-preserved
 elements-loop-rest-preserved m c = record {
-  reading = rw (← c.loop-rest.invariant.reading, c.in_ok-push-2.ensures.items, views-push c.loop-rest.found.items c.in_ok-next.next) (grind (arith, common_steps, items_is));
-  shorter = omega (arith, c.in_ok-next.ensures.shorter, c.loop-rest.invariant.shorter, length-take {A = Token}, length-drop {A = Token});
+  reading = rw (← c.loop-rest.invariant.reading, c.in_ok-push-2.ensures.items, views-push c.loop-rest.found.items c.in_ok-element.element) (grind (arith, common_steps, items_is));
+  shorter = omega (arith, c.in_ok-element.ensures.shorter, c.loop-rest.invariant.shorter, length-take {A = Token}, length-drop {A = Token});
 }
 
 pub given-returns-in_err-first-clause-gives : goal.given-returns-in_err-first-clause-gives
