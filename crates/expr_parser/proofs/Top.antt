@@ -1,7 +1,7 @@
 -- Reading all of the tokens.
-use Rattle.std.proofs.Common.{◌≡◌, List, [], ◌∷◌, ◌++◌, length, refl, sym, ap, subst, ◌∙◌, arith, append_assoc}
+use Rattle.std.proofs.Common.{◌≡◌, List, [], ◌∷◌, ◌++◌, length, refl, sym, ap, subst, ◌∙◌, arith, append_assoc, Bool, true, false, ℕ}
 use Rattle.std.specs.Prelude.{Ok, Err}
-use Rattle.std.proofs.lemmas.List.{append-nil}
+use Rattle.std.proofs.lemmas.List.{append-nil, append_cancel_right}
 use Rattle.expr_parser.specs.declared.token.Token.{Token}
 use Rattle.expr_parser.specs.declared.token.Token.TheVariants as t
 use Rattle.expr_parser.specs.declared.parser.ParseFault.{ParseFault}
@@ -14,8 +14,8 @@ use Rattle.expr_parser.specs.Gives.{Refuses}
 use Rattle.expr_parser.specs.Reading.{Whole, read}
 use Rattle.expr_parser.proofs.Turns.{place}
 use Rattle.expr_parser.proofs.Complete.{printed_is_read, one_tree}
-use Rattle.expr_parser.proofs.Sound.{Holds, Is, Stays, EndsOperand, IsBracket, spelled-append, read_sound}
-use Rattle.expr_parser.proofs.Rules.{by_rules, by_spelling, derives}
+use Rattle.expr_parser.proofs.Sound.{Holds, Is, Got, Stays, Kind, EndsOperand, IsBracket, Free, free_not, Quiet, ends, ends-append, ends-operand, spelled-append, read_sound}
+use Rattle.expr_parser.proofs.Rules.{by_rules, by_spelling, derives, derived}
 use Rattle.expr_parser.proofs.Ahead.{stops_never, behind_never}
 
 spells_read : (ts : List Token) (x : Tree) → Spells ts x → read Whole 0 ts ≡ Ok (x, [])
@@ -26,7 +26,7 @@ pub one_expression : (ts : List Token) (x y : Tree) → Spells ts x → Spells t
 one_expression ts x y h g = one_tree ts x y (by_spelling ts x h) (by_spelling ts y g)
 
 read_piece : (ts : List Token) (x : Tree) (rest : List Token) → read Whole 0 ts ≡ Ok (x, rest) → Is 0 0 ts (x, rest)
-read_piece ts x rest e = subst (Holds (Is 0 0 ts) (Stays 0 0 ts)) e (read_sound ts)
+read_piece ts x rest e = (subst (Holds (Got 0 0 ts) (Stays 0 0 ts)) e (read_sound ts)).0
 
 pub is_found : (ts : List Token) (x : Tree) (rest : List Token) → read Whole 0 ts ≡ Ok (x, rest) → length rest ≡ 0 → Spells ts x
 is_found ts x [] e h = let p = read_piece ts x [] e in by_rules ts x (record { fits = p.fits; tokens_are = p.tokens })
@@ -47,8 +47,11 @@ no_refusal ts (Bracket n) y e h = let s = sym e ∙ spells_read ts y h in absurd
 
 -- ---- where reading stops
 
-stays : (ts : List Token) (e : ParseFault) → read Whole 0 ts ≡ Err e → Stays 0 0 ts e
-stays ts e h = subst (Holds (Is 0 0 ts) (Stays 0 0 ts)) h (read_sound ts)
+unexpected : (ts : List Token) (n : ℕ) → read Whole 0 ts ≡ Err (Unexpected n) → Stays 0 0 ts (Unexpected n)
+unexpected ts n h = subst (Holds (Got 0 0 ts) (Stays 0 0 ts)) h (read_sound ts)
+
+bracket : (ts : List Token) (n : ℕ) → read Whole 0 ts ≡ Err (Bracket n) → Stays 0 0 ts (Bracket n)
+bracket ts n h = subst (Holds (Got 0 0 ts) (Stays 0 0 ts)) h (read_sound ts)
 
 none_goes_on : (ts before left : List Token) (e : ParseFault) → ts ≡ before ++ left → length left ≡ place e → read Whole 0 ts ≡ Err e → NoneGoesOn before left
 none_goes_on ts before [] e parts count h = λ x D. let s = sym h ∙ ap (read Whole 0) (parts ∙ append-nil before) ∙ spells_read before x D in cc
@@ -78,10 +81,24 @@ indexed ts before (t.OpenBracket ∷ more) parts k b = record {
 }
 indexed ts before (u ∷ left) parts k b = absurd b
 
+ends-behind : (us vs : List Token) → ends vs ≡ true → ends (us ++ vs) ≡ true
+ends-behind us [] h = cc
+ends-behind us (v ∷ vs) h = ends-append us v vs ∙ h
+
+is_bracket : (left more : List Token) → left ≡ t.OpenBracket ∷ more → IsBracket left
+is_bracket left more e = subst IsBracket (sym e) tt
+
+not_indexed : (ts before left : List Token) → ts ≡ before ++ left → Quiet before left → Indexed ts left → ⊥
+not_indexed ts before left parts quiet i =
+    let whole : before ++ left ≡ (i.front ++ i.operand) ++ left = sym parts ∙ i.parts ∙ sym (append_assoc i.front i.operand left) in
+    let same : before ≡ i.front ++ i.operand = append_cancel_right before (i.front ++ i.operand) left whole in
+    let p = derived 8 i.levels i.operand [] i.tree i.postfix in
+    quiet (is_bracket left i.more i.bracket) (ap ends same ∙ ends-behind i.front i.operand (ap ends p.tokens ∙ ends-operand i.tree i.levels p.fits))
+
 pub is_refused : (ts : List Token) (r : ParseFault) → Refuses r (read Whole 0 ts) → Refused ts r
 is_refused ts NoMemory h = tt
-is_refused ts (Unexpected n) h = let s = stays ts (Unexpected n) h in (s.left, s.count, stops_at ts (Unexpected n) h s)
-is_refused ts (Bracket n) h = let s = stays ts (Bracket n) h in (s.left, s.count, stops_at ts (Bracket n) h s, indexed ts s.before s.left s.parts s.kind.0 s.kind.1)
+is_refused ts (Unexpected n) h = let s = unexpected ts n h in (s.left, s.count, stops_at ts (Unexpected n) h s, not_indexed ts s.before s.left s.parts s.kind)
+is_refused ts (Bracket n) h = let s = bracket ts n h in (s.left, s.count, stops_at ts (Bracket n) h s, indexed ts s.before s.left s.parts s.kind.0 s.kind.1)
 
 -- ---- what stands behind an expression
 
@@ -89,6 +106,7 @@ pub left_over : (ts : List Token) (x : Tree) (rest : List Token) → read Whole 
 left_over ts x [] e some = absurd (some refl)
 left_over ts x (u ∷ left) e some =
     let p = read_piece ts x (u ∷ left) e in
+    let free : Free (u ∷ left) = (subst (Holds (Got 0 0 ts) (Stays 0 0 ts)) e (read_sound ts)).1 in
     let parts : ts ≡ spelled x [] ++ u ∷ left = p.tokens ∙ sym (spelled-append x [] (u ∷ left)) in (
       u ∷ left,
       refl,
@@ -100,4 +118,5 @@ left_over ts x (u ∷ left) e some =
         goes_on = by_rules (spelled x [] ++ []) x (record { fits = p.fits; tokens_are = spelled-append x [] [] });
         never = λ others y D. behind_never (spelled x []) left others u x y (sym (ap (read Whole 0) parts) ∙ e) (spells_read (spelled x [] ++ u ∷ others) y D);
       },
+      λ i. free_not (u ∷ left) free (is_bracket (u ∷ left) i.more i.bracket),
     )

@@ -4,7 +4,7 @@ use Rattle.expr_parser.specs.declared.operator.Operator.TheVariants as b
 use Rattle.expr_parser.specs.declared.token.Token.{Token}
 use Rattle.expr_parser.specs.declared.token.Token.TheVariants as t
 use Rattle.expr_parser.specs.declared.parser.ParseFault.{ParseFault}
-use Rattle.expr_parser.specs.declared.parser.ParseFault.TheVariants.{Unexpected, Bracket}
+use Rattle.expr_parser.specs.declared.parser.ParseFault.TheVariants.{Unexpected, Bracket, NoMemory}
 use Rattle.expr_parser.specs.Tree.{Tree, Trees, Argument, Arguments, Number, Text, True, False, Null, Variable, Capture, Group, Member, Call, Not, Negate, Operation, Choice, One, Listed, no_argument, argument, none, more}
 use Rattle.expr_parser.specs.Grammar.{level}
 
@@ -161,7 +161,7 @@ step r (Items xs) d ts = items r d xs ts
 
 -- at most k turns
 abbrev pub run : ℕ → Reader
-run zero m d ts = stop ts
+run zero m d ts = Err NoMemory
 run (suc k) m d ts = step (run k) m d ts
 
 -- each turn takes a token

@@ -37,5 +37,5 @@ pub record Indexed (tokens left : List Token) : Type 0 where
 -- The place where tokens are refused, by how many tokens are left.
 abbrev pub Refused : List Token → ParseFault → Type 0
 Refused tokens NoMemory = Unit {0}
-Refused tokens (Unexpected n) = (left : List Token) × (length left ≡ n) × StopsAt tokens left
+Refused tokens (Unexpected n) = (left : List Token) × (length left ≡ n) × StopsAt tokens left × (Indexed tokens left → ⊥)
 Refused tokens (Bracket n) = (left : List Token) × (length left ≡ n) × StopsAt tokens left × Indexed tokens left
