@@ -38,7 +38,7 @@ module _ (d : Bool) (c : ℕ) (w : List ℕ) where
   pub token_name : is_name_start c ≡ true → token_of d (c ∷ w) ≡ name d (c ∷ w)
   token_name e = past_number (start_no_digit c e) ∙ ap (λ b. cond b (name d (c ∷ w)) (cond (is_quote c) (option_map t.Text (meaning (c ∷ w))) (cond (eqb c 36) (capture w) (word_in signs (c ∷ w))))) e
 
-  past_name : is_ascii_digit c ≡ false → is_name_start c ≡ false → token_of d (c ∷ w) ≡ cond (is_quote c) (option_map t.Text (meaning (c ∷ w))) (cond (eqb c 36) (capture w) (word_in signs (c ∷ w)))
+  pub past_name : is_ascii_digit c ≡ false → is_name_start c ≡ false → token_of d (c ∷ w) ≡ cond (is_quote c) (option_map t.Text (meaning (c ∷ w))) (cond (eqb c 36) (capture w) (word_in signs (c ∷ w)))
   past_name e f = past_number e ∙ ap (λ b. cond b (name d (c ∷ w)) (cond (is_quote c) (option_map t.Text (meaning (c ∷ w))) (cond (eqb c 36) (capture w) (word_in signs (c ∷ w))))) f
 
   pub token_text : is_quote c ≡ true → token_of d (c ∷ w) ≡ option_map t.Text (meaning (c ∷ w))
@@ -51,7 +51,7 @@ pub token_capture : (d : Bool) (w : List ℕ) → token_of d (36 ∷ w) ≡ capt
 token_capture d w = refl
 
 -- what fails a test, fails it wherever it goes on
-broken : (p : ℕ → Bool) (w : List ℕ) (c : ℕ) (more : List ℕ) → p c ≡ false → list_all p (w ++ c ∷ more) ≡ false
+pub broken : (p : ℕ → Bool) (w : List ℕ) (c : ℕ) (more : List ℕ) → p c ≡ false → list_all p (w ++ c ∷ more) ≡ false
 broken p [] c more e = ap (λ x. x && list_all p more) e
 broken p (x ∷ w) c more e = go (p x) (broken p w c more e)
   where
@@ -211,7 +211,7 @@ capture_fails place behind h = (place, (refl, 0, omega arith, inr (inl (refl, re
 
 -- texts
 
-unquoted_end : (q : ℕ) (rest : List ℕ) → unquoted q (q ∷ rest) ≡ closed rest
+pub unquoted_end : (q : ℕ) (rest : List ℕ) → unquoted q (q ∷ rest) ≡ closed rest
 unquoted_end q rest = ap (λ b. cond b (closed rest) (cond (eqb q 92) (escaped q rest) (before (q ∷ []) (unquoted q rest)))) (eq-eqb q q refl)
 
 pub inside_meaning : (q : ℕ) (content : List ℕ) → is_quote q ≡ true → (i : IsInside q content) → meaning (q ∷ (content ++ q ∷ [])) ≡ Some (i.says ++ [])

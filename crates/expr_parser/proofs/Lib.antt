@@ -2,3 +2,5 @@ pub mod Texts
 pub mod Runs
 pub mod Signs
 pub mod Fronts
+pub mod Same
+pub mod Whole

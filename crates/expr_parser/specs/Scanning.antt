@@ -1,5 +1,5 @@
 -- What the scanner's parts find at the front of a text.
-use Rattle.std.specs.Prelude.{◌≡◌, ℕ, ◌≤◌, Bool, true, false, ◌==◌, ◌||◌, not, if◌then◌else◌, List, [], ◌∷◌, ◌++◌, length, take, drop, Option, Some, None, ◌⊎◌}
+use Rattle.std.specs.Prelude.{◌≡◌, ℕ, ◌≤◌, Bool, true, false, ◌==◌, ◌||◌, not, if◌then◌else◌, List, [], ◌∷◌, ◌++◌, length, take, drop, Option, Some, None, ◌⊎◌, min}
 use Rattle.std.specs.List.{list_all}
 use Rattle.std.specs.Char.{is_ascii_digit}
 use Rattle.std.specs.Borrow.{Bor}
@@ -7,6 +7,8 @@ use Rattle.expr_parser.specs.declared.fault.ExprFault.{ExprFault}
 use Rattle.expr_parser.specs.declared.token.Token.{Token}
 use Rattle.expr_parser.specs.Words.{first_is, is_name_start}
 use Rattle.expr_parser.specs.Quoted.{is_quote, unquoted, before, escape_at}
+use Rattle.expr_parser.specs.declared.fault.ExprFault.TheVariants.{BadExpression}
+use Rattle.expr_parser.specs.Spelling.{most_bytes}
 use Rattle.expr_parser.specs.Faults.{IsFaultAt}
 
 -- a name comes first
@@ -64,3 +66,8 @@ pub record FailsAt (quote : ℕ) (text : List ℕ) (on : ℕ) : Type 0 where
   pub inside : IsInside quote content
   pub on_is : on ≡ length content
   pub fails : (rest ≡ []) ⊎ ((more : List ℕ) × (rest ≡ 92 ∷ more) × (escape_at more ≡ None))
+
+-- a fault at the byte that is one too many, or behind it, is that of the length
+abbrev pub capped : ExprFault → ExprFault
+capped (BadExpression byte) = BadExpression (min byte most_bytes)
+capped fault = fault

@@ -1,5 +1,5 @@
 -- Which tokens a text spells.
-use Rattle.std.specs.Prelude.{◌≡◌, ℕ, ◌+◌, ◌≤◌, Bool, true, false, List, [], ◌∷◌, ◌++◌, length, Option, Some, None, ⊤}
+use Rattle.std.specs.Prelude.{◌≡◌, ℕ, ◌+◌, ◌<◌, ◌≤◌, take, slice_index, Bool, true, false, List, [], ◌∷◌, ◌++◌, length, Option, Some, None, ⊤}
 use Rattle.expr_parser.specs.declared.token.Token.{Token}
 use Rattle.expr_parser.specs.declared.token.Token.TheVariants as t
 use Rattle.expr_parser.specs.Words.{past_blanks, ends_number}
@@ -47,3 +47,8 @@ pub record PlaceAfter (text : List ℕ) (tokens : List Token) (place : ℕ) : Ty
   pub rest : List ℕ
   pub begins : Begins false tokens text rest
   pub place_is : place + length (past_blanks rest) ≡ length text
+
+-- of each token, the byte where it begins
+pub record ArePlaces (text : List ℕ) (tokens : List Token) (places : List ℕ) : Type 0 where
+  pub same : length places ≡ length tokens
+  pub each : (k : ℕ) → k < length tokens → PlaceAfter text (take k tokens) (slice_index places k)
