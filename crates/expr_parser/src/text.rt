@@ -1,12 +1,12 @@
-//! An owned text.
-ghost use Rattle.std.specs.Prelude.{◌≡◌};
+//! A text that is kept.
+ghost use Rattle.std.specs.Prelude.{◌≡◌, string_bytes};
 
 use std::marker::Model;
 
-/// A text. Contracts see its bytes.
+/// The text that a quoted text of an expression means, in memory of its own. Contracts see its bytes.
 #[derive(Debug, Drop)]
 pub struct Text {
-    pub(crate) held: String,
+    held: String,
 }
 
 impl Model for Text {
@@ -18,10 +18,17 @@ impl Model for Text {
 }
 
 impl Text {
-    /// Its text.
+    /// The text.
     pub fn as_str(&self) -> &str
         ensures { result.now ≡ self.now }
     {
         self.held.as_str()
+    }
+
+    // The text of these bytes.
+    pub(crate) fn of_string(held: String) -> Text
+        ensures { result ≡ string_bytes held }
+    {
+        Text { held }
     }
 }

@@ -1,16 +1,17 @@
-//! What a text is made of.
+//! Tokens.
 
 use crate::operator::Operator;
 use crate::quoted::Quoted;
 use crate::word::Word;
 
-/// A token of an expression. (Firebase Security Rules reference, expressions.)
+/// What the text of an expression is made of. A token borrows the words of its text.
+/// (Firebase Security Rules reference, expressions; which signs there are is this project's profile.)
 #[derive(Debug, Drop)]
 pub enum Token<'a> {
     Number(u64),
     Text(Quoted<'a>),
     Name(Word<'a>),
-    /// A capture, without its `$`.
+    /// The word is without the `$`.
     Capture(Word<'a>),
     True,
     False,
@@ -24,5 +25,6 @@ pub enum Token<'a> {
     Question,
     Colon,
     Not,
+    /// A `-` is [`Operator::Subtract`], with one operand or two.
     Operator(Operator),
 }

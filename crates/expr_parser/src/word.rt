@@ -1,14 +1,14 @@
-//! The word of a name.
+//! The word of a name, where it stands in a text.
 ghost use Rattle.std.specs.Prelude.{◌≡◌, IfOk};
 
 use crate::name::Name;
 use std::alloc::{AllocError, Global};
 use std::marker::Model;
 
-/// The word of a name, borrowed from the text. Contracts see its bytes.
+/// The word of a name, borrowed from the text that it stands in. Contracts see its bytes.
 #[derive(Debug, Drop)]
 pub struct Word<'a> {
-    pub(crate) text: &'a str,
+    held: &'a str,
 }
 
 impl<'a> Model for Word<'a> {
@@ -16,23 +16,21 @@ impl<'a> Model for Word<'a> {
 
     ghost Value = { List ℕ };
 
-    ghost view = { λ word. word.text.now };
+    ghost view = { λ word. word.held.now };
 }
 
 impl<'a> Word<'a> {
-    /// The same word, owned, in one growth.
+    /// The name in memory of its own, in one growth.
     pub fn copy(&self, alloc: Global) -> Result<Name, AllocError>
         ensures { IfOk result (λ name. name ≡ self.now) }
     {
-        Ok(Name {
-            held: String::from_str(alloc, self.text)?,
-        })
+        Name::of_text(alloc, self.held)
     }
 
     // The word that is this text.
-    pub(crate) fn of_text(text: &'a str) -> Word<'a>
-        ensures { result ≡ text.now }
+    pub(crate) fn of_text(held: &'a str) -> Word<'a>
+        ensures { result ≡ held.now }
     {
-        Word { text }
+        Word { held }
     }
 }
