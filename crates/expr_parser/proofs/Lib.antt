@@ -4,3 +4,4 @@ pub mod Signs
 pub mod Fronts
 pub mod Same
 pub mod Whole
+pub mod Said
