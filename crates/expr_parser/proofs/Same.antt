@@ -102,7 +102,9 @@ escaped_some q (x ∷ cs) m e = go (eqb x 117) refl e
     codes (a ∷ b ∷ c ∷ d ∷ r) k h =
         let s = meant_some (coded a b c d) (unquoted q r) m k in
         record {
-          char = s.0; after = r; says = s.1;
+          char = s.0;
+          after = r;
+          says = s.1;
           escape = ap (λ (z : Bool). cond {A = Option (ℕ × List ℕ)} z (then_rest (coded a b c d) r) (then_rest (letter_in letters x) (a ∷ b ∷ c ∷ d ∷ r))) h ∙ ap (λ (o : Option ℕ). then_rest o r) s.2;
           more = s.3;
           shorter = omega arith;
@@ -113,7 +115,9 @@ escaped_some q (x ∷ cs) m e = go (eqb x 117) refl e
     go false h k =
         let s = meant_some (letter_in letters x) (unquoted q cs) m k in
         record {
-          char = s.0; after = cs; says = s.1;
+          char = s.0;
+          after = cs;
+          says = s.1;
           escape = ap (λ (z : Bool). cond {A = Option (ℕ × List ℕ)} z (coded_at cs) (then_rest (letter_in letters x) cs)) h ∙ ap (λ (o : Option ℕ). then_rest o cs) s.2;
           more = s.3;
           shorter = omega arith;
@@ -281,7 +285,9 @@ text_front d text rest u h s = go s.word s.parts s.spells
         let k = meaning_quote q w m.0 m.1 in
         let r = closed_from (length w) q w w m.0 (omega arith) (read_none q w) k.1 in
         record {
-          quote = q; content = r.content; is_quote = quoted;
+          quote = q;
+          content = r.content;
+          is_quote = quoted;
           parts = p ∙ ap (λ (z : List ℕ). q ∷ (z ++ rest)) r.parts ∙ ap (λ (z : List ℕ). q ∷ z) (append_assoc r.content (q ∷ []) rest);
           inside = r.inside;
         }
