@@ -204,10 +204,26 @@ dollar_none behind (x ∷ w) others h e =
     subst (λ (z : ℕ). token_of false (z ∷ w) ≡ None) one (capture_none w (begins_front w others (ap begins_name (sym two) ∙ h)))
 
 pub capture_fails : (place : ℕ) (behind : List ℕ) → begins_name behind ≡ false → IsFaultFrom place (36 ∷ behind) (BadExpression place)
-capture_fails place behind h = (place, (refl, 0, omega arith, inr (inl (refl, record {
-  first = 36; rest = behind; parts = refl; no_digit = refl; no_quote = refl; no_slash = λ e. absurd cc;
-  none = λ word others e. dollar_none behind word others h e;
-}))))
+capture_fails place behind h = (
+  place,
+  (
+    refl,
+    0,
+    omega arith,
+    inr (inl (
+      refl,
+      record {
+        first = 36;
+        rest = behind;
+        parts = refl;
+        no_digit = refl;
+        no_quote = refl;
+        no_slash = λ e. absurd cc;
+        none = λ word others e. dollar_none behind word others h e;
+      },
+    )),
+  ),
+)
 
 -- texts
 
@@ -261,13 +277,16 @@ text_fails place q body on h k = (place + 1 + on, (refl, 1 + on, omega arith, in
   where
     go : (k.rest ≡ []) ⊎ ((more : List ℕ) × (k.rest ≡ 92 ∷ more) × (escape_at more ≡ None)) → BeginsBadEscape (q ∷ body) (1 + on) ⊎ BeginsUnclosed (q ∷ body) (1 + on)
     go (inl e) = inr (record {
-      quote = q; content = k.content;
+      quote = q;
+      content = k.content;
       parts = ap (λ (z : List ℕ). q ∷ z) (k.parts ∙ ap (λ (z : List ℕ). k.content ++ z) e ∙ append-nil k.content);
       is_content = inside_content q k.content h k.inside;
       on_is = ap (λ (z : ℕ). 1 + z) k.on_is;
     })
     go (inr b) = inl (record {
-      quote = q; content = k.content; rest = b.0;
+      quote = q;
+      content = k.content;
+      rest = b.0;
       parts = ap (λ (z : List ℕ). q ∷ z) (k.parts ∙ ap (λ (z : List ℕ). k.content ++ z) b.1);
       is_content = inside_content q k.content h k.inside;
       bad = b.2;
@@ -331,11 +350,26 @@ sign_not c cs (y ∷ w) others o e p =
 pub sign_fails : (place : ℕ) (text : List ℕ) → first_is is_other text ≡ true → first_in signs text ≡ None → IsFaultFrom place text (BadExpression place)
 sign_fails place [] h e = absurd cc
 sign_fails place (c ∷ cs) h e =
-    let o = other_is c h in
-    (place, (refl, 0, omega arith, inr (inl (refl, record {
-      first = c; rest = cs; parts = refl; no_digit = o.no_digit; no_quote = o.no_quote; no_slash = eqb-false c 47 o.no_slash;
-      none = λ word others p. sign_not c cs word others o e p;
-    }))))
+    let o = other_is c h in (
+      place,
+      (
+        refl,
+        0,
+        omega arith,
+        inr (inl (
+          refl,
+          record {
+            first = c;
+            rest = cs;
+            parts = refl;
+            no_digit = o.no_digit;
+            no_quote = o.no_quote;
+            no_slash = eqb-false c 47 o.no_slash;
+            none = λ word others p. sign_not c cs word others o e p;
+          },
+        )),
+      ),
+    )
 
 pub slash_fails : (place : ℕ) (text : List ℕ) → get_or text 0 0 ≡ 47 → IsFaultFrom place text (NotInProfile Slash)
 slash_fails place [] h = absurd cc

@@ -12,3 +12,4 @@ pub mod Ahead
 pub mod Top
 pub mod Knots
 pub mod Placed
+pub mod Said

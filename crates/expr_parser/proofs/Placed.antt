@@ -1,6 +1,7 @@
 -- From tokens to the text: where the tokens stop.
 use Rattle.std.proofs.Common.{◌≡◌, ℕ, suc, ◌+◌, ◌-◌, ◌<◌, ◌≤◌, Bool, true, false, cond, List, [], ◌∷◌, ◌++◌, length, take, refl, sym, ap, subst, ◌∙◌, arith, inl, inr, ◌⊎◌, length-append}
 use Rattle.std.specs.Prelude.{nat_eq, slice_index, Result, Ok, Err}
+use Rattle.std.proofs.lemmas.Bool.{eqb-true}
 use Rattle.std.proofs.lemmas.List.{append-nil}
 use Rattle.std.proofs.Math.Seq.{take-append_seam}
 use Rattle.expr_parser.specs.declared.expr.Expr.{Expr}
@@ -35,7 +36,7 @@ place_is : (text : List ℕ) (us before left : List Token) (places : List ℕ) �
 place_is text us before [] places h p parts = record {
   rest = h.rest;
   begins = subst (λ (vs : List Token). Begins false vs text h.rest) (parts ∙ append-nil before) h.begins;
-  place_is = ap (λ (r : List ℕ). length text + length r) h.blank;
+  place_is = (let none : length (past_blanks h.rest) ≡ 0 = ap length h.blank in omega (arith, none));
 }
 place_is text us before (u ∷ left) places h p parts =
     let count : length us ≡ length before + suc (length left) = ap length parts ∙ length-append before (u ∷ left) in
@@ -43,7 +44,11 @@ place_is text us before (u ∷ left) places h p parts =
     let each = p.each (length before) (omega (arith, count)) in
     let front : take (length before) us ≡ before = ap (take (length before)) parts ∙ take-append_seam before (u ∷ left) in
     let there : PlaceAfter text before (slice_index places (length before)) = subst (λ (vs : List Token). PlaceAfter text vs (slice_index places (length before))) front each in
-    subst (λ (m : ℕ). PlaceAfter text before (slice_index places m)) (sym k) there
+    go (nat_eq (suc (length left)) 0) refl (subst (λ (m : ℕ). PlaceAfter text before (slice_index places m)) (sym k) there)
+  where
+    go : (b : Bool) → nat_eq (suc (length left)) 0 ≡ b → PlaceAfter text before (slice_index places (length places - suc (length left))) → PlaceAfter text before (cond b (length text) (slice_index places (length places - suc (length left))))
+    go true e there = let never = eqb-true (suc (length left)) 0 e in absurd (omega (arith, never))
+    go false e there = there
 
 -- so many tokens are left as there are places for
 pub left_within : (text : List ℕ) (us : List Token) (places : List ℕ) (n : ℕ) → ArePlaces text us places → Refused us (Unexpected n) → n ≤ length places

@@ -63,17 +63,17 @@ one_run p w v r s e h k m n = elim (compare w v r s e) [
 
 -- quoted texts
 
-quote_is : (q : ℕ) (P : ℕ → Type 0) → is_quote q ≡ true → P 39 → P 34 → P q
+pub quote_is : (q : ℕ) (P : ℕ → Type 0) → is_quote q ≡ true → P 39 → P 34 → P q
 quote_is q P h a b = go (eqb q 39) refl h
   where
     go : (z : Bool) → eqb q 39 ≡ z → (z || eqb q 34) ≡ true → P q
     go true e k = subst P (sym (eqb-true q 39 e)) a
     go false e k = subst P (sym (eqb-true q 34 k)) b
 
-quote_no_slash : (q : ℕ) → is_quote q ≡ true → eqb q 92 ≡ false
+pub quote_no_slash : (q : ℕ) → is_quote q ≡ true → eqb q 92 ≡ false
 quote_no_slash q h = quote_is q (λ z. eqb z 92 ≡ false) h refl refl
 
-before_some : (x : List ℕ) (o : Option (List ℕ)) (m : List ℕ) → before x o ≡ Some m → (n : List ℕ) × (o ≡ Some n)
+pub before_some : (x : List ℕ) (o : Option (List ℕ)) (m : List ℕ) → before x o ≡ Some m → (n : List ℕ) × (o ≡ Some n)
 before_some x None m e = absurd cc
 before_some x (Some n) m e = (n, refl)
 
@@ -90,7 +90,7 @@ pub record Escapes (q : ℕ) (cs : List ℕ) : Type 0 where
   pub more : unquoted q after ≡ Some says
   pub shorter : length after ≤ length cs
 
-escaped_some : (q : ℕ) (cs m : List ℕ) → escaped q cs ≡ Some m → Escapes q cs
+pub escaped_some : (q : ℕ) (cs m : List ℕ) → escaped q cs ≡ Some m → Escapes q cs
 escaped_some q [] m e = absurd cc
 escaped_some q (x ∷ cs) m e = go (eqb x 117) refl e
   where
@@ -102,7 +102,9 @@ escaped_some q (x ∷ cs) m e = go (eqb x 117) refl e
     codes (a ∷ b ∷ c ∷ d ∷ r) k h =
         let s = meant_some (coded a b c d) (unquoted q r) m k in
         record {
-          char = s.0; after = r; says = s.1;
+          char = s.0;
+          after = r;
+          says = s.1;
           escape = ap (λ (z : Bool). cond {A = Option (ℕ × List ℕ)} z (then_rest (coded a b c d) r) (then_rest (letter_in letters x) (a ∷ b ∷ c ∷ d ∷ r))) h ∙ ap (λ (o : Option ℕ). then_rest o r) s.2;
           more = s.3;
           shorter = omega arith;
@@ -113,7 +115,9 @@ escaped_some q (x ∷ cs) m e = go (eqb x 117) refl e
     go false h k =
         let s = meant_some (letter_in letters x) (unquoted q cs) m k in
         record {
-          char = s.0; after = cs; says = s.1;
+          char = s.0;
+          after = cs;
+          says = s.1;
           escape = ap (λ (z : Bool). cond {A = Option (ℕ × List ℕ)} z (coded_at cs) (then_rest (letter_in letters x) cs)) h ∙ ap (λ (o : Option ℕ). then_rest o cs) s.2;
           more = s.3;
           shorter = omega arith;
@@ -139,7 +143,7 @@ closed_from (suc n) q text (c ∷ cs) m l r e = go (eqb c q) (eqb c 92) refl ref
         let s = before_some (c ∷ []) (unquoted q cs) m e' in
         next cs s.0 (omega arith) (read_plain q text c cs r h k) s.1
 
-meaning_quote : (q : ℕ) (cs m : List ℕ) → meaning (q ∷ cs) ≡ Some m → (is_quote q ≡ true) × (unquoted q cs ≡ Some m)
+pub meaning_quote : (q : ℕ) (cs m : List ℕ) → meaning (q ∷ cs) ≡ Some m → (is_quote q ≡ true) × (unquoted q cs ≡ Some m)
 meaning_quote q cs m e = go (is_quote q) refl e
   where
     go : (b : Bool) → is_quote q ≡ b → cond b (unquoted q cs) None ≡ Some m → (is_quote q ≡ true) × (unquoted q cs ≡ Some m)
@@ -281,7 +285,9 @@ text_front d text rest u h s = go s.word s.parts s.spells
         let k = meaning_quote q w m.0 m.1 in
         let r = closed_from (length w) q w w m.0 (omega arith) (read_none q w) k.1 in
         record {
-          quote = q; content = r.content; is_quote = quoted;
+          quote = q;
+          content = r.content;
+          is_quote = quoted;
           parts = p ∙ ap (λ (z : List ℕ). q ∷ (z ++ rest)) r.parts ∙ ap (λ (z : List ℕ). q ∷ z) (append_assoc r.content (q ∷ []) rest);
           inside = r.inside;
         }

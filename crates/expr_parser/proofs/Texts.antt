@@ -131,7 +131,10 @@ read_ends quote text (c ∷ rest) on r z n = absurd (omega arith)
 
 pub read_fails : (quote : ℕ) (text : List ℕ) (c : ℕ) (rest : List ℕ) (on : ℕ) → IsRead quote text (c ∷ rest) → eqb c 92 ≡ true → escape_at rest ≡ None → on + length (c ∷ rest) ≡ length text → FailsAt quote text on
 read_fails quote text c rest on r m h n = record {
-  content = r.content; rest = c ∷ rest; parts = r.parts; inside = r.inside;
+  content = r.content;
+  rest = c ∷ rest;
+  parts = r.parts;
+  inside = r.inside;
   on_is = omega (arith, read_length quote text (c ∷ rest) r);
   fails = inr (rest, ap (λ (z : ℕ). z ∷ rest) (eqb-true c 92 m), h);
 }

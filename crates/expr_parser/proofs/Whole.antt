@@ -139,8 +139,8 @@ spelled_no_fault text us f s (inr t) = let a = s.short in let b = t.long in omeg
 pub one_earliest : (text : List ℕ) (f g : ExprFault) → IsEarliest text f → IsEarliest text g → f ≡ g
 one_earliest text f g (inl a) (inl b) = (one_token_fault text f g a.place b.place a.stands b.stands).0
 one_earliest text f g (inr a) (inr b) = a.fault_is ∙ sym b.fault_is
-one_earliest text f g (inl a) (inr b) = let n = b.none f a.place a.stands in let l = b.long in absurd (elim a.early [ | inl h ↦ omega arith | inr h ↦ omega arith ])
-one_earliest text f g (inr a) (inl b) = let n = a.none g b.place b.stands in let l = a.long in absurd (elim b.early [ | inl h ↦ omega arith | inr h ↦ omega arith ])
+one_earliest text f g (inl a) (inr b) = let n = b.none f a.place a.stands in let l = b.long in absurd (elim a.early [ inl h ↦ omega arith | inr h ↦ omega arith ])
+one_earliest text f g (inr a) (inl b) = let n = a.none g b.place b.stands in let l = a.long in absurd (elim b.early [ inl h ↦ omega arith | inr h ↦ omega arith ])
 
 -- the tokens so far, and the rest of the text
 
@@ -179,17 +179,17 @@ place_next text us ps u p k a b h =
     let m = a.same in
     elim (eqb_tells k (length us)) [
       | inl e ↦
-        let e' = e.1 in
-        subst (λ (z : List Token). PlaceAfter text z (slice_index (ps ++ p ∷ []) k)) (sym (take_at us (u ∷ []) k (sym e.1)))
-            (subst (λ (z : ℕ). PlaceAfter text us z) (sym (get_or_at ps p [] 0 k (omega arith))) b)
+          let e' = e.1 in
+          subst (λ (z : List Token). PlaceAfter text z (slice_index (ps ++ p ∷ []) k)) (sym (take_at us (u ∷ []) k (sym e.1)))
+          (subst (λ (z : ℕ). PlaceAfter text us z) (sym (get_or_at ps p [] 0 k (omega arith))) b)
       | inr e ↦
-        let l : k < length us = lt_from_ne k (length us) (omega arith) e.1 in
-        subst (λ (z : List Token). PlaceAfter text z (slice_index (ps ++ p ∷ []) k)) (sym (take-append-le k us (u ∷ []) (omega arith)))
-            (subst (λ (z : ℕ). PlaceAfter text (take k us) z) (sym (get_or_append_left ps (p ∷ []) 0 k (omega arith))) (a.each k l))
+          let l : k < length us = lt_from_ne k (length us) (omega arith) e.1 in
+          subst (λ (z : List Token). PlaceAfter text z (slice_index (ps ++ p ∷ []) k)) (sym (take-append-le k us (u ∷ []) (omega arith)))
+          (subst (λ (z : ℕ). PlaceAfter text (take k us) z) (sym (get_or_append_left ps (p ∷ []) 0 k (omega arith))) (a.each k l))
     ]
   where
     lt_from_ne : (i j : ℕ) → i < j + 1 → (i ≡ j → ⊥) → i < j
-    lt_from_ne i j a' b' = elim (leb_tells j i) [ | inl t ↦ absurd (b' (let t' = t.1 in omega arith)) | inr t ↦ t.1 ]
+    lt_from_ne i j a' b' = elim (leb_tells j i) [ inl t ↦ absurd (b' (let t' = t.1 in omega arith)) | inr t ↦ t.1 ]
 
 pub kept_next : (text : List ℕ) (us : List Token) (ps rest : List ℕ) (d : Bool) (u : Token) (after : List ℕ) (p : ℕ) → Kept text us ps rest d → Stands d rest u after → p + length rest ≡ length text → Kept text (us ++ u ∷ []) (ps ++ p ∷ []) (past_blanks after) (is_dot u)
 kept_next text us ps rest d u after p k s h =
@@ -225,7 +225,10 @@ kept_long text us ps rest d p k h m l = inr (record {
 
 fault_of : (text : List ℕ) (us : List Token) (ps rest : List ℕ) (d : Bool) (p : ℕ) (f : ExprFault) (q : ℕ) → Kept text us ps rest d → p + length rest ≡ length text → IsFaultAt p rest f q → TokenFault text f q
 fault_of text us ps rest d p f q k h b = record {
-  tokens = us; rest = k.behind; begins = k.begins; byte = p;
+  tokens = us;
+  rest = k.behind;
+  begins = k.begins;
+  byte = p;
   byte_is = subst (λ (z : List ℕ). p + length z ≡ length text) k.rest_is h;
   fault_is = subst (λ (z : List ℕ). IsFaultAt p z f q) k.rest_is b;
 }
@@ -239,8 +242,8 @@ min_high n m h = omega arith
 bad_capped : (text : List ℕ) (n q : ℕ) → n ≡ q → q ≤ length text → TokenFault text (BadExpression n) q → IsEarliest text (BadExpression (min n most_bytes))
 bad_capped text n q e w t = elim (leb_tells most_bytes q) [
   | inr a ↦
-    let a' = a.1 in
-    inl (record { place = q; stands = subst (λ (z : ℕ). TokenFault text (BadExpression z) q) (sym (min_low n most_bytes (omega arith))) t; early = inr a.1 })
+      let a' = a.1 in
+      inl (record { place = q; stands = subst (λ (z : ℕ). TokenFault text (BadExpression z) q) (sym (min_low n most_bytes (omega arith))) t; early = inr a.1 })
   | inl a ↦ let a' = a.1 in long a' (leb_tells (length text) most_bytes)
 ]
   where

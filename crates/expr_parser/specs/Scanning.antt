@@ -19,6 +19,10 @@ begins_name text = first_is is_name_start text
 abbrev pub is_other : ℕ → Bool
 is_other c = not (is_ascii_digit c || is_name_start c || is_quote c || c == 36 || c == 47)
 
+-- a byte of a text in such quotes that stands for itself
+abbrev pub is_plain : ℕ → ℕ → Bool
+is_plain quote c = not (c == quote || c == 92)
+
 -- so many bytes come first that pass, and no more
 pub record IsRun (p : ℕ → Bool) (text : List ℕ) (n : ℕ) : Type 0 where
   pub within : n ≤ length text

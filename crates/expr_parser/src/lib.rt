@@ -32,3 +32,6 @@ pub use scanner::{one_list, tokens};
 pub use text::Text;
 pub use token::Token;
 pub use word::Word;
+
+#[cfg(test)]
+mod token_tests;

@@ -42,8 +42,7 @@ pub fn tokens<'a>(alloc: Global, text: &'a str) -> Result<Vec<Token<'a>>, ExprFa
 /// A text spells at most one list of tokens.
 pub fn one_list()
     ensures { (text : List ℕ) (us vs : List Token) → SpellsTokens text us → SpellsTokens text vs → us ≡ vs }
-{
-}
+{}
 
 // The same as `tokens`, with the place of each token.
 pub(crate) fn scan<'a>(alloc: Global, text: &'a str) -> Result<Scanned<'a>, ExprFault>

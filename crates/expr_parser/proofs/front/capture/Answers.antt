@@ -28,4 +28,4 @@ returns-clause-ok c = λ d.
     let e = c.of_text.ensures ∙ c.split_at-2.ensures.front ∙ ap (take c.name_run.result) c.split_at.ensures.back in
     let f = c.split_at-2.ensures.back ∙ ap (drop c.name_run.result) c.split_at.ensures.back in
     subst (λ (z : List ℕ). Stands d c.args.text.now (t.Capture c.of_text.result) z) (sym f)
-        (subst (λ (w : List ℕ). Stands d c.args.text.now (t.Capture w) (drop c.name_run.result (drop 1 c.args.text.now))) (sym e) s)
+    (subst (λ (w : List ℕ). Stands d c.args.text.now (t.Capture w) (drop c.name_run.result (drop 1 c.args.text.now))) (sym e) s)

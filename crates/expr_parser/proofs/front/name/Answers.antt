@@ -19,4 +19,4 @@ returns c =
     let e = c.named.ensures ∙ ap (named c.args.after_dot) c.split_at.ensures.front in
     let s = name_stands c.args.after_dot c.args.text.now c.name_run.result r c.requires in
     subst (λ (z : List ℕ). Stands c.args.after_dot c.args.text.now c.named.result z) (sym c.split_at.ensures.back)
-        (subst (λ (z : Token). Stands c.args.after_dot c.args.text.now z (drop c.name_run.result c.args.text.now)) (sym e) s)
+    (subst (λ (z : Token). Stands c.args.after_dot c.args.text.now z (drop c.name_run.result c.args.text.now)) (sym e) s)

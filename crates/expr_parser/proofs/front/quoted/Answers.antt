@@ -21,7 +21,7 @@ pub returns-in-Ok-clause-ok : goal.returns-in-Ok-clause-ok
 returns-in-Ok-clause-ok c = λ d.
     let k = subst (λ (z : List ℕ). ClosesAt (get_or z 0 0) (take (length z - 1) (drop 1 z)) c.in-Ok.on) c.as_bytes-bytes.ensures.value c.in-Ok.ensures.closes in
     subst (λ (z : List ℕ). Stands d c.args.text.now (t.Text c.of_written.result) z) (sym c.split_at.ensures.back)
-        (quoted_stands c.args.text.now c.in-Ok.on c.of_written.result c.requires.quote k (ap meaning (sym c.split_at.ensures.front) ∙ c.of_written.ensures) d)
+    (quoted_stands c.args.text.now c.in-Ok.on c.of_written.result c.requires.quote k (ap meaning (sym c.split_at.ensures.front) ∙ c.of_written.ensures) d)
 
 pub returns-in-Err-clause-err : goal.returns-in-Err-clause-err
 returns-in-Err-clause-err c =

@@ -15,4 +15,4 @@ split_at-requires c = sign_boundary c.args.text.now c.in-Some.token c.in-Some.by
 pub returns-clause-ok : goal.returns-clause-ok
 returns-clause-ok c = λ d.
     subst (λ (z : List ℕ). Stands d c.args.text.now c.in-Some.token z) (sym c.split_at.ensures.back)
-        (sign_stands c.args.text.now c.in-Some.token c.in-Some.bytes c.requires (ap (first_in signs) (sym c.as_bytes.ensures.value) ∙ sym c.sign_at.ensures ∙ c.in-Some.is) d)
+    (sign_stands c.args.text.now c.in-Some.token c.in-Some.bytes c.requires (ap (first_in signs) (sym c.as_bytes.ensures.value) ∙ sym c.sign_at.ensures ∙ c.in-Some.is) d)

@@ -35,13 +35,13 @@ pub returns-then-place-ge-MAX_EXPRESSION_BYTES-clause-fault : goal.returns-then-
 returns-then-place-ge-MAX_EXPRESSION_BYTES-clause-fault c =
     let k = kept_within c.args.text.now c.loop-rest.tokens.items c.loop-rest.places.items c.loop-rest.rest.now c.loop-rest.after_dot c.loop-rest.invariant.kept in
     inr (subst (λ (f : ExprFault). IsEarliest c.args.text.now f) (sym c.too_long.ensures)
-        (kept_long c.args.text.now c.loop-rest.tokens.items c.loop-rest.places.items c.loop-rest.rest.now c.loop-rest.after_dot (length c.args.text.now - length c.loop-rest.rest.now) c.loop-rest.invariant.kept (omega arith) (grind (arith, common_steps)) (grind (arith, common_steps))))
+    (kept_long c.args.text.now c.loop-rest.tokens.items c.loop-rest.places.items c.loop-rest.rest.now c.loop-rest.after_dot (length c.args.text.now - length c.loop-rest.rest.now) c.loop-rest.invariant.kept (omega arith) (grind (arith, common_steps)) (grind (arith, common_steps))))
 
 pub returns-in-Err-clause-fault : goal.returns-in-Err-clause-fault
 returns-in-Err-clause-fault c =
     let k = kept_within c.args.text.now c.loop-rest.tokens.items c.loop-rest.places.items c.loop-rest.rest.now c.loop-rest.after_dot c.loop-rest.invariant.kept in
     inr (subst (λ (f : ExprFault). IsEarliest c.args.text.now f) (sym c.capped.ensures)
-        (kept_fault c.args.text.now c.loop-rest.tokens.items c.loop-rest.places.items c.loop-rest.rest.now c.loop-rest.after_dot (length c.args.text.now - length c.loop-rest.rest.now) c.in-Err.fault c.loop-rest.invariant.kept (omega arith) (grind (arith, common_steps)) c.in-Err.ensures.err))
+    (kept_fault c.args.text.now c.loop-rest.tokens.items c.loop-rest.places.items c.loop-rest.rest.now c.loop-rest.after_dot (length c.args.text.now - length c.loop-rest.rest.now) c.in-Err.fault c.loop-rest.invariant.kept (omega arith) (grind (arith, common_steps)) c.in-Err.ensures.err))
 
 pub loop-rest-smaller : goal.loop-rest-smaller
 loop-rest-smaller c = rw c.past_blanks-rest-in-loop-rest.ensures (kept_smaller c.loop-rest.after_dot c.loop-rest.rest.now c.in-Ok.found.0 c.in-Ok.found.1.now c.in-Ok.ensures.ok)
@@ -50,4 +50,4 @@ pub returns-then-text-gt-MAX_EXPRESSION_BYTES-clause-fault : goal.returns-then-t
 returns-then-text-gt-MAX_EXPRESSION_BYTES-clause-fault c =
     let k = kept_within c.args.text.now c.loop-rest.tokens.items c.loop-rest.places.items c.loop-rest.rest.now c.loop-rest.after_dot c.loop-rest.invariant.kept in
     inr (subst (λ (f : ExprFault). IsEarliest c.args.text.now f) (sym c.too_long-then-text-gt-MAX_EXPRESSION_BYTES.ensures)
-        (kept_long c.args.text.now c.loop-rest.tokens.items c.loop-rest.places.items c.loop-rest.rest.now c.loop-rest.after_dot (length c.args.text.now) c.loop-rest.invariant.kept (grind (arith, common_steps)) (grind (arith, common_steps)) (grind (arith, common_steps))))
+    (kept_long c.args.text.now c.loop-rest.tokens.items c.loop-rest.places.items c.loop-rest.rest.now c.loop-rest.after_dot (length c.args.text.now) c.loop-rest.invariant.kept (grind (arith, common_steps)) (grind (arith, common_steps)) (grind (arith, common_steps))))
