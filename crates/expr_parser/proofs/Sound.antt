@@ -580,10 +580,13 @@ module _ (r : Reader) (s : Sounds r) where
   arg_sound d (t.OpenBracket ∷ ts) = holds_deeper (ArgumentIs d (t.OpenBracket ∷ ts)) (Stuck (GoodArgument d) spelled_argument (t.OpenBracket ∷ ts)) d (t.OpenBracket ∷ ts) _ (argument_wanting d (t.OpenBracket ∷ ts)) (λ lt.
       holds_bind (ItemsOn (suc d) none ts) (Stuck (GoodElement (suc d)) spelled_element ts) (ArgumentIs d (t.OpenBracket ∷ ts)) (Stuck (GoodArgument d) spelled_argument (t.OpenBracket ∷ ts)) (r (Items none) (suc d) ts) (λ xs. Ok (Listed xs.0, xs.1)) (s.items_is (suc d) none ts)
       (λ p h. stuck_in (GoodElement (suc d)) spelled_element (GoodArgument d) spelled_argument (t.OpenBracket ∷ []) [] ts (t.OpenBracket ∷ ts) (λ q. Listed (more q.0 q.1)) p (inl refl) refl (λ q f. (lt, tt, f)) (λ q to. refl) h)
-      (λ xs h. (record {
-        fits = subst (λ (z : Trees). FitsArgument (Listed z) d) (sym h.is) (lt, tt, h.fits);
-        tokens = ap (λ (us : List Token). t.OpenBracket ∷ us) h.tokens ∙ ap (λ (z : Trees). t.OpenBracket ∷ spelled_items z xs.1) (sym h.is);
-      }, inl (ends-items (t.OpenBracket ∷ []) xs.0))))
+      (λ xs h. (
+        record {
+          fits = subst (λ (z : Trees). FitsArgument (Listed z) d) (sym h.is) (lt, tt, h.fits);
+          tokens = ap (λ (us : List Token). t.OpenBracket ∷ us) h.tokens ∙ ap (λ (z : Trees). t.OpenBracket ∷ spelled_items z xs.1) (sym h.is);
+        },
+        inl (ends-items (t.OpenBracket ∷ []) xs.0),
+      )))
   arg_sound d ts = one_sound d ts
 
   args_sound : (d : ℕ) (xs : Arguments) (ts : List Token) → Holds (ArgsOn d xs ts) (Stuck (GoodFirst d) spelled_first ts) (args r d xs ts)

@@ -34,4 +34,6 @@ pub use token::Token;
 pub use word::Word;
 
 #[cfg(test)]
+mod parser_tests;
+#[cfg(test)]
 mod token_tests;

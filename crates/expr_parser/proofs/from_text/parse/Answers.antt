@@ -25,8 +25,8 @@ returns-in-Err-Unexpected-clause-only c = λ x h.
 pub returns-in-Err-Unexpected-clause-refused : goal.returns-in-Err-Unexpected-clause-refused
 returns-in-Err-Unexpected-clause-refused c =
     names_byte c.args.text.now c.in_ok-scanned.scanned.tokens.items c.in_ok-scanned.scanned.places.items c.in-Err-Unexpected.left c.place-byte.result c.in_ok-scanned.ensures.found c.in_ok-scanned.ensures.places
-      (subst (λ (us : List Token). Refused us (Unexpected c.in-Err-Unexpected.left)) c.as_slice.ensures.value (subst (λ (fault : ParseFault). Refused c.as_slice.result.now fault) c.in-Err-Unexpected.field-0-is c.in-Err-Unexpected.ensures.refused))
-      (c.place-byte.ensures ∙ ap (λ (ps : List ℕ). placed c.args.text.now ps c.in-Err-Unexpected.left) c.as_slice-in-Err-Unexpected.ensures.value)
+    (subst (λ (us : List Token). Refused us (Unexpected c.in-Err-Unexpected.left)) c.as_slice.ensures.value (subst (λ (fault : ParseFault). Refused c.as_slice.result.now fault) c.in-Err-Unexpected.field-0-is c.in-Err-Unexpected.ensures.refused))
+    (c.place-byte.ensures ∙ ap (λ (ps : List ℕ). placed c.args.text.now ps c.in-Err-Unexpected.left) c.as_slice-in-Err-Unexpected.ensures.value)
 
 pub returns-in-Err-Bracket-clause-only : goal.returns-in-Err-Bracket-clause-only
 returns-in-Err-Bracket-clause-only c = λ x h.
