@@ -1,12 +1,10 @@
 -- From tokens to the text: where the tokens stop.
-use Rattle.std.proofs.Common.{◌≡◌, ℕ, suc, ◌+◌, ◌-◌, ◌<◌, ◌≤◌, Bool, true, false, cond, List, [], ◌∷◌, ◌++◌, length, take, refl, sym, ap, subst, ◌∙◌, arith, inl, inr, ◌⊎◌, length-append}
-use Rattle.std.specs.Prelude.{nat_eq, slice_index, Result, Ok, Err}
+use Rattle.std.proofs.Common.{◌≡◌, ℕ, suc, ◌+◌, ◌-◌, ◌≤◌, Bool, true, false, cond, List, [], ◌∷◌, ◌++◌, length, take, refl, sym, ap, subst, ◌∙◌, arith, inr, length-append}
+use Rattle.std.specs.Prelude.{nat_eq, slice_index}
 use Rattle.std.proofs.lemmas.Bool.{eqb-true}
 use Rattle.std.proofs.lemmas.List.{append-nil}
 use Rattle.std.proofs.Math.Seq.{take-append_seam}
-use Rattle.expr_parser.specs.declared.expr.Expr.{Expr}
-use Rattle.expr_parser.specs.declared.fault.ExprFault.{ExprFault}
-use Rattle.expr_parser.specs.declared.fault.ExprFault.TheVariants.{BadExpression, NotInProfile, NoMemory}
+use Rattle.expr_parser.specs.declared.fault.ExprFault.TheVariants.{BadExpression, NotInProfile}
 use Rattle.expr_parser.specs.declared.fault.Excluded.TheVariants.{Bracket as left_out}
 use Rattle.expr_parser.specs.declared.parser.ParseFault.TheVariants.{Unexpected, Bracket}
 use Rattle.expr_parser.specs.declared.token.Token.{Token}
@@ -14,9 +12,8 @@ use Rattle.expr_parser.specs.Words.{past_blanks}
 use Rattle.expr_parser.specs.Spelling.{Begins, SpellsTokens, PlaceAfter, ArePlaces}
 use Rattle.expr_parser.specs.Tree.{Tree}
 use Rattle.expr_parser.specs.Grammar.{Spells}
-use Rattle.expr_parser.specs.Stopping.{StopsAt, Indexed, Refused}
-use Rattle.expr_parser.specs.Gives.{Reads}
-use Rattle.expr_parser.specs.Text.{SpellsExpression, IsOfGrammar, RefusedText}
+use Rattle.expr_parser.specs.Stopping.{Refused}
+use Rattle.expr_parser.specs.Text.{SpellsExpression, RefusedText}
 use Rattle.expr_parser.proofs.Whole.{one_list}
 use Rattle.expr_parser.proofs.Top as top
 

@@ -1,5 +1,5 @@
 -- Reading all of the tokens.
-use Rattle.std.proofs.Common.{◌≡◌, List, [], ◌∷◌, ◌++◌, length, refl, sym, ap, subst, ◌∙◌, arith, append_assoc, Bool, true, false, ℕ}
+use Rattle.std.proofs.Common.{◌≡◌, List, [], ◌∷◌, ◌++◌, length, refl, sym, ap, subst, ◌∙◌, arith, append_assoc, true, ℕ}
 use Rattle.std.specs.Prelude.{Ok, Err}
 use Rattle.std.proofs.lemmas.List.{append-nil, append_cancel_right}
 use Rattle.expr_parser.specs.declared.token.Token.{Token}
@@ -14,7 +14,7 @@ use Rattle.expr_parser.specs.Gives.{Refuses}
 use Rattle.expr_parser.specs.Reading.{Whole, read}
 use Rattle.expr_parser.proofs.Turns.{place}
 use Rattle.expr_parser.proofs.Complete.{printed_is_read, one_tree}
-use Rattle.expr_parser.proofs.Sound.{Holds, Is, Got, Stays, Kind, EndsOperand, IsBracket, Free, free_not, Quiet, ends, ends-append, ends-operand, spelled-append, read_sound}
+use Rattle.expr_parser.proofs.Sound.{Holds, Is, Got, Stays, EndsOperand, IsBracket, Free, free_not, Quiet, ends, ends-append, ends-operand, spelled-append, read_sound}
 use Rattle.expr_parser.proofs.Rules.{by_rules, by_spelling, derives, derived}
 use Rattle.expr_parser.proofs.Ahead.{stops_never, behind_never}
 
