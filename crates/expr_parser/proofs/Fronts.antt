@@ -1,22 +1,22 @@
 -- Which token stands at the front of a text.
-use Rattle.std.proofs.Common.{◌≡◌, ℕ, ◌+◌, ◌<◌, ◌≤◌, ◌-◌, suc, Bool, true, false, cond, ◌&&◌, ◌||◌, not, List, [], ◌∷◌, ◌++◌, length, take, drop, get_or, Option, Some, None, refl, sym, ap, subst, ◌∙◌, arith, inl, inr, ◌⊎◌, eqb, append_assoc, length-append, IsSome}
+use Rattle.std.proofs.Common.{◌≡◌, ℕ, ◌+◌, ◌<◌, ◌≤◌, ◌-◌, Bool, true, false, cond, ◌&&◌, ◌||◌, not, List, [], ◌∷◌, ◌++◌, length, take, drop, get_or, Option, Some, None, refl, sym, ap, subst, ◌∙◌, arith, inl, inr, ◌⊎◌, eqb, append_assoc, length-append, IsSome}
 use Rattle.std.specs.Prelude.{nat_le, option_map, unwrap_or}
 use Rattle.std.specs.Str.{bytes_eq}
 use Rattle.std.specs.List.{list_all}
 use Rattle.std.specs.Char.{is_ascii_digit}
 use Rattle.std.specs.Str.{IsUtf8, IsCharBoundary}
-use Rattle.std.proofs.lemmas.Bool.{le-leb, lt-leb, eqb-true, eqb-false, eq-eqb}
+use Rattle.std.proofs.lemmas.Bool.{le-leb, eqb-true, eqb-false, eq-eqb}
 use Rattle.std.proofs.lemmas.Bool.Decides.{nat_tests}
 use Rattle.std.proofs.lemmas.Str.{IsCharBoundary-after_ascii}
-use Rattle.std.proofs.lemmas.List.{take-append-drop, length-take-le, append-nil, get_or_at, take_at, drop_at}
+use Rattle.std.proofs.lemmas.List.{take-append-drop, append-nil, get_or_at, take_at, drop_at}
 use Rattle.expr_parser.specs.declared.fault.ExprFault.TheVariants.{BadExpression, NotInProfile}
 use Rattle.expr_parser.specs.declared.fault.Excluded.TheVariants.{Slash, Number}
 use Rattle.expr_parser.specs.declared.token.Token.{Token}
 use Rattle.expr_parser.specs.declared.token.Token.TheVariants as t
-use Rattle.expr_parser.specs.Words.{is_name_start, is_name_byte, is_name, is_numeral, numeral, greatest, first_is, begins_digit, begins_fraction, ends_number}
-use Rattle.expr_parser.specs.Quoted.{is_quote, meaning, said, escape_at, before, closed, unquoted, escaped}
+use Rattle.expr_parser.specs.Words.{is_name_start, is_name_byte, is_numeral, numeral, greatest, first_is, begins_digit, begins_fraction, ends_number}
+use Rattle.expr_parser.specs.Quoted.{is_quote, meaning, escape_at, before, closed, unquoted, escaped}
 use Rattle.expr_parser.specs.Token.{signs, literals, word_in, number, name, named, capture, token_of}
-use Rattle.expr_parser.specs.Spelling.{IsLongest, IsWhole, Stands}
+use Rattle.expr_parser.specs.Spelling.{IsWhole, Stands}
 use Rattle.expr_parser.specs.Scanning.{IsRun, IsFaultFrom, begins_name, is_other, first_in, IsInside, ClosesAt, FailsAt}
 use Rattle.expr_parser.specs.Faults.{IsContent, BeginsBadEscape, BeginsUnclosed}
 use Rattle.expr_parser.proofs.Runs.{and_true, or_false, not_true, seam, start_no_digit, quote_no_digit, quote_no_start, quote_ascii}

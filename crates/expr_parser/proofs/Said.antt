@@ -1,14 +1,14 @@
 -- What is resolved so far of a quoted text.
-use Rattle.std.proofs.Common.{◌≡◌, ℕ, ◌+◌, ◌<◌, ◌≤◌, ◌-◌, suc, Bool, true, false, cond, ◌&&◌, ◌||◌, not, List, [], ◌∷◌, ◌++◌, length, take, drop, get_or, Option, Some, None, refl, sym, ap, subst, ◌∙◌, arith, eqb, append_assoc, length-append, IsSome}
-use Rattle.std.specs.Prelude.{encode_utf8, nat_lt, is_some}
+use Rattle.std.proofs.Common.{◌≡◌, ℕ, ◌<◌, ◌-◌, Bool, true, false, cond, ◌&&◌, ◌||◌, not, List, [], ◌∷◌, ◌++◌, length, take, drop, get_or, Option, Some, None, refl, sym, ap, subst, ◌∙◌, arith, eqb, length-append, IsSome}
+use Rattle.std.specs.Prelude.{encode_utf8, nat_lt}
 use Rattle.std.specs.List.{list_all}
 use Rattle.std.specs.Str.{IsUtf8, IsCharBoundary}
-use Rattle.std.proofs.lemmas.Bool.{eqb-true, eq-eqb, ne_eqb}
+use Rattle.std.proofs.lemmas.Bool.{eqb-true}
 use Rattle.std.proofs.lemmas.Bool.Decides.{nat_tests}
 use Rattle.std.proofs.lemmas.List.{append-nil, take-append-drop, length-take-le, get_or_at, drop_at}
 use Rattle.std.proofs.lemmas.Str.{IsCharBoundary-after_ascii, IsCharBoundary-before_ascii}
 use Rattle.expr_parser.specs.Words.{first_is}
-use Rattle.expr_parser.specs.Quoted.{is_quote, is_hex, letters, letter_in, coded, coded_at, then_rest, escape_at, meaning, said, before, meant, closed, unquoted, escaped, escaped_code, hex_number, is_surrogate}
+use Rattle.expr_parser.specs.Quoted.{is_quote, is_hex, letters, letter_in, coded, coded_at, then_rest, escape_at, meaning, said, before, closed, unquoted, escaped, hex_number, is_surrogate}
 use Rattle.expr_parser.specs.Scanning.{IsRun, is_plain, seen}
 use Rattle.std.specs.Borrow.{Bor}
 use Rattle.expr_parser.proofs.Runs.{and_true, or_false, not_true, quote_ascii}

@@ -1,9 +1,9 @@
 -- One token, or one fault, stands at a place.
-use Rattle.std.proofs.Common.{◌≡◌, ℕ, ◌+◌, ◌<◌, ◌≤◌, suc, zero, Bool, true, false, cond, ◌&&◌, ◌||◌, not, List, [], ◌∷◌, ◌++◌, length, Option, Some, None, refl, sym, ap, subst, ◌∙◌, arith, inl, inr, ◌⊎◌, eqb, append_assoc, length-append, IsSome}
-use Rattle.std.specs.Prelude.{nat_le, option_map, unwrap_or, encode_utf8}
+use Rattle.std.proofs.Common.{◌≡◌, ℕ, ◌+◌, ◌≤◌, suc, zero, Bool, true, false, cond, ◌&&◌, ◌||◌, List, [], ◌∷◌, ◌++◌, length, Option, Some, None, refl, sym, ap, subst, ◌∙◌, arith, inl, inr, ◌⊎◌, eqb, append_assoc, IsSome}
+use Rattle.std.specs.Prelude.{nat_le, option_map, encode_utf8}
 use Rattle.std.specs.List.{list_all}
 use Rattle.std.specs.Char.{is_ascii_digit}
-use Rattle.std.proofs.lemmas.Bool.{eqb-true, eqb-false, eq-eqb, ne_eqb, lt-leb}
+use Rattle.std.proofs.lemmas.Bool.{eqb-true, ne_eqb, lt-leb}
 use Rattle.std.proofs.lemmas.Bool.Decides.{nat_tests}
 use Rattle.std.proofs.lemmas.List.{append-nil, append_cancel_right}
 use Rattle.expr_parser.specs.declared.fault.ExprFault.{ExprFault}
@@ -11,13 +11,13 @@ use Rattle.expr_parser.specs.declared.fault.ExprFault.TheVariants.{BadExpression
 use Rattle.expr_parser.specs.declared.fault.Excluded.TheVariants.{Slash, Number, Bracket}
 use Rattle.expr_parser.specs.declared.token.Token.{Token}
 use Rattle.expr_parser.specs.declared.token.Token.TheVariants as t
-use Rattle.expr_parser.specs.Words.{is_name_start, is_name_byte, is_name, is_numeral, numeral, greatest, first_is, begins_digit, begins_fraction, ends_number}
+use Rattle.expr_parser.specs.Words.{is_name_start, is_name_byte, is_numeral, numeral, greatest, first_is, begins_digit, begins_fraction, ends_number}
 use Rattle.expr_parser.specs.Quoted.{is_quote, letters, letter_in, coded, coded_at, then_rest, escape_at, meaning, before, meant, closed, unquoted, escaped, escaped_code}
-use Rattle.expr_parser.specs.Token.{signs, literals, word_in, number, name, named, capture, token_of}
+use Rattle.expr_parser.specs.Token.{number, name, named, token_of}
 use Rattle.expr_parser.specs.Spelling.{IsLongest, IsWhole, Stands}
 use Rattle.expr_parser.specs.Faults.{IsContent, BeginsSlash, BeginsFraction, BeginsLarge, BeginsBadEscape, BeginsUnclosed, BeginsNoToken, IsMisspelled, IsFaultAt}
 use Rattle.expr_parser.specs.Scanning.{IsInside}
-use Rattle.expr_parser.proofs.Runs.{and_true, or_false, not_true, quote_no_digit, quote_no_start}
+use Rattle.expr_parser.proofs.Runs.{and_true, or_false, not_true}
 use Rattle.expr_parser.proofs.Texts.{IsRead, read_none, read_plain, read_escape}
 use Rattle.expr_parser.proofs.Fronts.{token_number, token_text, token_name, past_name, broken, unquoted_end}
 

@@ -1,9 +1,9 @@
 -- What quoted texts mean.
-use Rattle.std.proofs.Common.{◌≡◌, ℕ, ◌+◌, ◌<◌, ◌≤◌, suc, Bool, true, false, cond, ◌&&◌, ◌||◌, not, List, [], ◌∷◌, ◌++◌, length, Option, Some, None, refl, sym, ap, subst, ◌∙◌, arith, append_assoc, length-append, IsSome, eqb, take, drop, get_or, ◌-◌, inl, inr, ◌⊎◌}
+use Rattle.std.proofs.Common.{◌≡◌, ℕ, ◌+◌, ◌<◌, ◌≤◌, Bool, true, false, cond, List, [], ◌∷◌, ◌++◌, length, Option, Some, None, refl, sym, ap, ◌∙◌, arith, append_assoc, length-append, IsSome, eqb, take, drop, get_or, ◌-◌, inl, inr}
 use Rattle.std.specs.Prelude.{encode_utf8}
 use Rattle.std.proofs.lemmas.Bool.{eqb-true, ne_eqb, eq-eqb}
-use Rattle.std.proofs.lemmas.List.{append-nil, take_all}
-use Rattle.expr_parser.specs.Quoted.{meaning, said, is_quote, letters, letter_in, coded, coded_at, then_rest, escape_at, before, meant, closed, unquoted, escaped, escaped_code}
+use Rattle.std.proofs.lemmas.List.{take_all}
+use Rattle.expr_parser.specs.Quoted.{meaning, said, letters, letter_in, coded, coded_at, then_rest, escape_at, before, meant, closed, unquoted, escaped, escaped_code}
 use Rattle.expr_parser.specs.Scanning.{IsInside, ClosesAt, FailsAt}
 
 pub meaning_said : (w : List ℕ) → IsSome (meaning w) → meaning w ≡ Some (said w)

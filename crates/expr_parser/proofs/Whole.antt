@@ -1,5 +1,5 @@
 -- The tokens of a whole text.
-use Rattle.std.proofs.Common.{◌≡◌, ℕ, ◌+◌, ◌<◌, ◌≤◌, ◌-◌, suc, zero, Bool, true, false, cond, List, [], ◌∷◌, ◌++◌, length, take, drop, get_or, Option, Some, None, refl, sym, ap, subst, ◌∙◌, arith, inl, inr, ◌⊎◌, append_assoc, length-append}
+use Rattle.std.proofs.Common.{◌≡◌, ℕ, ◌+◌, ◌<◌, ◌≤◌, Bool, true, false, cond, List, [], ◌∷◌, ◌++◌, length, take, Some, refl, sym, ap, subst, ◌∙◌, arith, inl, inr, ◌⊎◌, length-append}
 use Rattle.std.specs.Prelude.{min, slice_index}
 use Rattle.std.proofs.Math.Dec.{leb}
 use Rattle.std.proofs.lemmas.Bool.Decides.{eqb_tells, leb_tells}
@@ -11,7 +11,7 @@ use Rattle.expr_parser.specs.declared.token.Token.{Token}
 use Rattle.expr_parser.specs.Words.{is_blank, past_blanks, is_numeral}
 use Rattle.expr_parser.specs.Token.{token_of}
 use Rattle.expr_parser.specs.Spelling.{Stands, Begins, is_dot, most_bytes, SpellsTokens, PlaceAfter, ArePlaces}
-use Rattle.expr_parser.specs.Faults.{IsFaultAt, IsMisspelled, TokenFault, IsOfToken, IsOfLength, IsEarliest}
+use Rattle.expr_parser.specs.Faults.{IsFaultAt, IsMisspelled, TokenFault, IsEarliest}
 use Rattle.expr_parser.specs.Scanning.{IsFaultFrom, capped}
 use Rattle.expr_parser.proofs.Same.{one_token, token_no_fault, one_fault, QuotedFault, bad_escape, unclosed}
 

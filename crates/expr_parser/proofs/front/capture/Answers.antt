@@ -1,6 +1,5 @@
-use Rattle.std.proofs.Common.{◌∙◌, ◌≡◌, subst, sym, ap, List, ℕ, take, drop}
+use Rattle.std.proofs.Common.{◌∙◌, subst, sym, ap, List, ℕ, take, drop}
 use Rattle.std.specs.Str.{IsCharBoundary}
-use Rattle.expr_parser.specs.declared.token.Token.{Token}
 use Rattle.expr_parser.specs.declared.token.Token.TheVariants as t
 use Rattle.expr_parser.specs.Words.{is_name_byte}
 use Rattle.expr_parser.specs.Scanning.{IsRun, begins_name}

@@ -1,4 +1,4 @@
-use Rattle.std.proofs.Common.{◌∙◌, ◌≡◌, subst, sym, ap, List, ℕ, drop}
+use Rattle.std.proofs.Common.{◌∙◌, subst, sym, ap, List, ℕ, drop}
 use Rattle.expr_parser.specs.declared.token.Token.{Token}
 use Rattle.expr_parser.specs.Words.{is_name_byte}
 use Rattle.expr_parser.specs.Token.{named}

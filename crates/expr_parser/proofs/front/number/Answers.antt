@@ -1,4 +1,4 @@
-use Rattle.std.proofs.Common.{◌∙◌, ◌≡◌, subst, sym, ap, List, ℕ, ◌<◌, true, false, rules}
+use Rattle.std.proofs.Common.{◌∙◌, subst, sym, ap, List, ℕ, ◌<◌}
 use Rattle.std.specs.Char.{is_ascii_digit}
 use Rattle.expr_parser.specs.declared.token.Token.TheVariants as t
 use Rattle.expr_parser.specs.Words.{begins_fraction, numeral, greatest}

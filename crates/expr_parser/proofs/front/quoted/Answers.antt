@@ -1,4 +1,4 @@
-use Rattle.std.proofs.Common.{◌∙◌, ◌≡◌, ◌-◌, ◌+◌, subst, sym, ap, List, ℕ, length, take, drop, get_or, Some}
+use Rattle.std.proofs.Common.{◌∙◌, ◌-◌, subst, sym, ap, List, ℕ, length, take, drop, get_or}
 use Rattle.std.specs.Prelude.{IsSome}
 use Rattle.expr_parser.specs.declared.token.Token.TheVariants as t
 use Rattle.expr_parser.specs.Quoted.{meaning}

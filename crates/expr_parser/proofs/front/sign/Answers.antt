@@ -1,5 +1,4 @@
-use Rattle.std.proofs.Common.{◌∙◌, ◌≡◌, subst, sym, ap, List, ℕ, Option, Some, None}
-use Rattle.expr_parser.specs.declared.token.Token.{Token}
+use Rattle.std.proofs.Common.{◌∙◌, subst, sym, ap, List, ℕ}
 use Rattle.expr_parser.specs.Token.{signs}
 use Rattle.expr_parser.specs.Scanning.{first_in}
 use Rattle.expr_parser.specs.Spelling.{Stands}

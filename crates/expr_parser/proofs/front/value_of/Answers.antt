@@ -1,4 +1,4 @@
-use Rattle.std.proofs.Common.{arith, get_or}
+use Rattle.std.proofs.Common.{arith}
 use Rattle.expr_parser.proofs.Runs.{digit_too_large}
 use Rattle.expr_parser.proofs.front.value_of.Goals as goal
 

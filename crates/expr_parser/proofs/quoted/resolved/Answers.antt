@@ -1,11 +1,9 @@
-use Rattle.std.proofs.Common.{◌≡◌, ◌∙◌, ◌-◌, ◌<◌, ◌++◌, false, sym, ap, subst, length, take, drop, get_or, List, ℕ, arith, refl, Some}
-use Rattle.std.specs.Prelude.{string_bytes, slice_index_or, IsSome}
+use Rattle.std.proofs.Common.{◌≡◌, ◌∙◌, ◌-◌, sym, ap, subst, length, take, drop, List, ℕ, arith}
+use Rattle.std.specs.Prelude.{string_bytes, slice_index_or}
 use Rattle.std.specs.Str.{IsUtf8, IsCharBoundary}
 use Rattle.std.proofs.lemmas.Str.{IsUtf8-drop}
-use Rattle.std.proofs.lemmas.Grind.{common_steps}
-use Rattle.expr_parser.specs.Quoted.{said, escape_at}
+use Rattle.expr_parser.specs.Quoted.{said}
 use Rattle.expr_parser.specs.Scanning.{IsRun, is_plain}
-use Rattle.expr_parser.specs.Words.{first_is}
 use Rattle.expr_parser.proofs.Said.{IsSaid, said_start, said_boundary, arrives, stop_slash, stop_quote, escape_here, found_escape, seen_escape, said_escape, escape_boundary, escape_after}
 use Rattle.expr_parser.proofs.Texts.{step_smaller}
 use Rattle.expr_parser.proofs.quoted.resolved.Goals as goal

@@ -1,10 +1,8 @@
-use Rattle.std.proofs.Common.{◌≡◌, ◌+◌, ◌-◌, ◌≤◌, ◌<◌, sym, ap, subst, length, List, ℕ, Bool, inl, inr, refl, false, arith, rules}
+use Rattle.std.proofs.Common.{◌-◌, sym, subst, length, ℕ, inr, arith}
 use Rattle.std.proofs.lemmas.Grind.{common_steps}
 use Rattle.expr_parser.specs.declared.fault.ExprFault.{ExprFault}
-use Rattle.expr_parser.specs.declared.token.Token.{Token}
-use Rattle.expr_parser.specs.Words.{past_blanks}
 use Rattle.expr_parser.specs.Faults.{IsEarliest}
-use Rattle.expr_parser.proofs.Whole.{Kept, kept_start, kept_within, kept_next, kept_smaller, kept_long, kept_fault, kept_spells}
+use Rattle.expr_parser.proofs.Whole.{kept_start, kept_within, kept_next, kept_smaller, kept_long, kept_fault}
 use Rattle.expr_parser.proofs.scanner.scan.Goals as goal
 
 pub loop-rest-init : goal.loop-rest-init

@@ -1,4 +1,3 @@
-use Rattle.std.proofs.Common.{sym, ap, subst, ◌≡◌}
 use Rattle.std.proofs.lemmas.Result.{err_from_is_err_and}
 use Rattle.expr_parser.proofs.Whole.{one_list, no_list, same_fault, spelled_no_fault}
 use Rattle.expr_parser.proofs.scanner.tokens.Goals as goal
