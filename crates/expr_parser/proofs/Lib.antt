@@ -1,0 +1,15 @@
+pub mod Texts
+pub mod Runs
+pub mod Signs
+pub mod Fronts
+pub mod Same
+pub mod Whole
+pub mod Turns
+pub mod Complete
+pub mod Sound
+pub mod Rules
+pub mod Ahead
+pub mod Top
+pub mod Knots
+pub mod Placed
+pub mod Said

@@ -1,0 +1,16 @@
+pub mod Answers
+pub mod Excluded
+pub mod Faults
+pub mod Quoted
+pub mod Spelling
+pub mod Token
+pub mod Words
+pub mod Scanning
+pub mod Tree
+pub mod View
+pub mod Grammar
+pub mod Stopping
+pub mod Text
+pub mod Printing
+pub mod Reading
+pub mod Gives

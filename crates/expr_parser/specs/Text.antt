@@ -1,0 +1,44 @@
+-- Which expression a text spells, and why one spells none.
+use Rattle.std.specs.Prelude.{◌≡◌, ℕ, List, Result, Ok, Err, ◌⊎◌}
+use Rattle.expr_parser.specs.declared.expr.Expr.{Expr}
+use Rattle.expr_parser.specs.declared.fault.ExprFault.{ExprFault}
+use Rattle.expr_parser.specs.declared.fault.ExprFault.TheVariants.{BadExpression, NotInProfile, NoMemory}
+use Rattle.expr_parser.specs.declared.fault.Excluded.TheVariants.{Slash, Number, Bracket}
+use Rattle.expr_parser.specs.declared.token.Token.{Token}
+use Rattle.expr_parser.specs.Spelling.{SpellsTokens, PlaceAfter}
+use Rattle.expr_parser.specs.Faults.{IsEarliest}
+use Rattle.expr_parser.specs.Tree.{Tree}
+use Rattle.expr_parser.specs.Grammar.{Spells}
+use Rattle.expr_parser.specs.Stopping.{StopsAt, Indexed}
+use Rattle.expr_parser.specs.View.{view}
+
+-- The text spells the expression: by its tokens.
+pub record SpellsExpression (text : List ℕ) (x : Tree) : Type 0 where
+  pub tokens : List Token
+  pub scanned : SpellsTokens text tokens
+  pub parsed : Spells tokens x
+
+-- What is answered where the tokens stop to be an expression behind those before: the byte where the next one begins, or the end of the text; or that a bracket behind a complete postfix is left out. (This project's profile.)
+abbrev pub NamesPlace : List ℕ → List Token → List Token → List Token → ExprFault → Type 0
+NamesPlace text tokens before left (BadExpression byte) = PlaceAfter text before byte × (Indexed tokens left → ⊥)
+NamesPlace text tokens before left (NotInProfile Bracket) = Indexed tokens left
+NamesPlace text tokens before left (NotInProfile Slash) = ⊥
+NamesPlace text tokens before left (NotInProfile Number) = ⊥
+NamesPlace text tokens before left NoMemory = ⊥
+
+-- The text spells tokens, and these stop to be an expression.
+pub record IsOfGrammar (text : List ℕ) (fault : ExprFault) : Type 0 where
+  pub tokens : List Token
+  pub scanned : SpellsTokens text tokens
+  pub left : List Token
+  pub stops : StopsAt tokens left
+  pub place : NamesPlace text tokens stops.before left fault
+
+-- Why the text is refused: for the earliest fault of its tokens, or else for where these stop to be an expression; or for want of memory.
+abbrev pub RefusedText : List ℕ → ExprFault → Type 0
+RefusedText text fault = (fault ≡ NoMemory) ⊎ IsEarliest text fault ⊎ IsOfGrammar text fault
+
+-- The answer is this expression, unless memory ran out.
+abbrev pub ReadsText : Tree → Result Expr ExprFault → Type 0
+ReadsText x (Ok e) = view e ≡ x
+ReadsText x (Err fault) = fault ≡ NoMemory
