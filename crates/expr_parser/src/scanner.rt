@@ -24,8 +24,8 @@ pub(crate) struct Scanned<'a> {
 /// The tokens that the text spells, or its earliest fault.
 ///
 /// It goes over the text once, reads each byte a bounded number of times, and copies none of it: the
-/// tokens borrow their words. The list grows by pushes, and of a text that is too long no more is
-/// read than the token that goes past byte 4096. What may fail but for a fault is memory alone.
+/// tokens borrow their words. The list grows by pushes. Of a text that is too long, what begins behind
+/// byte 4096 is not read. What may fail but for a fault is memory alone.
 pub fn tokens<'a>(alloc: Global, text: &'a str) -> Result<Vec<Token<'a>>, ExprFault>
     // What is answered is spelled.
     ensures found { IfOk result (λ found. SpellsTokens text.now found.items) }
