@@ -1,5 +1,5 @@
 -- The depth and the count of a parent where one child changes.
-use Rattle.std.proofs.Common.{◌≡◌, ◌≢◌, ℕ, zero, suc, ◌+◌, ◌-◌, ◌^◌, ◌≤◌, ◌<◌, min, max, List, [], ◌∷◌, map, length, get_or, set, Vec, Global, sym, ap, ◌∙◌, subst, arith}
+use Rattle.std.proofs.Common.{◌≡◌, ◌≢◌, ℕ, zero, suc, ◌+◌, ◌-◌, ◌^◌, ◌≤◌, ◌<◌, min, max, List, [], ◌∷◌, map, length, get_or, set, Vec, Global, sym, ap, ◌∙◌, arith}
 use Rattle.std.specs.List.{insert, remove, sum_by}
 use Rattle.std.proofs.lemmas.List.{get_or-set_same}
 use Rattle.std.proofs.lemmas.List.Sums.{sum_by-set, sum_by-insert, sum_by-remove}
@@ -10,7 +10,7 @@ use Rattle.tree_model.specs.Children.{graft}
 use Rattle.tree_model.proofs.Counts.{count-graft}
 use Rattle.tree_model.proofs.Grafts.{depth-graft}
 use Rattle.json_tree.specs.Node.{tree_of, AreLawfulChildren, IsNode}
-use Rattle.json_tree.specs.Share.{deepest, counted, IsSizeOf, Exchanges}
+use Rattle.json_tree.specs.Share.{deepest, IsSizeOf, Exchanges}
 use Rattle.json_tree.specs.declared.share.Exchange.{Exchange}
 use Rattle.json_tree.specs.declared.node.Kind.{Kind}
 use Rattle.json_tree.specs.declared.node.Kind.TheVariants.{Parent}
