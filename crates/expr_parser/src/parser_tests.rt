@@ -30,6 +30,7 @@ fn sign_of(operator: Operator) -> &'static str {
 // ---- what an answer looks like: an expression with brackets round each operation and choice, or a
 // fault with the number of the token that it is at
 
+#[cycle(shape)]
 fn shape(alloc: Global, expr: &Expr) -> Result<String, AllocError> {
     match expr {
         Expr::Number(value) => format!(in alloc; "{value}"),
@@ -86,6 +87,7 @@ fn shape(alloc: Global, expr: &Expr) -> Result<String, AllocError> {
     }
 }
 
+#[cycle(shape)]
 fn shape_of_argument(alloc: Global, argument: &Argument) -> Result<String, AllocError> {
     match argument {
         Argument::One(expr) => shape(alloc, expr),
