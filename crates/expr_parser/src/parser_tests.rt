@@ -263,7 +263,8 @@ fn sixty_four_levels(rt: HostRuntime) -> Result<(), Fail> {
         );
         let text = nested(alloc, open, "1", close, 65)?;
         let found = answer(alloc, text.as_str())?;
-        let want = format!(in alloc; "fault at {}", 64 * words + opens)?;
+        let place = words.saturating_mul(64).saturating_add(opens);
+        let want = format!(in alloc; "fault at {place}")?;
         assert_eq!(rt; found.as_str(), want.as_str(), "65 times {open:?}");
     }
     Ok(())
