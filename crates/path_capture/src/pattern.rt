@@ -66,8 +66,8 @@ impl Part {
 }
 
 /// A pattern: a list of keys and captures, from the root down to where a rule stands. It keeps the
-/// allocator that it was made with, for all that it takes later. Contracts see the list of its parts. (Reference, core syntax:
-/// `$` captures.)
+/// allocator that it was made with, for all that it takes later. Contracts see the list of its parts.
+/// (Reference, core syntax: `$` captures.)
 #[derive(Debug, Drop)]
 pub struct Pattern {
     held: Vec<Part>,

@@ -90,8 +90,8 @@ impl Rules {
     }
 
     /// The captures of a place: each capture of the pattern that stands at a path is given with the
-    /// key at its place, nothing else is given, and no name with two keys. (Guide "Core syntax", using $ variables to capture
-    /// path segments.)
+    /// key at its place, nothing else is given, and no name with two keys. (Guide "Core syntax", using
+    /// $ variables to capture path segments.)
     pub fn the_captures_of_a_place(&self)
         ensures given { (p : Pattern) (path : Path) (i : ℕ) → StandsAt self.now p path → i < length p → is_capture (slice_index_or p i []) ≡ true → Contains (captures p path) (slice_index_or p i [], slice_index_or path i []) }
         ensures alone { (p : Pattern) (path : Path) (name : PartText) (k : KeyBytes) → Contains (captures p path) (name, k) → IsCaptureOf p path name k }

@@ -235,6 +235,7 @@ pub fn run_script<R: Source, W: Sink>(
     requires sink { W.failed sink.old ≡ false }
     ensures source { result ≢ ScriptEnd.ReadFault → result ≢ ScriptEnd.WriteFault → R.failed source.new ≡ false }
     ensures sink { result ≢ ScriptEnd.WriteFault → (W.failed sink.new ≡ false) × (W.handed_on sink.old ≡ true → W.handed_on sink.new ≡ true) }
+    ensures flushed { result ≢ ScriptEnd.WriteFault → result ≢ ScriptEnd.NoMemory → W.handed_on sink.new ≡ true }
     ensures ends { (taken out : List ℕ) × Consumes (R.left source.old) (R.left source.new) taken
         × Appends (W.written sink.old) (W.written sink.new) out
         × Ends result taken (R.left source.new) (R.failed source.new) (R.reads source.new) (W.failed sink.new) out }
