@@ -13,3 +13,4 @@ pub mod Top
 pub mod Knots
 pub mod Placed
 pub mod Said
+pub mod Refusals

@@ -10,12 +10,12 @@ use Rattle.expr_parser.specs.Quoted.{is_quote, meaning, escape_at}
 use Rattle.expr_parser.specs.Token.{token_of}
 use Rattle.expr_parser.specs.Spelling.{Begins, most_bytes}
 
--- a / comes first
+-- a / comes first (this project's profile)
 pub record BeginsSlash (text : List ℕ) : Type 0 where
   pub rest : List ℕ
   pub parts : text ≡ 47 ∷ rest
 
--- digits come first, and behind them at once a point and a digit, or an exponent
+-- digits come first, and behind them at once a point and a digit, or an exponent (this project's profile)
 pub record BeginsFraction (text : List ℕ) : Type 0 where
   pub digits : List ℕ
   pub rest : List ℕ
@@ -23,7 +23,7 @@ pub record BeginsFraction (text : List ℕ) : Type 0 where
   pub are_digits : is_numeral digits ≡ true
   pub fraction : begins_fraction rest ≡ true
 
--- digits come first that say too large a number
+-- digits come first that say too large a number (this project's profile)
 pub record BeginsLarge (text : List ℕ) : Type 0 where
   pub digits : List ℕ
   pub rest : List ℕ
@@ -32,11 +32,11 @@ pub record BeginsLarge (text : List ℕ) : Type 0 where
   pub whole : ends_number rest ≡ true
   pub large : greatest < numeral digits
 
--- the bytes would be those of a text, if its quote stood behind them
+-- the bytes would be those of a text, if its quote stood behind them (this project's profile)
 abbrev pub IsContent : ℕ → List ℕ → Type 0
 IsContent quote content = IsSome (meaning (quote ∷ (content ++ quote ∷ [])))
 
--- a text comes first, and in it, so many bytes on, a backslash that begins no escape
+-- a text comes first, and in it, so many bytes on, a backslash that begins no escape (this project's profile)
 pub record BeginsBadEscape (text : List ℕ) (on : ℕ) : Type 0 where
   pub quote : ℕ
   pub content : List ℕ
@@ -46,7 +46,7 @@ pub record BeginsBadEscape (text : List ℕ) (on : ℕ) : Type 0 where
   pub bad : escape_at rest ≡ None
   pub on_is : on ≡ 1 + length content
 
--- a text comes first, and is not closed so many bytes on, where all ends
+-- a text comes first, and is not closed so many bytes on, where all ends (this project's profile)
 pub record BeginsUnclosed (text : List ℕ) (on : ℕ) : Type 0 where
   pub quote : ℕ
   pub content : List ℕ
@@ -54,7 +54,7 @@ pub record BeginsUnclosed (text : List ℕ) (on : ℕ) : Type 0 where
   pub is_content : IsContent quote content
   pub on_is : on ≡ 1 + length content
 
--- a byte comes first that begins no token: no digit, no quote and no /, and no front of the text is a token
+-- a byte comes first that begins no token: no digit, no quote and no /, and no front of the text is a token (this project's profile)
 pub record BeginsNoToken (text : List ℕ) : Type 0 where
   pub first : ℕ
   pub rest : List ℕ
@@ -97,6 +97,6 @@ pub record IsOfLength (text : List ℕ) (fault : ExprFault) : Type 0 where
   pub fault_is : fault ≡ BadExpression most_bytes
   pub none : (other : ExprFault) (place : ℕ) → TokenFault text other place → most_bytes ≤ place
 
--- The earliest fault of the text.
+-- The earliest fault of the text: a token's, or that it is too long, which counts as one at byte 4096. (This project's profile.)
 abbrev pub IsEarliest : List ℕ → ExprFault → Type 0
 IsEarliest text fault = IsOfToken text fault ⊎ IsOfLength text fault

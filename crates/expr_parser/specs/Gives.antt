@@ -1,4 +1,4 @@
--- What a function of the parser returned is what reading gives, unless memory ran out.
+-- What the parser answers. `Refuses` and `Gives` are words of private clauses and of proofs alone.
 use Rattle.std.specs.Prelude.{◌≡◌, List, Result, Ok, Err}
 use Rattle.expr_parser.specs.declared.expr.Expr.{Expr}
 use Rattle.expr_parser.specs.declared.token.Token.{Token}
@@ -8,16 +8,18 @@ use Rattle.expr_parser.specs.Reading.{Found}
 use Rattle.expr_parser.specs.Tree.{Tree}
 use Rattle.expr_parser.specs.View.{view}
 
+-- the fault is what reading gives, unless memory is refused
 abbrev pub Refuses : {A : Type 0} → ParseFault → Found A → Type 0
 Refuses NoMemory found = Unit {0}
 Refuses (Unexpected n) found = found ≡ Err (Unexpected n)
 Refuses (Bracket n) found = found ≡ Err (Bracket n)
 
+-- the answer is what reading gives, unless memory is refused
 abbrev pub Gives : {X A : Type 0} → (X → A × List Token) → Result X ParseFault → Found A → Type 0
 Gives seen (Ok x) found = found ≡ Ok (seen x)
 Gives seen (Err e) found = Refuses e found
 
--- The answer is this expression, unless memory ran out.
+-- The answer is this expression, unless memory is refused.
 abbrev pub Reads : Tree → Result Expr ParseFault → Type 0
 Reads x (Ok e) = view e ≡ x
 Reads x (Err fault) = fault ≡ NoMemory

@@ -69,6 +69,6 @@ mutual
     last_argument : {d : ℕ} {to : List Token} → DerivesMore d (t.CloseParenthesis ∷ to) to no_argument
     next_argument : {d : ℕ} {from ys to : List Token} {x : Argument} {xs : Arguments} → DerivesArgument d from ys x → DerivesMore d ys to xs → DerivesMore d (t.Comma ∷ from) to (argument x xs)
 
--- The tokens, all of them, spell the expression.
+-- The tokens, all of them, spell the expression. (Firebase Security Rules reference, expressions.)
 abbrev pub Spells : List Token → Tree → Type 0
 Spells tokens x = Derives 0 0 tokens [] x

@@ -10,22 +10,24 @@ is_quote c = c == 39 || c == 34
 abbrev pub letters : List (ℕ × ℕ)
 letters = (92, 92) ∷ (39, 39) ∷ (34, 34) ∷ (47, 47) ∷ (98, 8) ∷ (102, 12) ∷ (110, 10) ∷ (114, 13) ∷ (116, 9) ∷ []
 
+-- what a table gives for a letter
 abbrev pub letter_in : List (ℕ × ℕ) → ℕ → Option ℕ
 letter_in [] e = None
 letter_in (p ∷ ps) e = if p.0 == e then Some p.1 else letter_in ps e
 
--- a hexadecimal digit, in either case
+-- a hexadecimal digit, in either case (this project's profile)
 abbrev pub is_hex : ℕ → Bool
 is_hex c = nat_lt (digit_value c) 16
 
+-- the value of a hexadecimal digit, where it is one
 abbrev pub hex_digit : ℕ → Option ℕ
 hex_digit c = if is_hex c then Some (digit_value c) else None
 
--- the number that four hexadecimal digits say
+-- the number that four hexadecimal digits say (this project's profile)
 abbrev pub hex_number : ℕ → ℕ → ℕ → ℕ → ℕ
 hex_number a b c d = 4096 * digit_value a + 256 * digit_value b + 16 * digit_value c + digit_value d
 
--- half of a character of UTF-16
+-- half of a character of UTF-16 (this project's profile)
 abbrev pub is_surrogate : ℕ → Bool
 is_surrogate n = nat_le 0xD800 n && nat_le n 0xDFFF
 
@@ -43,7 +45,7 @@ abbrev pub coded_at : List ℕ → Option (ℕ × List ℕ)
 coded_at (a ∷ b ∷ c ∷ d ∷ rest) = then_rest (coded a b c d) rest
 coded_at _ = None
 
--- the character that an escape means, read behind its backslash, and what follows it
+-- the character that an escape means, read behind its backslash, and what follows it (this project's profile)
 abbrev pub escape_at : List ℕ → Option (ℕ × List ℕ)
 escape_at [] = None
 escape_at (e ∷ rest) = if e == 117 then coded_at rest else then_rest (letter_in letters e) rest
@@ -58,12 +60,12 @@ abbrev pub meant : Option ℕ → Option (List ℕ) → Option (List ℕ)
 meant None rest = None
 meant (Some c) rest = before (encode_utf8 c) rest
 
--- a closing quote ends its text
+-- a closing quote ends its text (this project's profile)
 abbrev pub closed : List ℕ → Option (List ℕ)
 closed [] = Some []
 closed (c ∷ cs) = None
 
--- what stands behind a quote means, up to the next one that no backslash escapes, where the bytes end
+-- what stands behind a quote means, up to the next one that no backslash escapes, where the bytes end (this project's profile)
 abbrev mutual
   pub unquoted : ℕ → List ℕ → Option (List ℕ)
   unquoted q [] = None
@@ -79,7 +81,7 @@ abbrev mutual
   escaped_code q (a ∷ b ∷ c ∷ d ∷ cs) = meant (coded a b c d) (unquoted q cs)
   escaped_code q _ = None
 
--- the bytes that a text in quotes means, where it is one
+-- the bytes that a text in quotes means, where it is one (this project's profile)
 abbrev pub meaning : List ℕ → Option (List ℕ)
 meaning [] = None
 meaning (q ∷ cs) = if is_quote q then unquoted q cs else None

@@ -5,7 +5,7 @@ use Rattle.expr_parser.specs.declared.token.Token.TheVariants as t
 use Rattle.expr_parser.specs.Words.{past_blanks, ends_number}
 use Rattle.expr_parser.specs.Token.{token_of}
 
--- no longer front of the text is a token
+-- no longer front of the text is a token (this project's profile)
 abbrev pub IsLongest : Bool → List ℕ → List ℕ → Type 0
 IsLongest after_dot word rest = (c : ℕ) (more others : List ℕ) → rest ≡ c ∷ (more ++ others) → token_of after_dot (word ++ c ∷ more) ≡ None
 
@@ -14,7 +14,7 @@ abbrev pub IsWhole : Token → List ℕ → Type 0
 IsWhole (t.Number n) rest = ends_number rest ≡ true
 IsWhole _ rest = ⊤
 
--- the token stands at the front of the text, the longest that fits, and then the rest
+-- the token stands at the front of the text, the longest that fits, and then the rest (this project's profile)
 pub record Stands (after_dot : Bool) (text : List ℕ) (u : Token) (rest : List ℕ) : Type 0 where
   pub word : List ℕ
   pub parts : text ≡ word ++ rest
@@ -22,11 +22,12 @@ pub record Stands (after_dot : Bool) (text : List ℕ) (u : Token) (rest : List 
   pub longest : IsLongest after_dot word rest
   pub whole : IsWhole u rest
 
+-- behind a dot no name is a literal (this project's profile)
 abbrev pub is_dot : Token → Bool
 is_dot t.Dot = true
 is_dot _ = false
 
--- the text is the spellings of the tokens, with blanks before each, and then the rest
+-- the text is the spellings of the tokens, with blanks before each, and then the rest (this project's profile)
 abbrev pub Begins : Bool → List Token → List ℕ → List ℕ → Type 0
 Begins after_dot [] text rest = text ≡ rest
 Begins after_dot (u ∷ us) text rest = (behind : List ℕ) × Stands after_dot (past_blanks text) u behind × Begins (is_dot u) us behind rest
@@ -35,7 +36,7 @@ Begins after_dot (u ∷ us) text rest = (behind : List ℕ) × Stands after_dot 
 abbrev pub most_bytes : ℕ
 most_bytes = 4096
 
--- The text spells the tokens: it is their spellings, each the longest that fits, with blanks between.
+-- The text spells the tokens: it is their spellings, each the longest that fits, with blanks before, between and behind. (This project's profile.)
 pub record SpellsTokens (text : List ℕ) (tokens : List Token) : Type 0 where
   pub short : length text ≤ most_bytes
   pub rest : List ℕ
@@ -48,7 +49,7 @@ pub record PlaceAfter (text : List ℕ) (tokens : List Token) (place : ℕ) : Ty
   pub begins : Begins false tokens text rest
   pub place_is : place + length (past_blanks rest) ≡ length text
 
--- of each token, the byte where it begins
+-- of each token, the byte where it begins (this project's profile)
 pub record ArePlaces (text : List ℕ) (tokens : List Token) (places : List ℕ) : Type 0 where
   pub same : length places ≡ length tokens
   pub each : (k : ℕ) → k < length tokens → PlaceAfter text (take k tokens) (slice_index places k)

@@ -23,7 +23,7 @@ pub record StopsAt (tokens left : List Token) : Type 0 where
   -- and none that goes on as the tokens do
   pub never : NoneGoesOn before left
 
--- Behind a complete postfix stands a bracket. (Firebase Security Rules reference, expressions; that it is left out is this project's profile.)
+-- Behind a complete postfix, at however many levels, stands a bracket. (Firebase Security Rules reference, expressions; that it is left out is this project's profile.)
 pub record Indexed (tokens left : List Token) : Type 0 where
   pub front : List Token
   pub levels : ℕ

@@ -12,7 +12,7 @@ use Rattle.expr_parser.specs.Grammar.{Spells}
 use Rattle.expr_parser.specs.Stopping.{StopsAt, Indexed}
 use Rattle.expr_parser.specs.View.{view}
 
--- The text spells the expression: by its tokens.
+-- The text spells the expression: by its tokens. (Firebase Security Rules reference, expressions.)
 pub record SpellsExpression (text : List ℕ) (x : Tree) : Type 0 where
   pub tokens : List Token
   pub scanned : SpellsTokens text tokens
@@ -34,11 +34,11 @@ pub record IsOfGrammar (text : List ℕ) (fault : ExprFault) : Type 0 where
   pub stops : StopsAt tokens left
   pub place : NamesPlace text tokens stops.before left fault
 
--- Why the text is refused: for the earliest fault of its tokens, or else for where these stop to be an expression; or for want of memory.
+-- Why the text is refused: for the earliest fault of its tokens, or else for where these stop to be an expression; or for want of memory. (This project's profile.)
 abbrev pub RefusedText : List ℕ → ExprFault → Type 0
 RefusedText text fault = (fault ≡ NoMemory) ⊎ IsEarliest text fault ⊎ IsOfGrammar text fault
 
--- The answer is this expression, unless memory ran out.
+-- The answer is this expression, unless memory is refused.
 abbrev pub ReadsText : Tree → Result Expr ExprFault → Type 0
 ReadsText x (Ok e) = view e ≡ x
 ReadsText x (Err fault) = fault ≡ NoMemory

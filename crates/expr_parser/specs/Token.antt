@@ -29,22 +29,23 @@ abbrev pub word_in : List (List ℕ × Token) → List ℕ → Option Token
 word_in [] word = None
 word_in (s ∷ ss) word = if bytes_eq s.0 word then Some s.1 else word_in ss word
 
--- digits, if they say a number that can be written
+-- digits, if they say a number that can be written (this project's profile)
 abbrev pub number : List ℕ → Option Token
 number word = if list_all is_ascii_digit word && nat_le (numeral word) greatest then Some (t.Number (numeral word)) else None
 
--- the token of a name: behind a dot each is a name, and elsewhere it may be a literal
+-- the token of a name: behind a dot each is a name, and elsewhere it may be a literal (this project's profile)
 abbrev pub named : Bool → List ℕ → Token
 named after_dot word = if after_dot then t.Name word else unwrap_or (word_in literals word) (t.Name word)
 
+-- a name's token, if all its bytes may stand in one (this project's profile)
 abbrev pub name : Bool → List ℕ → Option Token
 name after_dot word = if list_all is_name_byte word then Some (named after_dot word) else None
 
--- a capture, read behind its $
+-- a capture, read behind its $ (this project's profile)
 abbrev pub capture : List ℕ → Option Token
 capture word = if is_name word then Some (t.Capture word) else None
 
--- The token that a whole word spells: a number, a name, a text, a capture or a sign.
+-- The token that a whole word spells: a number, a name, a text, a capture or a sign. (This project's profile.)
 abbrev pub token_of : Bool → List ℕ → Option Token
 token_of after_dot [] = None
 token_of after_dot (c ∷ cs) =

@@ -7,16 +7,16 @@ use Rattle.std.specs.Char.{is_ascii_digit, is_ascii_alphabetic}
 abbrev pub is_blank : ℕ → Bool
 is_blank c = c == 32 || c == 9 || c == 10 || c == 13
 
--- the text from its first byte on that is no blank
+-- the text from its first byte on that is no blank (this project's profile)
 abbrev pub past_blanks : List ℕ → List ℕ
 past_blanks [] = []
 past_blanks (c ∷ cs) = if is_blank c then past_blanks cs else c ∷ cs
 
--- a byte that may begin a name: an ASCII letter or _
+-- a byte that may begin a name: an ASCII letter or _ (this project's profile)
 abbrev pub is_name_start : ℕ → Bool
 is_name_start c = is_ascii_alphabetic c || c == 95
 
--- a byte that may follow there: an ASCII letter, a digit or _
+-- a byte that may follow there: an ASCII letter, a digit or _ (this project's profile)
 abbrev pub is_name_byte : ℕ → Bool
 is_name_byte c = is_name_start c || is_ascii_digit c
 
@@ -25,7 +25,7 @@ abbrev pub is_name : List ℕ → Bool
 is_name [] = false
 is_name (c ∷ cs) = is_name_start c && list_all is_name_byte (c ∷ cs)
 
--- digits, at least one
+-- digits, at least one (this project's profile)
 abbrev pub is_numeral : List ℕ → Bool
 is_numeral [] = false
 is_numeral (c ∷ cs) = list_all is_ascii_digit (c ∷ cs)
@@ -35,7 +35,7 @@ abbrev pub numeral_from : ℕ → List ℕ → ℕ
 numeral_from n [] = n
 numeral_from n (c ∷ cs) = numeral_from (10 * n + (c - 48)) cs
 
--- the number that decimal digits say
+-- the number that decimal digits say (this project's profile)
 abbrev pub numeral : List ℕ → ℕ
 numeral digits = numeral_from 0 digits
 
@@ -52,11 +52,11 @@ first_is p (c ∷ cs) = p c
 abbrev pub begins_digit : List ℕ → Bool
 begins_digit text = first_is is_ascii_digit text
 
--- what makes digits before it a number that the profile leaves out: a point and a digit, or an exponent
+-- what makes digits before it a number that the profile leaves out: a point and a digit, or an exponent (this project's profile)
 abbrev pub begins_fraction : List ℕ → Bool
 begins_fraction [] = false
 begins_fraction (c ∷ cs) = c == 101 || c == 69 || (c == 46 && begins_digit cs)
 
--- what may follow a number's digits at once
+-- what may follow a number's digits at once (this project's profile)
 abbrev pub ends_number : List ℕ → Bool
 ends_number rest = not (begins_digit rest || begins_fraction rest)

@@ -13,7 +13,7 @@ pub enum ExprFault {
     #[error("no expression at byte {byte}")]
     BadExpression { byte: usize },
     /// The rules language has this, and the project's profile leaves it out.
-    #[error("not in the profile")]
+    #[error("`{}` is not in the profile", .0.name())]
     NotInProfile(Excluded),
     #[error("out of memory")]
     NoMemory,

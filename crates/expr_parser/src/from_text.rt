@@ -1,5 +1,6 @@
 //! From a text to its expression.
-ghost use Rattle.std.specs.Prelude.{◌≡◌, ◌-◌, ◌<◌, ◌≤◌, ℕ, List, length, nat_eq, if◌then◌else◌, slice_index, IfOk, IfErr};
+ghost use Rattle.std.specs.Prelude.{◌≡◌, ◌≢◌, ◌-◌, ◌<◌, ◌≤◌, ℕ, List, length, nat_eq, if◌then◌else◌, slice_index, IfOk, IfErr};
+ghost use Rattle.expr_parser.specs.declared.fault.ExprFault.{ExprFault};
 ghost use Rattle.expr_parser.specs.Tree.{Tree};
 ghost use Rattle.expr_parser.specs.Text.{SpellsExpression, RefusedText, ReadsText};
 ghost use Rattle.expr_parser.specs.View.{view};
@@ -19,8 +20,8 @@ pub fn parse(alloc: Global, text: &str) -> Result<Expr, ExprFault>
     ensures found { IfOk result (λ expr. SpellsExpression text.now (view expr)) }
     // What is spelled so is found, unless memory is refused.
     ensures only { (tree : Tree) → SpellsExpression text.now tree → ReadsText tree result }
-    // A fault is the earliest of the tokens, or names the first token that no spelled expression has
-    // after the tokens before it.
+    // A fault is the earliest of the tokens, or else stands at the first token that no spelled
+    // expression has after the tokens before it, which has its place, or is a bracket that is left out.
     ensures refused { IfErr result (λ fault. RefusedText text.now fault) }
 {
     let scanned = scan(alloc, text)?;
@@ -38,6 +39,13 @@ pub fn parse(alloc: Global, text: &str) -> Result<Expr, ExprFault>
 /// A text spells at most one expression.
 pub fn one_expression()
     ensures { (text : List ℕ) (x y : Tree) → SpellsExpression text x → SpellsExpression text y → x ≡ y }
+{}
+
+/// But for want of memory, a text is refused for at most one reason, and for none where it spells an
+/// expression.
+pub fn one_refusal()
+    ensures one { (text : List ℕ) (one other : ExprFault) → RefusedText text one → RefusedText text other → one ≢ ExprFault.NoMemory → other ≢ ExprFault.NoMemory → one ≡ other }
+    ensures none { (text : List ℕ) (tree : Tree) (fault : ExprFault) → SpellsExpression text tree → RefusedText text fault → fault ≡ ExprFault.NoMemory }
 {}
 
 // Where the first of the tokens begins of which so many are left, or else where the text ends.

@@ -22,13 +22,13 @@ mod word;
 
 pub use expr::{Argument, Expr};
 pub use fault::{Excluded, ExprFault};
-pub use from_text::{one_expression, parse};
-pub use limits::{MAX_EXPRESSION_BYTES, MAX_LEVELS, MAX_NUMBER};
+pub use from_text::{one_expression, one_refusal, parse};
+pub use limits::{MAX_EXPRESSION_BYTES, MAX_LEVELS, MAX_NUMBER, the_limits};
 pub use name::Name;
 pub use operator::Operator;
 pub use parser::{ParseFault, expression, one_expression_of_tokens};
 pub use quoted::Quoted;
-pub use scanner::{one_list, tokens};
+pub use scanner::{one_fault, one_list, tokens};
 pub use text::Text;
 pub use token::Token;
 pub use word::Word;

@@ -59,7 +59,7 @@ fn level(operator: Operator) -> u8
 /// The expression that the tokens spell, all of them.
 ///
 /// One pass over the tokens. It grows memory once for a node and for the words that the node keeps,
-/// and once for a list and whenever the list outgrows its room. At most 64 levels of calls are open.
+/// and once for a list and whenever the list outgrows its room. The recursion goes as deep as levels are open, 64 at most, with a bounded number of calls for each.
 pub fn expression(alloc: Global, tokens: &[Token]) -> Result<Expr, ParseFault>
     // What is found is spelled so.
     ensures found { IfOk result (λ expr. Spells tokens.now (view expr)) }

@@ -314,13 +314,17 @@ fn levels_end(rt: HostRuntime) -> Result<(), Fail> {
 
 // As long as the longest text can make it, nested to the left: built, walked down and dropped.
 #[test]
-fn a_long_sum(rt: HostRuntime) -> Result<(), Fail> {
+fn a_long_sum_and_a_long_chain(rt: HostRuntime) -> Result<(), Fail> {
     let alloc = rt.alloc();
     let mut text = "1+".repeat(alloc, 2047)?;
     text.push('1')?;
     assert_eq!(rt; text.len(), 4095);
     let sum = parse(alloc, text.as_str());
     assert!(rt; matches!(sum, Ok(Expr::Operation(Operator::Add, _, _))));
+    let mut text = "a.".repeat(alloc, 2047)?;
+    text.push('a')?;
+    let chain = parse(alloc, text.as_str());
+    assert!(rt; matches!(chain, Ok(Expr::Member(_, _))));
     Ok(())
 }
 
@@ -388,6 +392,64 @@ fn texts_at_the_limits(rt: HostRuntime) -> Result<(), Fail> {
         text.push_str(" ".repeat(alloc, blanks)?.as_str())?;
         let found = answer_of_text(alloc, text.as_str())?;
         assert_eq!(rt; found.as_str(), want, "of {blanks} blanks");
+    }
+    Ok(())
+}
+
+// What comes first, what is repeated, and what comes last.
+type Parts = (&'static str, &'static str, &'static str);
+
+// Texts of 4,094 to 4,096 bytes that are one call, list, text, name or capture, each with how often a
+// part of it is repeated, and its answer.
+const LONGEST: [(Parts, usize, Parts); 6] = [
+    (("a.b(", "1,", "1)"), 2045, ("a.b(", "1,", "1)")),
+    (("a.b([", "1,", "1])"), 2044, ("a.b({", "1,", "1})")),
+    (("'", "\u{e9}", "'"), 2047, ("'", "\u{e9}", "'")),
+    (("'", "\\u00e9", "'"), 682, ("'", "\u{e9}", "'")),
+    (("a", "a", ""), 4095, ("a", "a", "")),
+    (("$", "a", ""), 4095, ("$", "a", "")),
+];
+
+fn repeated(alloc: Global, parts: Parts, times: usize) -> Result<String, AllocError> {
+    let (front, piece, back) = parts;
+    let mut text = String::from_str(alloc, front)?;
+    text.push_str(piece.repeat(alloc, times)?.as_str())?;
+    text.push_str(back)?;
+    Ok(text)
+}
+
+#[test]
+fn as_long_as_a_text_may_be(rt: HostRuntime) -> Result<(), Fail> {
+    let alloc = rt.alloc();
+    for (parts, times, wanted) in LONGEST {
+        let text = repeated(alloc, parts, times)?;
+        let want = repeated(alloc, wanted, times)?;
+        let found = answer_of_text(alloc, text.as_str())?;
+        assert_eq!(rt;
+            found.as_str(),
+            want.as_str(),
+            "of {times} times {:?}",
+            parts.1
+        );
+    }
+    Ok(())
+}
+
+#[test]
+fn faults_in_words(rt: HostRuntime) -> Result<(), Fail> {
+    for (fault, want) in [
+        (
+            ExprFault::BadExpression { byte: 4 },
+            "no expression at byte 4",
+        ),
+        (
+            ExprFault::NotInProfile(Excluded::Bracket),
+            "`[` is not in the profile",
+        ),
+        (ExprFault::NoMemory, "out of memory"),
+    ] {
+        let said = format!(in rt.alloc(); "{fault}")?;
+        assert_eq!(rt; said.as_str(), want);
     }
     Ok(())
 }

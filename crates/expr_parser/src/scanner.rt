@@ -24,8 +24,8 @@ pub(crate) struct Scanned<'a> {
 /// The tokens that the text spells, or its earliest fault.
 ///
 /// It goes over the text once, reads each byte a bounded number of times, and copies none of it: the
-/// tokens borrow their words. The list grows by pushes. Of a text that is too long, what begins behind
-/// byte 4096 is not read. What may fail but for a fault is memory alone.
+/// tokens borrow their words. The list grows by pushes. Of a text that is too long, no token that begins
+/// at byte 4096 or behind it is read. What may fail but for a fault is memory alone.
 pub fn tokens<'a>(alloc: Global, text: &'a str) -> Result<Vec<Token<'a>>, ExprFault>
     // What is answered is spelled.
     ensures found { IfOk result (λ found. SpellsTokens text.now found.items) }
@@ -42,6 +42,12 @@ pub fn tokens<'a>(alloc: Global, text: &'a str) -> Result<Vec<Token<'a>>, ExprFa
 /// A text spells at most one list of tokens.
 pub fn one_list()
     ensures { (text : List ℕ) (us vs : List Token) → SpellsTokens text us → SpellsTokens text vs → us ≡ vs }
+{}
+
+/// A text has at most one earliest fault, and where it spells tokens it has none.
+pub fn one_fault()
+    ensures one { (text : List ℕ) (one other : ExprFault) → IsEarliest text one → IsEarliest text other → one ≡ other }
+    ensures none { (text : List ℕ) (us : List Token) (fault : ExprFault) → SpellsTokens text us → ¬ (IsEarliest text fault) }
 {}
 
 // The same as `tokens`, with the place of each token.

@@ -2,3 +2,4 @@ pub mod Judging
 pub mod Sessions
 pub mod Walks
 pub mod StepLaws
+pub mod RunLaws

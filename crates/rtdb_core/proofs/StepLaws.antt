@@ -57,41 +57,44 @@ unfolding Step
 memory_aside old new now session event reply (inl h) n = h
 memory_aside old new now session event reply (inr h) n = absurd (n h.0)
 
-module _ (old new : State) (session : ℕ) (path : Path) (opened : is_open old session ≡ true) where
-  reads_by : (reply : Reply) → Gets old session path reply new → ((tree : Option Tree) × (reply ≡ Value tree)) ↔ IsGranted old.rules reads path
-  reads_by (Value tree) h = (λ _. h.1, λ _. (tree, refl))
+module _ (old new : State) (session : ℕ) (path : Path) where
+  reads_by : (reply : Reply) → Gets old session path reply new → ((tree : Option Tree) × (reply ≡ Value tree)) ↔ ((is_open old session ≡ true) × IsGranted old.rules reads path)
+  reads_by (Value tree) h = (λ _. (h.0, h.1), λ _. (tree, refl))
   reads_by Done h = absurd h
   reads_by (Refused SessionOpen) h = absurd h
   reads_by (Refused TooManySessions) h = absurd h
-  reads_by (Refused NoSession) h = absurd (false≢true (sym h.0 ∙ opened))
-  reads_by (Refused (ReadDenied named)) h = (λ v. let e : Refused (ReadDenied named) ≡ Value v.0 = v.1 in cc, λ g. absurd (h.1 g))
+  reads_by (Refused NoSession) h = (λ v. let e : Refused NoSession ≡ Value v.0 = v.1 in cc, λ g. absurd (false≢true (sym h.0 ∙ g.0)))
+  reads_by (Refused (ReadDenied named)) h = (λ v. let e : Refused (ReadDenied named) ≡ Value v.0 = v.1 in cc, λ g. absurd (h.1 g.1))
   reads_by (Refused (WriteDenied at named)) h = absurd h
   reads_by (Refused NoMemory) h = absurd h
 
-pub read_granted : (old new : State) (now session : ℕ) (path : Path) (reply : Reply) → Step old now session (Get path) reply new → is_open old session ≡ true → reply ≢ Refused NoMemory → ((tree : Option Tree) × (reply ≡ Value tree)) ↔ IsGranted old.rules reads path
-read_granted old new now session path reply s opened n = reads_by old new session path opened reply (memory_aside old new now session (Get path) reply s n)
+pub read_granted : (old new : State) (now session : ℕ) (path : Path) (reply : Reply) → Step old now session (Get path) reply new → reply ≢ Refused NoMemory → ((tree : Option Tree) × (reply ≡ Value tree)) ↔ ((is_open old session ≡ true) × IsGranted old.rules reads path)
+read_granted old new now session path reply s n = reads_by old new session path reply (memory_aside old new now session (Get path) reply s n)
 
 pub read_denied : (old new : State) (now session : ℕ) (path : Path) (named : List Named) → Step old now session (Get path) (Refused (ReadDenied named)) new → AreNamedRules old.rules reads path named
 unfolding Step
 read_denied old new now session path named (inl h) = h.2
 read_denied old new now session path named (inr h) = let e : Refused (ReadDenied named) ≡ Refused NoMemory = h.0 in cc
 
-module _ (old new : State) (session : ℕ) (write : Write) (opened : is_open old session ≡ true) where
-  writes_by : (reply : Reply) → Sets old session write reply new → (reply ≡ Done) ↔ IsGranted old.rules writes (location write)
+module _ (old new : State) (session : ℕ) (write : Write) where
+  writes_by : (reply : Reply) → Sets old session write reply new → (reply ≡ Done) ↔ ((is_open old session ≡ true) × IsGranted old.rules writes (location write))
   writes_by (Value tree) h = absurd h
-  writes_by Done h = (λ _. h.1, λ _. refl)
+  writes_by Done h = (λ _. (h.0, h.1), λ _. refl)
   writes_by (Refused SessionOpen) h = absurd h
   writes_by (Refused TooManySessions) h = absurd h
-  writes_by (Refused NoSession) h = absurd (false≢true (sym h.0 ∙ opened))
+  writes_by (Refused NoSession) h = (λ e. absurd (never e), λ g. absurd (false≢true (sym h.0 ∙ g.0)))
+    where
+      never : Refused NoSession ≡ Done → ⊥
+      never e = cc
   writes_by (Refused (ReadDenied named)) h = absurd h
-  writes_by (Refused (WriteDenied at named)) h = (λ e. absurd (never e), λ g. absurd (h.1 g))
+  writes_by (Refused (WriteDenied at named)) h = (λ e. absurd (never e), λ g. absurd (h.1 g.1))
     where
       never : Refused (WriteDenied at named) ≡ Done → ⊥
       never e = cc
   writes_by (Refused NoMemory) h = absurd h
 
-pub write_granted : (old new : State) (now session : ℕ) (write : Write) (reply : Reply) → Step old now session (Set write) reply new → is_open old session ≡ true → reply ≢ Refused NoMemory → (reply ≡ Done) ↔ IsGranted old.rules writes (location write)
-write_granted old new now session write reply s opened n = writes_by old new session write opened reply (memory_aside old new now session (Set write) reply s n)
+pub write_granted : (old new : State) (now session : ℕ) (write : Write) (reply : Reply) → Step old now session (Set write) reply new → reply ≢ Refused NoMemory → (reply ≡ Done) ↔ ((is_open old session ≡ true) × IsGranted old.rules writes (location write))
+write_granted old new now session write reply s n = writes_by old new session write reply (memory_aside old new now session (Set write) reply s n)
 
 pub write_denied : (old new : State) (now session : ℕ) (write : Write) (at : Path) (named : List Named) → Step old now session (Set write) (Refused (WriteDenied at named)) new → (at ≡ location write) × AreNamedRules old.rules writes at named
 unfolding Step

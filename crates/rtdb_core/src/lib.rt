@@ -10,6 +10,7 @@ mod judge;
 mod limits;
 mod machine;
 mod reply;
+mod run_laws;
 mod session;
 mod step_laws;
 
@@ -18,6 +19,7 @@ pub use judge::{Access, is_granted, named_rules};
 pub use limits::{MAX_MOMENT, MAX_SESSIONS, the_limits};
 pub use machine::Core;
 pub use reply::{Named, NamedRules, Refusal, Reply, Why};
+pub use run_laws::every_call_of_a_run_is_judged_by_the_rules_in_force;
 pub use session::Session;
 pub use step_laws::{
     a_read_is_granted_exactly_when_a_rule_holds, a_refused_event_changes_nothing,

@@ -17,17 +17,16 @@ pub fn a_refused_event_changes_nothing()
     ensures { (old new : State) (now session : ℕ) (event : Event) (refusal : Refusal) → Step old now session event (Reply.Refused refusal) new → new ≡ old }
 {}
 
-/// A read of a session that is open is answered by a value exactly where the rules grant it, but for
-/// want of memory; else it is denied, and the denial names the rules. (Reference, `.read`.)
+/// A read is answered by a value exactly where its session is open and the rules grant it, but for
+/// want of memory; a denial names the rules. (Reference, `.read`.)
 pub fn a_read_is_granted_exactly_when_a_rule_holds()
-    ensures granted { (old new : State) (now session : ℕ) (path : Path) (reply : Reply) → Step old now session (Event.Get path) reply new → is_open old session ≡ true → reply ≢ Reply.Refused Refusal.NoMemory → ((tree : Option Tree) × (reply ≡ Reply.Value tree)) ↔ IsGranted old.rules reads path }
+    ensures granted { (old new : State) (now session : ℕ) (path : Path) (reply : Reply) → Step old now session (Event.Get path) reply new → reply ≢ Reply.Refused Refusal.NoMemory → ((tree : Option Tree) × (reply ≡ Reply.Value tree)) ↔ ((is_open old session ≡ true) × IsGranted old.rules reads path) }
     ensures denied { (old new : State) (now session : ℕ) (path : Path) (named : List Named) → Step old now session (Event.Get path) (Reply.Refused (Refusal.ReadDenied named)) new → AreNamedRules old.rules reads path named }
 {}
 
-/// A write of a session that is open is made exactly where the rules grant it, but for want of
-/// memory; else it is denied at its location, and the denial names the rules. (Reference,
-/// `.write`.)
+/// A write is made exactly where its session is open and the rules grant it, but for want of
+/// memory; a denial names the location and the rules. (Reference, `.write`.)
 pub fn a_write_is_granted_exactly_when_a_rule_holds()
-    ensures granted { (old new : State) (now session : ℕ) (write : Write) (reply : Reply) → Step old now session (Event.Set write) reply new → is_open old session ≡ true → reply ≢ Reply.Refused Refusal.NoMemory → (reply ≡ Reply.Done) ↔ IsGranted old.rules writes (location write) }
+    ensures granted { (old new : State) (now session : ℕ) (write : Write) (reply : Reply) → Step old now session (Event.Set write) reply new → reply ≢ Reply.Refused Refusal.NoMemory → (reply ≡ Reply.Done) ↔ ((is_open old session ≡ true) × IsGranted old.rules writes (location write)) }
     ensures denied { (old new : State) (now session : ℕ) (write : Write) (at : Path) (named : List Named) → Step old now session (Event.Set write) (Reply.Refused (Refusal.WriteDenied at named)) new → (at ≡ location write) × AreNamedRules old.rules writes at named }
 {}

@@ -1,13 +1,18 @@
 -- Lines that are answered, as a run.
-use Rattle.std.proofs.Common.{◌≡◌, ℕ, ◌⊎◌, List, [], ◌∷◌, Result, Ok, Err, refl, subst}
+use Rattle.std.proofs.Common.{◌≡◌, ℕ, ◌⊎◌, List, [], ◌∷◌, Result, Ok, Err, refl, sym, ap, subst}
 use Rattle.sessions.specs.declared.message.Form.TheVariants.{Script}
 use Rattle.sessions.specs.declared.message.MessageFault.{MessageFault}
 use Rattle.sessions.specs.declared.message.MessageFault.TheVariants.{NoMemory}
 use Rattle.sessions.specs.declared.message.Request.{Request}
-use Rattle.rtdb_core.specs.State.{State}
+use Rattle.tree_model.specs.Tree.{null}
+use Rattle.rules_reader.specs.Book.{Book}
+use Rattle.sessions.specs.declared.header.HeaderFault.{HeaderFault}
+use Rattle.rtdb_core.specs.State.{State, opening}
 use Rattle.rtdb_core.specs.Step.{Run}
 use Rattle.sessions.specs.Message.{asks}
-use Rattle.sessions.specs.Said.{IsAnsweredBy, AreAnswered, AreAnsweredByRun, calls_of}
+use Rattle.sessions.specs.Header.{Opens}
+use Rattle.sessions.specs.Lines.{cut, told}
+use Rattle.sessions.specs.Said.{Phase, running, unopened, refused, IsAnsweredBy, AreAnswered, AreAnsweredByRun, Continues, Stands, Said, IsSaidByRun, calls_of}
 
 -- one line before the others
 one_before : (old mid new : State) (line text : List ℕ) (lines texts : List (List ℕ)) (message : Result Request MessageFault) → (message ≡ asks Script line) ⊎ (message ≡ Err NoMemory) → IsAnsweredBy old message text mid → AreAnsweredByRun mid lines texts new → AreAnsweredByRun old (line ∷ lines) (text ∷ texts) new
@@ -31,3 +36,30 @@ as_run old new [] [] h = record { messages = []; read = tt; replies = []; run = 
 as_run old new [] (text ∷ texts) h = absurd h
 as_run old new (line ∷ lines) [] h = absurd h
 as_run old new (line ∷ lines) (text ∷ texts) h = one_before old h.0 new line text lines texts h.1.0 h.1.1 h.1.2 (as_run h.0 new lines texts h.2)
+
+-- the state of a phase that runs, and another of the others
+state_in : State → Phase → State
+state_in other unopened = other
+state_in other refused = other
+state_in other (running state) = state
+
+continued : (input header : List ℕ) (lines : List (List ℕ)) (state : State) (out : List ℕ) → told (cut input) ≡ header ∷ lines → (opened : Result Book HeaderFault) → Opens header opened → Continues opened lines (running state) out → IsSaidByRun input state out
+unfolding state_in
+continued input header lines state out is (Err fault) opens h = let e : running state ≡ refused = h.0 in cc
+continued input header lines state out is (Ok book) opens h = record {
+  header = header;
+  lines = lines;
+  in_order = is;
+  book = book;
+  opens = opens;
+  texts = h.0;
+  run = as_run (opening book null) state lines h.0 (subst (λ (s : State). AreAnswered (opening book null) lines h.0 s) (sym (ap (state_in state) h.3)) h.2);
+  written = h.4;
+}
+
+stood : (input : List ℕ) (ls : List (List ℕ)) (state : State) (out : List ℕ) → told (cut input) ≡ ls → Stands ls (running state) out → IsSaidByRun input state out
+stood input [] state out is h = let e : running state ≡ unopened = h.0 in cc
+stood input (header ∷ lines) state out is h = continued input header lines state out is h.0 h.1 h.2
+
+pub said_by_run : (input out : List ℕ) (state : State) → Said input (running state) out → IsSaidByRun input state out
+said_by_run input out state h = stood input (told (cut input)) state out refl h

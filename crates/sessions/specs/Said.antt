@@ -96,3 +96,14 @@ Stands (header ∷ lines) phase out = (opened : Result Book HeaderFault) × Open
 -- The output for an input: the answer to its header, and if that is accepted an answer to each later line, in order.
 abbrev pub Said : List ℕ → Phase → List ℕ → Type 0
 Said input phase out = Stands (told (cut input)) phase out
+
+-- A script whose header was accepted: its header, the rules that it opens with, and the output as a run from the state in which a database opens with these rules and null.
+pub record IsSaidByRun (input : List ℕ) (state : State) (out : List ℕ) : Type 0 where
+  pub header : List ℕ
+  pub lines : List (List ℕ)
+  pub in_order : told (cut input) ≡ header ∷ lines
+  pub book : Book
+  pub opens : Opens header (Ok book)
+  pub texts : List (List ℕ)
+  pub run : AreAnsweredByRun (opening book null) lines texts state
+  pub written : out ≡ as_line (answer.accepted_text (length (rules book))) ++ flat_map as_line texts

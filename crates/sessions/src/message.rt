@@ -86,10 +86,7 @@ pub fn read_request(alloc: Global, bytes: &[u8], form: Form) -> Result<Request, 
     ensures asked { Tells (λ request. request) result (asks form bytes.now) }
     ensures moment { IfOk result (λ request. IsWithin form → request.stamp.now ≤ MAX_MOMENT) }
 {
-    let value = match read_value(alloc, bytes) {
-        Ok(value) => value,
-        Err(fault) => return Err(fault),
-    };
+    let value = read_value(alloc, bytes)?;
     request_of(alloc, form, &value)
 }
 
@@ -124,10 +121,8 @@ fn request_of(alloc: Global, form: Form, value: &Value) -> Result<Request, Messa
     let Some(stamp) = stamp_of(form, value) else {
         return Err(MessageFault::BadRequest);
     };
-    match event_of(alloc, verb, value) {
-        Ok(event) => Ok(Request { stamp, event }),
-        Err(fault) => Err(fault),
-    }
+    let event = event_of(alloc, verb, value)?;
+    Ok(Request { stamp, event })
 }
 
 fn verb_in(form: Form, value: &Value) -> Option<Verb>
@@ -233,10 +228,7 @@ fn event_of(alloc: Global, verb: Verb, value: &Value) -> Result<Event, MessageFa
             let Some(text) = text_at(value, "path") else {
                 return Err(MessageFault::BadRequest);
             };
-            match path_of(alloc, text) {
-                Ok(path) => Ok(Event::Get(path)),
-                Err(fault) => Err(fault),
-            }
+            Ok(Event::Get(path_of(alloc, text)?))
         }
         Verb::Set => set_of(alloc, value),
     }
@@ -251,14 +243,9 @@ fn set_of(alloc: Global, value: &Value) -> Result<Event, MessageFault>
     let Some(written) = value.get("value") else {
         return Err(MessageFault::BadRequest);
     };
-    let path = match path_of(alloc, text) {
-        Ok(path) => path,
-        Err(fault) => return Err(fault),
-    };
-    match tree_of_value(alloc, written) {
-        Ok(tree) => write_of(path, tree),
-        Err(fault) => Err(fault),
-    }
+    let path = path_of(alloc, text)?;
+    let tree = tree_of_value(alloc, written)?;
+    write_of(path, tree)
 }
 
 fn path_of(alloc: Global, text: &str) -> Result<Path, MessageFault>
