@@ -23,11 +23,11 @@ is_hex c = nat_lt (digit_value c) 16
 abbrev pub hex_digit : ℕ → Option ℕ
 hex_digit c = if is_hex c then Some (digit_value c) else None
 
--- the number that four hexadecimal digits say (this project's profile)
+-- the number that four hexadecimal digits say
 abbrev pub hex_number : ℕ → ℕ → ℕ → ℕ → ℕ
 hex_number a b c d = 4096 * digit_value a + 256 * digit_value b + 16 * digit_value c + digit_value d
 
--- half of a character of UTF-16 (this project's profile)
+-- half of a character of UTF-16 (Unicode Standard, surrogates)
 abbrev pub is_surrogate : ℕ → Bool
 is_surrogate n = nat_le 0xD800 n && nat_le n 0xDFFF
 

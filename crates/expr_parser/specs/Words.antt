@@ -35,7 +35,7 @@ abbrev pub numeral_from : ℕ → List ℕ → ℕ
 numeral_from n [] = n
 numeral_from n (c ∷ cs) = numeral_from (10 * n + (c - 48)) cs
 
--- the number that decimal digits say (this project's profile)
+-- the number that decimal digits say
 abbrev pub numeral : List ℕ → ℕ
 numeral digits = numeral_from 0 digits
 

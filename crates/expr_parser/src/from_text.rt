@@ -20,8 +20,8 @@ pub fn parse(alloc: Global, text: &str) -> Result<Expr, ExprFault>
     ensures found { IfOk result (λ expr. SpellsExpression text.now (view expr)) }
     // What is spelled so is found, unless memory is refused.
     ensures only { (tree : Tree) → SpellsExpression text.now tree → ReadsText tree result }
-    // A fault is the earliest of the tokens, or else stands at the first token that no spelled
-    // expression has after the tokens before it, which has its place, or is a bracket that is left out.
+    // A fault is the earliest one of the tokens; else it has the place of the first token with which
+    // no spelled expression goes on, or says that this is a bracket that is left out.
     ensures refused { IfErr result (λ fault. RefusedText text.now fault) }
 {
     let scanned = scan(alloc, text)?;

@@ -5,7 +5,7 @@ use Rattle.rtdb_core.specs.declared.reply.Reply.{Reply}
 use Rattle.rtdb_core.specs.State.{State}
 use Rattle.rtdb_core.specs.Step.{Step, Call, Run}
 use Rattle.rtdb_core.specs.Headline.{IsJudged, IsJudgedAmong}
-use Rattle.rtdb_core.proofs.StepLaws.{refused_stays, read_granted, read_denied, write_granted, write_denied}
+use Rattle.rtdb_core.proofs.StepLaws.{refused_stays, read_granted, read_denies, read_denied, write_granted, write_denies, write_denied}
 
 -- a step at an event that is told by an equation
 at_event : (old new : State) (call : Call) (reply : Reply) → Step old call.now call.session call.event reply new → (event : Event) → call.event ≡ event → Step old call.now call.session event reply new
@@ -18,8 +18,10 @@ at_reply old new call event reply s told is = subst (λ (r : Reply). Step old ca
 judged : (old new : State) (call : Call) (reply : Reply) → Step old call.now call.session call.event reply new → IsJudged old call reply new
 judged old new call reply s = record {
   read = λ path is n. read_granted old new call.now call.session path reply (at_event old new call reply s _ is) n;
+  denies_read = λ path is n opened none. read_denies old new call.now call.session path reply (at_event old new call reply s _ is) n opened none;
   read_denied = λ path named is told. read_denied old new call.now call.session path named (at_reply old new call _ reply (at_event old new call reply s _ is) _ told);
   write = λ write is n. write_granted old new call.now call.session write reply (at_event old new call reply s _ is) n;
+  denies_write = λ write is n opened none. write_denies old new call.now call.session write reply (at_event old new call reply s _ is) n opened none;
   write_denied = λ write at named is told. write_denied old new call.now call.session write at named (at_reply old new call _ reply (at_event old new call reply s _ is) _ told);
   refused = λ refusal told. refused_stays old new call.now call.session call.event refusal (at_reply old new call _ reply s _ told);
 }

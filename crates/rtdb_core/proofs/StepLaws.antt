@@ -1,5 +1,5 @@
 -- What each step gives.
-use Rattle.std.proofs.Common.{◌≡◌, ◌≢◌, ℕ, inl, inr, true, List, Option, refl, sym, subst, ◌∙◌}
+use Rattle.std.proofs.Common.{◌≡◌, ◌≢◌, ℕ, inl, inr, true, List, Option, refl, sym, ap, subst, ◌∙◌}
 use Rattle.std.specs.Prelude.{◌↔◌}
 use Rattle.std.proofs.lemmas.Bool.{false≢true}
 use Rattle.tree_model.specs.Path.{Path}
@@ -100,3 +100,32 @@ pub write_denied : (old new : State) (now session : ℕ) (write : Write) (at : P
 unfolding Step
 write_denied old new now session write at named (inl h) = (h.2, subst (λ (p : Path). AreNamedRules old.rules writes p named) (sym h.2) h.3)
 write_denied old new now session write at named (inr h) = let e : Refused (WriteDenied at named) ≡ Refused NoMemory = h.0 in cc
+
+-- where a session is open and no rule grants, what is asked is denied
+module _ (old new : State) (session : ℕ) (path : Path) (opened : is_open old session ≡ true) (none : ¬ (IsGranted old.rules reads path)) where
+  read_denies_by : (reply : Reply) → Gets old session path reply new → (named : List Named) × (reply ≡ Refused (ReadDenied named))
+  read_denies_by (Value tree) h = absurd (none h.1)
+  read_denies_by Done h = absurd h
+  read_denies_by (Refused SessionOpen) h = absurd h
+  read_denies_by (Refused TooManySessions) h = absurd h
+  read_denies_by (Refused NoSession) h = absurd (false≢true (sym h.0 ∙ opened))
+  read_denies_by (Refused (ReadDenied named)) h = (named, refl)
+  read_denies_by (Refused (WriteDenied at named)) h = absurd h
+  read_denies_by (Refused NoMemory) h = absurd h
+
+pub read_denies : (old new : State) (now session : ℕ) (path : Path) (reply : Reply) → Step old now session (Get path) reply new → reply ≢ Refused NoMemory → is_open old session ≡ true → ¬ (IsGranted old.rules reads path) → (named : List Named) × (reply ≡ Refused (ReadDenied named))
+read_denies old new now session path reply s n opened none = read_denies_by old new session path opened none reply (memory_aside old new now session (Get path) reply s n)
+
+module _ (old new : State) (session : ℕ) (write : Write) (opened : is_open old session ≡ true) (none : ¬ (IsGranted old.rules writes (location write))) where
+  write_denies_by : (reply : Reply) → Sets old session write reply new → (named : List Named) × (reply ≡ Refused (WriteDenied (location write) named))
+  write_denies_by (Value tree) h = absurd h
+  write_denies_by Done h = absurd (none h.1)
+  write_denies_by (Refused SessionOpen) h = absurd h
+  write_denies_by (Refused TooManySessions) h = absurd h
+  write_denies_by (Refused NoSession) h = absurd (false≢true (sym h.0 ∙ opened))
+  write_denies_by (Refused (ReadDenied named)) h = absurd h
+  write_denies_by (Refused (WriteDenied at named)) h = (named, ap (λ (p : Path). Refused (WriteDenied p named)) h.2)
+  write_denies_by (Refused NoMemory) h = absurd h
+
+pub write_denies : (old new : State) (now session : ℕ) (write : Write) (reply : Reply) → Step old now session (Set write) reply new → reply ≢ Refused NoMemory → is_open old session ≡ true → ¬ (IsGranted old.rules writes (location write)) → (named : List Named) × (reply ≡ Refused (WriteDenied (location write) named))
+write_denies old new now session write reply s n opened none = write_denies_by old new session write opened none reply (memory_aside old new now session (Set write) reply s n)
