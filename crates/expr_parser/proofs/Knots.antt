@@ -3,7 +3,7 @@ use Rattle.std.proofs.Common.{◌≡◌, ℕ, suc, List, [], ◌∷◌, ◌++◌
 use Rattle.std.specs.Prelude.{Ok}
 use mathlib.Core.Former.{Count}
 use Rattle.std.specs.declared.boxed.Box.{Box}
-use Rattle.expr_parser.specs.declared.token.Token.{Token}
+use Rattle.expr_tokens.specs.declared.token.Token.{Token}
 use Rattle.expr_parser.specs.declared.expr.Expr.{Expr, Call, Call', Row_of-Argument, end_of-Argument, more_of-Argument, items-the_row-Argument, items_hidden-the_row-Argument-1}
 use Rattle.expr_parser.specs.declared.expr.Argument.{Argument, List as Listing, List', Row_of-Expr, end_of-Expr, more_of-Expr, items-the_row-Expr, items_hidden-the_row-Expr-0}
 use Rattle.expr_parser.specs.Tree as tree

@@ -1,9 +1,3 @@
-pub mod Texts
-pub mod Runs
-pub mod Signs
-pub mod Fronts
-pub mod Same
-pub mod Whole
 pub mod Turns
 pub mod Complete
 pub mod Sound
@@ -12,5 +6,4 @@ pub mod Ahead
 pub mod Top
 pub mod Knots
 pub mod Placed
-pub mod Said
 pub mod Refusals

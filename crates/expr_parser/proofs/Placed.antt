@@ -4,17 +4,17 @@ use Rattle.std.specs.Prelude.{nat_eq, slice_index}
 use Rattle.std.proofs.lemmas.Bool.{eqb-true}
 use Rattle.std.proofs.lemmas.List.{append-nil}
 use Rattle.std.proofs.Math.Seq.{take-append_seam}
-use Rattle.expr_parser.specs.declared.fault.ExprFault.TheVariants.{BadExpression, NotInProfile}
-use Rattle.expr_parser.specs.declared.fault.Excluded.TheVariants.{Bracket as left_out}
+use Rattle.expr_tokens.specs.declared.fault.ExprFault.TheVariants.{BadExpression, NotInProfile}
+use Rattle.expr_tokens.specs.declared.fault.Excluded.TheVariants.{Bracket as left_out}
 use Rattle.expr_parser.specs.declared.parser.ParseFault.TheVariants.{Unexpected, Bracket}
-use Rattle.expr_parser.specs.declared.token.Token.{Token}
-use Rattle.expr_parser.specs.Words.{past_blanks}
-use Rattle.expr_parser.specs.Spelling.{Begins, SpellsTokens, PlaceAfter, ArePlaces}
+use Rattle.expr_tokens.specs.declared.token.Token.{Token}
+use Rattle.expr_tokens.specs.Words.{past_blanks}
+use Rattle.expr_tokens.specs.Spelling.{Begins, SpellsTokens, PlaceAfter, ArePlaces}
 use Rattle.expr_parser.specs.Tree.{Tree}
 use Rattle.expr_parser.specs.Grammar.{Spells}
 use Rattle.expr_parser.specs.Stopping.{Refused}
 use Rattle.expr_parser.specs.Text.{SpellsExpression, RefusedText}
-use Rattle.expr_parser.proofs.Whole.{one_list}
+use Rattle.expr_tokens.proofs.Whole.{one_list}
 use Rattle.expr_parser.proofs.Top as top
 
 -- a text spells at most one expression

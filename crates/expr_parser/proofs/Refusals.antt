@@ -1,18 +1,18 @@
 -- A text is refused for one reason.
 use Rattle.std.proofs.Common.{◌≡◌, ◌≢◌, ℕ, Bool, false, List, [], ◌∷◌, ◌++◌, length, refl, sym, ap, subst, ◌∙◌, arith, inl, inr, ◌⊎◌, append_assoc}
 use Rattle.std.proofs.lemmas.List.{append-nil}
-use Rattle.expr_parser.specs.declared.fault.ExprFault.{ExprFault}
-use Rattle.expr_parser.specs.declared.fault.ExprFault.TheVariants.{BadExpression, NotInProfile, NoMemory}
-use Rattle.expr_parser.specs.declared.fault.Excluded.TheVariants.{Slash, Number, Bracket}
-use Rattle.expr_parser.specs.declared.token.Token.{Token}
-use Rattle.expr_parser.specs.Words.{past_blanks}
-use Rattle.expr_parser.specs.Spelling.{Begins, is_dot, PlaceAfter}
+use Rattle.expr_tokens.specs.declared.fault.ExprFault.{ExprFault}
+use Rattle.expr_tokens.specs.declared.fault.ExprFault.TheVariants.{BadExpression, NotInProfile, NoMemory}
+use Rattle.expr_tokens.specs.declared.fault.Excluded.TheVariants.{Slash, Number, Bracket}
+use Rattle.expr_tokens.specs.declared.token.Token.{Token}
+use Rattle.expr_tokens.specs.Words.{past_blanks}
+use Rattle.expr_tokens.specs.Spelling.{Begins, is_dot, PlaceAfter}
 use Rattle.expr_parser.specs.Tree.{Tree}
 use Rattle.expr_parser.specs.Grammar.{Spells}
 use Rattle.expr_parser.specs.Stopping.{NoneGoesOn, StopsAt}
 use Rattle.expr_parser.specs.Text.{SpellsExpression, NamesPlace, IsOfGrammar, RefusedText}
-use Rattle.expr_parser.proofs.Same.{one_token}
-use Rattle.expr_parser.proofs.Whole.{one_list, one_earliest, spelled_no_fault}
+use Rattle.expr_tokens.proofs.Same.{one_token}
+use Rattle.expr_tokens.proofs.Whole.{one_list, one_earliest, spelled_no_fault}
 
 -- ---- one place
 

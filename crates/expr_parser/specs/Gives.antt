@@ -1,7 +1,7 @@
 -- What the parser answers. `Refuses` and `Gives` are words of private clauses and of proofs alone.
 use Rattle.std.specs.Prelude.{◌≡◌, List, Result, Ok, Err}
 use Rattle.expr_parser.specs.declared.expr.Expr.{Expr}
-use Rattle.expr_parser.specs.declared.token.Token.{Token}
+use Rattle.expr_tokens.specs.declared.token.Token.{Token}
 use Rattle.expr_parser.specs.declared.parser.ParseFault.{ParseFault}
 use Rattle.expr_parser.specs.declared.parser.ParseFault.TheVariants.{NoMemory, Unexpected, Bracket}
 use Rattle.expr_parser.specs.Reading.{Found}

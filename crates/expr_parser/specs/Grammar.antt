@@ -1,9 +1,9 @@
 -- The grammar, with one rule for each alternative.
 use Rattle.std.specs.Prelude.{◌≡◌, ℕ, suc, ◌<◌, List, [], ◌∷◌}
-use Rattle.expr_parser.specs.declared.operator.Operator.{Operator}
-use Rattle.expr_parser.specs.declared.operator.Operator.TheVariants.{Or, And, Equal, NotEqual, Less, LessOrEqual, Greater, GreaterOrEqual, Add, Subtract, Multiply, Remainder}
-use Rattle.expr_parser.specs.declared.token.Token.{Token}
-use Rattle.expr_parser.specs.declared.token.Token.TheVariants as t
+use Rattle.expr_tokens.specs.declared.operator.Operator.{Operator}
+use Rattle.expr_tokens.specs.declared.operator.Operator.TheVariants.{Or, And, Equal, NotEqual, Less, LessOrEqual, Greater, GreaterOrEqual, Add, Subtract, Multiply, Remainder}
+use Rattle.expr_tokens.specs.declared.token.Token.{Token}
+use Rattle.expr_tokens.specs.declared.token.Token.TheVariants as t
 use Rattle.expr_parser.specs.Tree.{Tree, Trees, Argument, Arguments, Number, Text, True, False, Null, Variable, Capture, Group, Member, Call, Not, Negate, Operation, Choice, One, Listed, no_argument, argument, none, more}
 
 -- The levels of the grammar: 0 expr, 1 or, 2 and, 3 equal, 4 order, 5 sum, 6 product, 7 unary, 8 postfix. Here is that of each operator. (Firebase Security Rules reference, expressions.)

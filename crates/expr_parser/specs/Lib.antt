@@ -1,11 +1,3 @@
-pub mod Answers
-pub mod Excluded
-pub mod Faults
-pub mod Quoted
-pub mod Spelling
-pub mod Token
-pub mod Words
-pub mod Scanning
 pub mod Tree
 pub mod View
 pub mod Grammar

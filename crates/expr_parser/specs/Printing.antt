@@ -1,8 +1,8 @@
 -- The tokens of an expression, as a function of its tree: the grammar's rules once more, for the proofs.
 use Rattle.std.specs.Prelude.{◌≡◌, ℕ, suc, ◌<◌, ◌≤◌, List, [], ◌∷◌}
-use Rattle.expr_parser.specs.declared.operator.Operator.TheVariants.{Subtract}
-use Rattle.expr_parser.specs.declared.token.Token.{Token}
-use Rattle.expr_parser.specs.declared.token.Token.TheVariants as t
+use Rattle.expr_tokens.specs.declared.operator.Operator.TheVariants.{Subtract}
+use Rattle.expr_tokens.specs.declared.token.Token.{Token}
+use Rattle.expr_tokens.specs.declared.token.Token.TheVariants as t
 use Rattle.expr_parser.specs.Tree.{Tree, Trees, Argument, Arguments, Number, Text, True, False, Null, Variable, Capture, Group, Member, Call, Not, Negate, Operation, Choice, One, Listed, no_argument, argument, none, more}
 use Rattle.expr_parser.specs.Grammar.{level}
 

@@ -1,8 +1,8 @@
 -- Reading an expression from left to right, as the parser does: what it gives, or where it stops. For the proofs.
 use Rattle.std.specs.Prelude.{ℕ, zero, suc, List, ◌∷◌, length, Result, Ok, Err, nat_lt, nat_le, if◌then◌else◌}
-use Rattle.expr_parser.specs.declared.operator.Operator.TheVariants as b
-use Rattle.expr_parser.specs.declared.token.Token.{Token}
-use Rattle.expr_parser.specs.declared.token.Token.TheVariants as t
+use Rattle.expr_tokens.specs.declared.operator.Operator.TheVariants as b
+use Rattle.expr_tokens.specs.declared.token.Token.{Token}
+use Rattle.expr_tokens.specs.declared.token.Token.TheVariants as t
 use Rattle.expr_parser.specs.declared.parser.ParseFault.{ParseFault}
 use Rattle.expr_parser.specs.declared.parser.ParseFault.TheVariants.{Unexpected, Bracket, NoMemory}
 use Rattle.expr_parser.specs.Tree.{Tree, Trees, Argument, Arguments, Number, Text, True, False, Null, Variable, Capture, Group, Member, Call, Not, Negate, Operation, Choice, One, Listed, no_argument, argument, none, more}

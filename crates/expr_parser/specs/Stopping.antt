@@ -1,7 +1,7 @@
 -- Where tokens stop to be an expression.
 use Rattle.std.specs.Prelude.{◌≡◌, ℕ, List, [], ◌∷◌, ◌++◌, length}
-use Rattle.expr_parser.specs.declared.token.Token.{Token}
-use Rattle.expr_parser.specs.declared.token.Token.TheVariants.{OpenBracket}
+use Rattle.expr_tokens.specs.declared.token.Token.{Token}
+use Rattle.expr_tokens.specs.declared.token.Token.TheVariants.{OpenBracket}
 use Rattle.expr_parser.specs.declared.parser.ParseFault.{ParseFault}
 use Rattle.expr_parser.specs.declared.parser.ParseFault.TheVariants.{NoMemory, Unexpected, Bracket}
 use Rattle.expr_parser.specs.Tree.{Tree}

@@ -1,12 +1,12 @@
 -- Which expression a text spells, and why one spells none.
 use Rattle.std.specs.Prelude.{◌≡◌, ℕ, List, Result, Ok, Err, ◌⊎◌}
 use Rattle.expr_parser.specs.declared.expr.Expr.{Expr}
-use Rattle.expr_parser.specs.declared.fault.ExprFault.{ExprFault}
-use Rattle.expr_parser.specs.declared.fault.ExprFault.TheVariants.{BadExpression, NotInProfile, NoMemory}
-use Rattle.expr_parser.specs.declared.fault.Excluded.TheVariants.{Slash, Number, Bracket}
-use Rattle.expr_parser.specs.declared.token.Token.{Token}
-use Rattle.expr_parser.specs.Spelling.{SpellsTokens, PlaceAfter}
-use Rattle.expr_parser.specs.Faults.{IsEarliest}
+use Rattle.expr_tokens.specs.declared.fault.ExprFault.{ExprFault}
+use Rattle.expr_tokens.specs.declared.fault.ExprFault.TheVariants.{BadExpression, NotInProfile, NoMemory}
+use Rattle.expr_tokens.specs.declared.fault.Excluded.TheVariants.{Slash, Number, Bracket}
+use Rattle.expr_tokens.specs.declared.token.Token.{Token}
+use Rattle.expr_tokens.specs.Spelling.{SpellsTokens, PlaceAfter}
+use Rattle.expr_tokens.specs.Faults.{IsEarliest}
 use Rattle.expr_parser.specs.Tree.{Tree}
 use Rattle.expr_parser.specs.Grammar.{Spells}
 use Rattle.expr_parser.specs.Stopping.{StopsAt, Indexed}

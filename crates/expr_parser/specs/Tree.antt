@@ -1,6 +1,6 @@
 -- Expressions as trees, without where they lie in memory.
 use Rattle.std.specs.Prelude.{ℕ, List}
-use Rattle.expr_parser.specs.declared.operator.Operator.{Operator}
+use Rattle.expr_tokens.specs.declared.operator.Operator.{Operator}
 
 mutual
   -- An expression, with one constructor for each alternative of the grammar. (Firebase Security Rules reference, expressions.)

@@ -1,14 +1,13 @@
 //! From a text to its expression.
 ghost use Rattle.std.specs.Prelude.{◌≡◌, ◌≢◌, ◌-◌, ◌<◌, ◌≤◌, ℕ, List, length, nat_eq, if◌then◌else◌, slice_index, IfOk, IfErr};
-ghost use Rattle.expr_parser.specs.declared.fault.ExprFault.{ExprFault};
+ghost use Rattle.expr_tokens.specs.declared.fault.ExprFault.{ExprFault};
 ghost use Rattle.expr_parser.specs.Tree.{Tree};
 ghost use Rattle.expr_parser.specs.Text.{SpellsExpression, RefusedText, ReadsText};
 ghost use Rattle.expr_parser.specs.View.{view};
 
 use crate::expr::Expr;
-use crate::fault::{Excluded, ExprFault};
 use crate::parser::{ParseFault, expression};
-use crate::scanner::scan;
+use expr_tokens::{Excluded, ExprFault, scan};
 use std::alloc::Global;
 
 /// The expression that the text spells, or why it spells none.

@@ -1,20 +1,11 @@
-//! The limits of an expression, each with its reason.
+//! The limit of an expression, with its reason.
 ghost use Rattle.std.specs.Prelude.{◌≡◌};
-
-/// The most bytes that the text of an expression has. (This project's profile.)
-pub const MAX_EXPRESSION_BYTES: usize = 4096;
 
 /// The most levels that are open at once in an expression, so that reading one has a bounded depth.
 /// (This project's profile.)
 pub const MAX_LEVELS: usize = 64;
 
-/// The greatest number that can be written, 2^53 - 1: every number up to it has an exact double.
-/// (This project's profile.)
-pub const MAX_NUMBER: u64 = 9_007_199_254_740_991;
-
-/// The limits in numbers, as the definitions have them.
-pub fn the_limits()
-    ensures bytes { MAX_EXPRESSION_BYTES ≡ 4096 }
-    ensures levels { MAX_LEVELS ≡ 64 }
-    ensures number { MAX_NUMBER ≡ 9007199254740991 }
+/// The limit in a number, as the definitions have it.
+pub fn the_limit_of_levels()
+    ensures { MAX_LEVELS ≡ 64 }
 {}

@@ -6,13 +6,12 @@ ghost use Rattle.expr_parser.specs.Reading.{Whole, Climb, Unary, Items, read, ar
 ghost use Rattle.expr_parser.specs.Tree.{Tree, none};
 ghost use Rattle.expr_parser.specs.View.{view, view_argument, views, arguments};
 ghost use Rattle.expr_parser.specs.Gives.{Gives, Reads};
-ghost use Rattle.expr_parser.specs.declared.token.Token.{Token};
+ghost use Rattle.expr_tokens.specs.declared.token.Token.{Token};
 ghost use Rattle.expr_parser.specs.declared.parser.ParseFault.TheVariants.{NoMemory as no_memory};
 
 use crate::expr::{Argument, Expr};
 use crate::limits::MAX_LEVELS;
-use crate::operator::Operator;
-use crate::token::Token;
+use expr_tokens::{Operator, Token};
 use std::alloc::{AllocError, AllocFailed, Global};
 
 /// Why tokens are no expression.
@@ -117,14 +116,7 @@ fn choice<'a, 't>(
         return Err(ParseFault::Unexpected { left: rest.len() });
     };
     let (no, rest) = whole(alloc, depth + 1, inner)?;
-    Ok((
-        Expr::Choice(
-            Box::new(alloc, condition)?,
-            Box::new(alloc, yes)?,
-            Box::new(alloc, no)?,
-        ),
-        rest,
-    ))
+    Ok((Expr::choice(alloc, condition, yes, no)?, rest))
 }
 
 // The levels of the operators, from this one on.
@@ -151,7 +143,7 @@ fn climb<'a, 't>(
             return Ok((left, rest));
         }
         let (right, after) = climb(alloc, depth, level(operator) + 1, after)?;
-        left = Expr::Operation(operator, Box::new(alloc, left)?, Box::new(alloc, right)?);
+        left = Expr::operation(alloc, operator, left, right)?;
         rest = after;
     }
 }
@@ -224,13 +216,13 @@ fn member<'a, 't>(
     };
     let name = word.copy(alloc)?;
     let [Token::OpenParenthesis, inner @ ..] = rest else {
-        return Ok((Expr::Member(Box::new(alloc, receiver)?, name), rest));
+        return Ok((Expr::member(alloc, receiver, name)?, rest));
     };
     if depth >= MAX_LEVELS {
         return Err(ParseFault::Unexpected { left: rest.len() });
     }
     let (given, rest) = given(alloc, depth + 1, inner)?;
-    Ok((Expr::Call(Box::new(alloc, receiver)?, name, given), rest))
+    Ok((Expr::call(alloc, receiver, name, given)?, rest))
 }
 
 // [ arg { ',' arg } ] ')'

@@ -21,6 +21,3 @@ pub use leaf::{Leaf, Number, Text};
 pub use memory::NoMemory;
 pub use node::Node;
 pub use puts::put;
-
-#[cfg(test)]
-mod tests;

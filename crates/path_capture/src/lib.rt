@@ -14,6 +14,3 @@ pub use name::{CaptureName, NameFault, is_name};
 pub use path::{Path, PathFault, what_is_printed_is_read_back};
 pub use pattern::{Part, Pattern};
 pub use write::{TooDeep, Write};
-
-#[cfg(test)]
-mod tests;

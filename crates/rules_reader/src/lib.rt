@@ -19,6 +19,3 @@ pub use limits::{MAX_FILE_BYTES, MAX_RULES};
 pub use node::RuleNode;
 pub use rule::RuleSet;
 pub use rules::Rules;
-
-#[cfg(test)]
-mod tests;

@@ -2,10 +2,10 @@ use Rattle.std.proofs.Common.{ℕ, List, sym, ap, subst, ◌∙◌}
 use Rattle.std.proofs.lemmas.Result.{err_from_is_err_and}
 use Rattle.expr_parser.specs.declared.parser.ParseFault.{ParseFault}
 use Rattle.expr_parser.specs.declared.parser.ParseFault.TheVariants.{Unexpected}
-use Rattle.expr_parser.specs.declared.token.Token.{Token}
+use Rattle.expr_tokens.specs.declared.token.Token.{Token}
 use Rattle.expr_parser.specs.Grammar.{Spells}
 use Rattle.expr_parser.specs.Stopping.{Refused}
-use Rattle.expr_parser.proofs.Whole.{no_list}
+use Rattle.expr_tokens.proofs.Whole.{no_list}
 use Rattle.expr_parser.proofs.Placed.{of_tokens, placed, names_byte}
 use Rattle.expr_parser.proofs.from_text.parse.Goals as goal
 

@@ -1,12 +1,12 @@
 use Rattle.std.proofs.Common.{rules, arith, ◌+◌, length-drop}
 use Rattle.std.proofs.lemmas.Grind.{common_steps}
 use Rattle.std.proofs.lemmas.List.{length-take}
-use Rattle.expr_parser.specs.declared.token.Token.{Token}
+use Rattle.expr_tokens.specs.declared.token.Token.{Token}
 use Rattle.expr_parser.specs.Reading.{Whole, On, After, Args, Unary}
 use Rattle.expr_parser.specs.Tree.{none, no_argument}
 use Rattle.expr_parser.specs.View.{view}
 use Rattle.expr_parser.proofs.Turns.{read_step}
-use Rattle.expr_parser.proofs.Knots.{whole_is, climb_is, items_is, parts_are, views-push, arguments-push, view-Call, view-List}
+use Rattle.expr_parser.proofs.Knots.{whole_is, climb_is, items_is, parts_are, views-push, arguments-push, view-List}
 use Rattle.expr_parser.proofs.parser.+parser.Goals as goal
 
 pub argument-returns-in_err-x-clause-gives : goal.argument-returns-in_err-x-clause-gives
@@ -83,9 +83,6 @@ given-loop-rest-preserved m c = record {
   reading = rw (← c.loop-rest.invariant.reading, c.in_ok-push-2.ensures.items, arguments-push c.loop-rest.found.items c.in_ok-next.next) (grind (arith, common_steps, read_step));
   shorter = omega (arith, c.in_ok-next.ensures.shorter, c.loop-rest.invariant.shorter, length-take {A = Token}, length-drop {A = Token});
 }
-
-pub member-returns-clause-gives : goal.member-returns-clause-gives
-member-returns-clause-gives m c = rw (view-Call c.in_ok-new-2.field-0 c.in_ok-name.name c.in_ok-given.given) (grind (arith, common_steps))
 
 pub postfix-loop-rest-preserved : goal.postfix-loop-rest-preserved
 postfix-loop-rest-preserved m c = record {

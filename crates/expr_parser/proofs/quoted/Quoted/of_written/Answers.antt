@@ -1,5 +1,0 @@
-use Rattle.expr_parser.proofs.Texts.{meaning_said}
-use Rattle.expr_parser.proofs.quoted.Quoted.of_written.Goals as goal
-
-pub returns : goal.returns
-returns c = meaning_said c.args.written.now c.requires

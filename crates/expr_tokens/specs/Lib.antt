@@ -1,0 +1,8 @@
+pub mod Answers
+pub mod Excluded
+pub mod Faults
+pub mod Quoted
+pub mod Spelling
+pub mod Token
+pub mod Words
+pub mod Scanning

@@ -1,0 +1,17 @@
+//! The tests of the libraries below the database: what no clause of theirs says, that each call that
+//! allocates can succeed, and worked values. They stand in a crate of their own, since a crate with
+//! tests is proved twice.
+#![tactic(auto)]
+
+#[cfg(test)]
+mod expressions;
+#[cfg(test)]
+mod paths;
+#[cfg(test)]
+mod rules_files;
+#[cfg(test)]
+mod tables;
+#[cfg(test)]
+mod token_texts;
+#[cfg(test)]
+mod trees;
