@@ -1,8 +1,9 @@
 //! Laws of what a tree is written as, and of what is read back.
-ghost use Rattle.std.specs.Prelude.{◌≡◌, List, map, IsTrue};
-ghost use Rattle.serde_json.specs.Data.{object, null as empty};
+ghost use Rattle.std.specs.Prelude.{◌≡◌, List, [], ◌∷◌, map, true, IsTrue, codes};
+ghost use Rattle.std.specs.FinMap as map_of;
+ghost use Rattle.serde_json.specs.Data.{boolean, string, array, object, null as empty, no_items, item, no_members, member};
 ghost use Rattle.tree_model.specs.Key.{Key};
-ghost use Rattle.tree_model.specs.Primitive.{Primitive};
+ghost use Rattle.tree_model.specs.Primitive.{Primitive, truth, words};
 ghost use Rattle.tree_model.specs.Tree.{Tree, null, lone, IsLawful};
 ghost use Rattle.tree_model.specs.Children.{graft, AreChildren};
 ghost use Rattle.json_tree.specs.Json.{is_lawful, of_json, data_of, members_of, value_of};
@@ -19,4 +20,12 @@ pub fn what_a_tree_is_written_as()
 pub fn what_is_written_is_read_back()
     ensures tree { (t : Tree) → IsLawful t → of_json (value_of t) ≡ t }
     ensures lawful { (t : Tree) → IsLawful t → IsTrue (is_lawful (value_of t)) }
+{}
+
+/// An array is the object of its places, what is null or empty is nothing, and objects nest.
+pub fn what_a_value_describes()
+    ensures places { of_json (array (item empty (item (string (codes "x")) no_items))) ≡ map_of.from_entries ((codes "1" ∷ [], words (codes "x")) ∷ []) }
+    ensures nested { of_json (object (member (codes "a") (object (member (codes "b") (boolean true) no_members)) no_members)) ≡ map_of.from_entries ((codes "a" ∷ codes "b" ∷ [], truth true) ∷ []) }
+    ensures nothing { of_json empty ≡ null }
+    ensures no_members { of_json (object (member (codes "a") (array no_items) no_members)) ≡ null }
 {}

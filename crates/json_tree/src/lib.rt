@@ -15,7 +15,9 @@ mod puts;
 mod share;
 
 pub use json::{ValueFault, from_json, to_json};
-pub use json_laws::{what_a_tree_is_written_as, what_is_written_is_read_back};
+pub use json_laws::{
+    what_a_tree_is_written_as, what_a_value_describes, what_is_written_is_read_back,
+};
 pub use key::{Key, KeyFault, is_lawful_key};
 pub use leaf::{Leaf, Number, Text};
 pub use memory::NoMemory;

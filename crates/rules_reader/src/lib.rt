@@ -15,7 +15,7 @@ mod shape;
 
 pub use fault::RulesFault;
 pub use file::compile;
-pub use limits::{MAX_FILE_BYTES, MAX_RULES};
+pub use limits::{MAX_FILE_BYTES, MAX_RULES, the_limits};
 pub use node::RuleNode;
 pub use rule::RuleSet;
 pub use rules::Rules;

@@ -11,3 +11,4 @@ pub mod Proposals
 pub mod Below
 pub mod Order
 pub mod WorkedValues
+pub mod OneByOne

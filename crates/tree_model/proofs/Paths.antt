@@ -1,7 +1,9 @@
 -- Prefixes, what is left below them, and their place in the order.
-use Rattle.std.proofs.Common.{◌≡◌, Bool, true, false, cond, not, ◌&&◌, ◌||◌, List, [], ◌∷◌, ◌++◌, map, Some, None, is_some, sym, ap, ◌∙◌, refl}
+use Rattle.std.proofs.Common.{◌≡◌, Bool, true, false, cond, not, ◌&&◌, ◌||◌, ℕ, zero, suc, ◌+◌, ◌≤◌, List, [], ◌∷◌, ◌++◌, map, length, take, Some, None, is_some, option_map, arith, sym, ap, ◌∙◌, refl}
 use Rattle.std.specs.Option.{option_map_or}
-use Rattle.std.specs.List.{list_any}
+use Rattle.std.specs.List.{list_any, slice_get}
+use Rattle.std.proofs.lemmas.List.{length-map}
+use Rattle.std.proofs.lemmas.Option.{slice_get-map}
 use Rattle.std.specs.declared.cmp.Ordering.TheVariants.{Less}
 use Rattle.std.specs.Ordering.{ordering_then}
 use Rattle.std.specs.Cmp.{tied_itself}
@@ -67,3 +69,15 @@ any-prefixes (l ∷ p) (k ∷ q) =
     any-under k l q (prefixes p)
     ∙ ap (λ b. bytes_eq k l && b) (any-prefixes p q)
     ∙ elim (bytes_eq k l) as (λ b. (b && is_prefix q p) ≡ is_some (cond b (strip_prefix q p) None)) [ true ↦ refl | false ↦ refl ]
+
+-- ---- the prefixes of a path, one after another
+
+pub length-prefixes : (p : Path) → length (prefixes p) ≡ length p + 1
+length-prefixes [] = refl
+length-prefixes (k ∷ p) = grind (arith, length-prefixes p, length-map {A = Path} {B = Path})
+
+pub slice_get-prefixes : (p : Path) (i : ℕ) → i ≤ length p → slice_get (prefixes p) i ≡ Some (take i p)
+slice_get-prefixes [] zero h = refl
+slice_get-prefixes [] (suc i) h = absurd (omega arith)
+slice_get-prefixes (k ∷ p) zero h = refl
+slice_get-prefixes (k ∷ p) (suc i) h = slice_get-map (λ q. k ∷ q) (prefixes p) i ∙ ap (option_map (λ q. k ∷ q)) (slice_get-prefixes p i (omega arith))

@@ -27,6 +27,6 @@ pub use worked::{
 };
 pub use write_laws::{
     any_order_of_writes, below_a_key, lawful_writes_propose_a_lawful_tree, null_below_a_primitive,
-    pairs_of_the_proposed_tree, the_proposed_tree_is_a_tree, unchanged_apart_from_writes,
-    what_is_written_is_there, written_below_a_primitive,
+    one_after_another, pairs_of_the_proposed_tree, the_proposed_tree_is_a_tree,
+    unchanged_apart_from_writes, what_is_written_is_there, written_below_a_primitive,
 };

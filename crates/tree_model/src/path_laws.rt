@@ -1,5 +1,5 @@
 //! Laws of paths.
-ghost use Rattle.std.specs.Prelude.{◌≡◌, ◌↔◌, ◌++◌, ◌∷◌, Contains, IsTrue};
+ghost use Rattle.std.specs.Prelude.{◌≡◌, ◌↔◌, ◌+◌, ◌≤◌, ◌++◌, ◌∷◌, ℕ, Some, Contains, IsTrue, length, slice_get, take};
 ghost use Rattle.std.specs.Cmp.{IsTotalOrder};
 ghost use Rattle.std.specs.declared.cmp.Ordering.{Ordering};
 ghost use Rattle.tree_model.specs.Key.{Key};
@@ -12,9 +12,12 @@ pub fn what_is_left_below_a_prefix()
     ensures proper { (p q : Path) → IsTrue (is_proper_prefix p q) ↔ ((k : Key) × (r : Path) × (q ≡ p ++ k ∷ r)) }
 {}
 
-/// The prefixes of a path are those that are called so.
+/// The prefixes of a path are those that are called so, shortest first: the first has no key, each
+/// further one a key more, and the last is the path itself.
 pub fn prefixes_of_a_path()
-    ensures { (p q : Path) → Contains (prefixes q) p ↔ IsTrue (is_prefix p q) }
+    ensures which { (p q : Path) → Contains (prefixes q) p ↔ IsTrue (is_prefix p q) }
+    ensures shortest_first { (q : Path) (i : ℕ) → i ≤ length q → slice_get (prefixes q) i ≡ Some (take i q) }
+    ensures no_others { (q : Path) → length (prefixes q) ≡ length q + 1 }
 {}
 
 /// Paths are in a total order, in which only equal paths tie, and a prefix comes first.

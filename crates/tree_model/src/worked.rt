@@ -102,5 +102,6 @@ pub fn which_primitives_are_lawful()
     ensures too_great { is_primitive (whole (pos 9007199254740992)) ≡ false }
     ensures least { is_primitive (whole (negsuc 9007199254740990)) ≡ true }
     ensures too_small { is_primitive (whole (negsuc 9007199254740991)) ≡ false }
+    ensures longest { is_primitive (words (replicate 65536 97)) ≡ true }
     ensures too_long { is_primitive (words (replicate 65537 97)) ≡ false }
 {}

@@ -56,3 +56,9 @@ pub fn written_below_a_primitive()
 pub fn any_order_of_writes()
     ensures { (t : Tree) (ws xs : List Write) → IsPermutation ws xs → overlaps ws ≡ false → proposed t ws ≡ proposed t xs }
 {}
+
+/// Writes that do not overlap may be made one after another: to propose all at once is to propose
+/// the first, and then the others in what it leaves.
+pub fn one_after_another()
+    ensures { (t : Tree) (w : Write) (ws : List Write) → overlaps (w ∷ ws) ≡ false → proposed t (w ∷ ws) ≡ proposed (proposed t (w ∷ [])) ws }
+{}
