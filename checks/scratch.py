@@ -118,25 +118,19 @@ def lanes():
     return max(1, min(len(os.sched_getaffinity(0)), free // MEMORY_OF_A_CHECK))
 
 
-def by_lanes(works):
-    """Runs works side by side, each once those that it waits for are done: a work is a name, the names it waits for, and a call."""
-    done = {name: threading.Event() for name, _, _ in works}
+def by_lanes(calls):
+    """Makes calls side by side, as many at a time as there are lanes, and stops at the first that fails."""
     seats, failures = threading.Semaphore(lanes()), []
 
-    def run(name, waits, call):
-        for it in waits:
-            if it in done:
-                done[it].wait()
+    def run(call):
         with seats:
             try:
                 if not failures:
                     call()
-            except BaseException as error:  # pylint: disable=broad-except
+            except BaseException as error:
                 failures.append(error)
-            finally:
-                done[name].set()
 
-    threads = [threading.Thread(target=run, args=work, daemon=True) for work in works]
+    threads = [threading.Thread(target=run, args=(call,), daemon=True) for call in calls]
     for it in threads:
         it.start()
     for it in threads:
