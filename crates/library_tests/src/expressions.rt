@@ -34,79 +34,102 @@ fn sign_of(operator: Operator) -> &'static str {
 // ---- what an answer looks like: an expression with brackets round each operation and choice, or a
 // fault with the number of the token that it is at
 
-#[cycle(shape)]
-fn shape(alloc: Global, expr: &Expr) -> Result<String, AllocError> {
+#[cycle(write_shape)]
+fn write_shape(text: &mut String, expr: &Expr) -> Result<(), AllocError> {
     match expr {
-        Expr::Number(value) => format!(in alloc; "{value}"),
-        Expr::Text(text) => format!(in alloc; "'{}'", text.as_str()),
-        Expr::True => format!(in alloc; "true"),
-        Expr::False => format!(in alloc; "false"),
-        Expr::Null => format!(in alloc; "null"),
-        Expr::Variable(name) => format!(in alloc; "{}", name.as_str()),
-        Expr::Capture(name) => format!(in alloc; "${}", name.as_str()),
+        Expr::Number(value) => write_number(text, *value),
+        Expr::Text(held) => write_between(text, "'", held.as_str(), "'"),
+        Expr::True => text.push_str("true"),
+        Expr::False => text.push_str("false"),
+        Expr::Null => text.push_str("null"),
+        Expr::Variable(name) => text.push_str(name.as_str()),
+        Expr::Capture(name) => write_between(text, "$", name.as_str(), ""),
         Expr::Group(inner) => {
-            let inner = shape(alloc, inner)?;
-            format!(in alloc; "({})", inner.as_str())
+            text.push('(')?;
+            write_shape(text, inner)?;
+            text.push(')')
         }
         Expr::Member(receiver, name) => {
-            let receiver = shape(alloc, receiver)?;
-            format!(in alloc; "{}.{}", receiver.as_str(), name.as_str())
+            write_shape(text, receiver)?;
+            write_between(text, ".", name.as_str(), "")
         }
         Expr::Call(receiver, name, given) => {
-            let receiver = shape(alloc, receiver)?;
-            let mut text = format!(in alloc; "{}.{}(", receiver.as_str(), name.as_str())?;
-            for (i, argument) in given.iter().enumerate() {
-                if 0 < i {
-                    text.push(',')?;
-                }
-                text.push_str(shape_of_argument(alloc, argument)?.as_str())?;
-            }
-            text.push(')')?;
-            Ok(text)
+            write_shape(text, receiver)?;
+            write_between(text, ".", name.as_str(), "(")?;
+            write_arguments(text, given)?;
+            text.push(')')
         }
         Expr::Not(operand) => {
-            let operand = shape(alloc, operand)?;
-            format!(in alloc; "!{}", operand.as_str())
+            text.push('!')?;
+            write_shape(text, operand)
         }
         Expr::Negate(operand) => {
-            let operand = shape(alloc, operand)?;
-            format!(in alloc; "-{}", operand.as_str())
+            text.push('-')?;
+            write_shape(text, operand)
         }
         Expr::Operation(operator, left, right) => {
-            let left = shape(alloc, left)?;
-            let right = shape(alloc, right)?;
-            format!(in alloc;
-                "[{}{}{}]",
-                left.as_str(),
-                sign_of(*operator),
-                right.as_str()
-            )
+            text.push('[')?;
+            write_shape(text, left)?;
+            text.push_str(sign_of(*operator))?;
+            write_shape(text, right)?;
+            text.push(']')
         }
         Expr::Choice(condition, yes, no) => {
-            let condition = shape(alloc, condition)?;
-            let yes = shape(alloc, yes)?;
-            let no = shape(alloc, no)?;
-            format!(in alloc; "[{}?{}:{}]", condition.as_str(), yes.as_str(), no.as_str())
+            text.push('[')?;
+            write_shape(text, condition)?;
+            text.push('?')?;
+            write_shape(text, yes)?;
+            text.push(':')?;
+            write_shape(text, no)?;
+            text.push(']')
         }
     }
 }
 
-#[cycle(shape)]
-fn shape_of_argument(alloc: Global, argument: &Argument) -> Result<String, AllocError> {
-    match argument {
-        Argument::One(expr) => shape(alloc, expr),
-        Argument::List(elements) => {
-            let mut text = format!(in alloc; "{{")?;
-            for (i, element) in elements.iter().enumerate() {
-                if 0 < i {
-                    text.push(',')?;
-                }
-                text.push_str(shape(alloc, element)?.as_str())?;
-            }
-            text.push('}')?;
-            Ok(text)
+#[cycle(write_shape)]
+fn write_arguments(text: &mut String, given: &[Argument]) -> Result<(), AllocError> {
+    let mut comma = "";
+    for argument in given {
+        text.push_str(comma)?;
+        match argument {
+            Argument::One(expr) => write_shape(text, expr)?,
+            Argument::List(elements) => write_list(text, elements)?,
         }
+        comma = ",";
     }
+    Ok(())
+}
+
+#[cycle(write_shape)]
+fn write_list(text: &mut String, elements: &[Expr]) -> Result<(), AllocError> {
+    let mut before = "{";
+    for element in elements {
+        text.push_str(before)?;
+        write_shape(text, element)?;
+        before = ",";
+    }
+    text.push('}')
+}
+
+fn write_between(
+    text: &mut String,
+    before: &str,
+    middle: &str,
+    after: &str,
+) -> Result<(), AllocError> {
+    text.push_str(before)?;
+    text.push_str(middle)?;
+    text.push_str(after)
+}
+
+fn write_number(text: &mut String, value: u64) -> Result<(), AllocError> {
+    write!(text, "{value}")
+}
+
+fn shape(alloc: Global, expr: &Expr) -> Result<String, AllocError> {
+    let mut text = String::new(alloc);
+    write_shape(&mut text, expr)?;
+    Ok(text)
 }
 
 fn answer(alloc: Global, text: &str) -> Result<String, Fail> {

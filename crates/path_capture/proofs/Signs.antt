@@ -1,5 +1,5 @@
 -- Signs that stand in no key.
-use Rattle.std.proofs.Common.{◌≡◌, ℕ, ◌==◌, ◌≤◌, Bool, true, false, cond, not, ◌&&◌, List, [], ◌∷◌, length, get_or, nat_le, sym, refl, arith}
+use Rattle.std.proofs.Common.{◌≡◌, ℕ, ◌==◌, ◌≤◌, Bool, true, false, cond, not, ◌&&◌, List, [], ◌∷◌, length, get_or, nat_le, sym, ap, refl, arith}
 use Rattle.std.specs.List.{list_all, All}
 use Rattle.std.specs.Str.{is_utf8}
 use Rattle.std.specs.Cmp.{first_so, second_so}
@@ -13,6 +13,7 @@ use Rattle.std.specs.declared.cmp.Ordering.TheVariants.{Less, Equal, Greater}
 use Rattle.std.specs.Ordering.{nat_cmp, ordering_then}
 use Rattle.tree_model.specs.declared.limits.TheConstants.{MAX_KEY_BYTES}
 use Rattle.tree_model.specs.Key.{Key, key_cmp, is_key, is_key_byte}
+use Rattle.path_capture.specs.Pattern.{literal, capture, part_of_text}
 
 is_not : (b : Bool) → not b ≡ true → b ≡ false
 is_not true h = sym h
@@ -60,3 +61,8 @@ decided b o h =
 pub key_beside_dollar : (k : Key) (name : List ℕ) → is_key k ≡ true → nat_cmp (get_or k 0 0) 36 ≡ key_cmp k (36 ∷ name)
 key_beside_dollar [] name h = refl
 key_beside_dollar (b ∷ k) name h = decided b _ (no_dollar b (first_so _ _ (key_bytes (b ∷ k) h)))
+
+-- a key is what its text names
+pub part_of_key : (k : Key) → is_key k ≡ true → part_of_text k ≡ literal k
+part_of_key [] h = refl
+part_of_key (b ∷ k) h = ap (λ t. cond t (capture k) (literal (b ∷ k))) (no_dollar b (first_so _ _ (key_bytes (b ∷ k) h)))

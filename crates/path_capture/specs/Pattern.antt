@@ -1,5 +1,5 @@
 -- A pattern: a path in which captures stand for keys.
-use Rattle.std.specs.Prelude.{◌≡◌, ℕ, ◌++◌, List, map, codes, refl}
+use Rattle.std.specs.Prelude.{◌≡◌, ℕ, ◌++◌, ◌==◌, List, [], ◌∷◌, map, codes, refl, if◌then◌else◌}
 use Rattle.std.specs.Coded.{Coded, code_by, coded⊎, coded_ℕ, coded_list}
 use Rattle.std.specs.declared.cmp.Ordering.{Ordering}
 use Rattle.std.proofs.Common.{inl, inr, ◌⊎◌}
@@ -26,6 +26,11 @@ part_of (Capture name) = capture name
 abbrev pub part_text : PatternPart → List ℕ
 part_text (literal key) = key
 part_text (capture name) = codes "$" ++ name
+
+-- what a text names: after a $ a capture, else a key
+abbrev pub part_of_text : List ℕ → PatternPart
+part_of_text [] = literal []
+part_of_text (sign ∷ rest) = if sign == 36 then capture rest else literal (sign ∷ rest)
 
 -- the order of patterns: by the list of the texts of their parts, each by its bytes, a prefix first. (This project's profile.)
 abbrev pub pattern_cmp : Pattern → Pattern → Ordering

@@ -1,7 +1,7 @@
 //! A pattern: where a rule stands.
 ghost use Rattle.std.specs.Prelude.{◌≡◌, ◌++◌, [], ◌∷◌, List, ℕ, true, map, length, codes, option_map, slice_get, string_bytes, IfOk, OnOk, OnErr, MatchOption};
 ghost use Rattle.tree_model.specs.Key.{key_cmp, is_key};
-ghost use Rattle.path_capture.specs.Pattern.{part_of, part_text, pattern_cmp, printed_pattern};
+ghost use Rattle.path_capture.specs.Pattern.{part_of, part_text, part_of_text, pattern_cmp, printed_pattern};
 
 use crate::name::CaptureName;
 use json_tree::{Key, NoMemory};
@@ -25,6 +25,15 @@ impl Part {
         match self {
             Part::Literal(key) => Ok(Part::Literal(key.copy(alloc)?)),
             Part::Capture(name) => Ok(Part::Capture(name.copy(alloc)?)),
+        }
+    }
+
+    /// A part is what its text names, since no key begins with `$`. It does nothing.
+    pub fn law(&self)
+        ensures { part_of_text (part_text (part_of self.now)) ≡ part_of self.now }
+    {
+        if let Part::Literal(key) = self {
+            let _lawful = key.text();
         }
     }
 
@@ -123,6 +132,13 @@ impl Pattern {
         self.held.get(index)
     }
 
+    /// A pattern is what the texts of its parts name. It does nothing.
+    pub fn law(&self)
+        ensures { map part_of_text (map part_text self.now) ≡ self.now }
+    {
+        law_of_parts(self.held.as_slice())
+    }
+
     /// The order of patterns: by the list of the texts of their parts, each by its bytes, a prefix
     /// first. It takes no memory, and time linear in the bytes that it compares. (This project's
     /// profile.)
@@ -157,6 +173,14 @@ fn compare_with_capture(key: &str) -> Ordering
     match key.as_bytes() {
         [first, ..] => first.cmp(&b'$'),
         [] => Ordering::Less,
+    }
+}
+
+fn law_of_parts(parts: &[Part])
+    ensures { map part_of_text (map part_text (map part_of parts.now)) ≡ map part_of parts.now }
+{
+    for part in parts {
+        part.law();
     }
 }
 

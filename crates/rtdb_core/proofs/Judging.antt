@@ -1,39 +1,39 @@
 -- A walk along a path, and the rules that stand there.
-use Rattle.std.proofs.Common.{◌≡◌, ℕ, ◌+◌, ◌<◌, ◌⊎◌, inl, inr, Bool, true, false, cond, List, [], ◌∷◌, ◌++◌, map, length, take, drop, get_or, Some, None, Option, IsSome, is_some, option_and_then, sym, ap, ◌∙◌, subst, refl, arith, append_assoc, append-nil}
-use Rattle.std.proofs.lemmas.List.{take_more, drop_more, take-append-drop}
+use Rattle.std.proofs.Common.{◌≡◌, ℕ, ◌+◌, ◌<◌, ◌≤◌, ◌⊎◌, inl, inr, Bool, true, false, cond, List, [], ◌∷◌, ◌++◌, map, length, take, drop, get_or, Some, None, is_some, option_and_then, sym, ap, ◌∙◌, subst, refl, arith, append_assoc, append-nil}
+use Rattle.std.specs.Prelude.{filter_map, option_map}
+use Rattle.std.specs.List.{cons_option}
+use Rattle.std.proofs.lemmas.List.Elements.{filter_map-append}
+use Rattle.std.proofs.lemmas.List.{take_more, drop_more, take_all, take-append-drop}
 use Rattle.std.specs.FinMap as map_of
 use Rattle.std.specs.Str.{bytes_eq}
 use Rattle.tree_model.specs.Key.{Key}
 use Rattle.tree_model.specs.Path.{Path, strip_prefix, is_prefix, prefixes}
 use Rattle.tree_model.specs.PathMap.{get}
-use Rattle.tree_model.proofs.Choices.{none_is_not_some}
 use Rattle.tree_model.proofs.Orders.{same_key}
 use Rattle.tree_model.proofs.Paths.{prefix-append}
 use Rattle.tree_model.proofs.Lookups.{get-sub}
-use Rattle.rules_reader.specs.Part.{Pattern, texts}
+use Rattle.rules_reader.specs.Part.{Pattern}
 use Rattle.rules_reader.specs.Book.{Book, Kind}
 use Rattle.rules_reader.specs.Place.{StandsAt, HasOneCapture}
 use Rattle.rules_reader.specs.Node.{Point, NoneMatches}
 use Rattle.rules_reader.proofs.Standing.{one_stands}
 use Rattle.rules_reader.proofs.Reached.{Reached, reached_root, not_reached}
 use Rattle.rtdb_core.specs.declared.reply.Named.{Named}
-use Rattle.rtdb_core.specs.declared.reply.Why.TheVariants.{No}
-use Rattle.rtdb_core.specs.Verdict.{stated_for, IsRuleAt, IsGranted, HasNoRule, IsNamed, AreNamed}
+use Rattle.rtdb_core.specs.Verdict.{stated_for, stated_at, IsRuleAt, IsGranted, name_of, named_by, named_at, named_rules}
+use Rattle.rtdb_core.specs.Working.Naming.{stated_by, named_here}
+use Rattle.rtdb_core.proofs.Tests.{standing_is, standing_none}
 
--- what a node states itself
-abbrev pub stated_at : Kind → Point → Option Bool
-stated_at kind node = option_and_then (stated_for kind) (get node.book [])
-
-own_rules : (book : Book) (node : Point) (path : Path) (kind : Kind) → Reached book node path → stated_at kind node ≡ option_and_then (stated_for kind) (get book node.at)
+-- what a node states itself is what the book states at its pattern
+own_rules : (book : Book) (node : Point) (path : Path) (kind : Kind) → Reached book node path → stated_by kind node ≡ stated_at book kind node.at
 own_rules book node path kind r =
     ap (λ b. option_and_then (stated_for kind) (get b [])) r.below
     ∙ ap (option_and_then (stated_for kind)) (get-sub book node.at [] ∙ ap (get book) (append-nil node.at))
 
 -- the rule that stands where the walk stands
-pub rule_here : (book : Book) (node : Point) (path : Path) (kind : Kind) (value : Bool) → Reached book node path → stated_at kind node ≡ Some value → IsRuleAt book kind path node.at value
+pub rule_here : (book : Book) (node : Point) (path : Path) (kind : Kind) (value : Bool) → Reached book node path → stated_by kind node ≡ Some value → IsRuleAt book kind path node.at value
 rule_here book node path kind value r h = record { stands = r.stands; states = sym (own_rules book node path kind r) ∙ h }
 
-pub from_rule_here : (book : Book) (node : Point) (path : Path) (kind : Kind) (pattern : Pattern) (value : Bool) → HasOneCapture book → Reached book node path → IsRuleAt book kind path pattern value → stated_at kind node ≡ Some value
+pub from_rule_here : (book : Book) (node : Point) (path : Path) (kind : Kind) (pattern : Pattern) (value : Bool) → HasOneCapture book → Reached book node path → IsRuleAt book kind path pattern value → stated_by kind node ≡ Some value
 from_rule_here book node path kind pattern value one r h =
     own_rules book node path kind r ∙ ap (λ p. option_and_then (stated_for kind) (get book p)) (one_stands book node.at pattern path one r.stands h.stands) ∙ h.states
 
@@ -100,7 +100,7 @@ no_longer : (q : Path) (key : Key) → is_prefix (key ∷ q) [] ≡ true → ⊥
 no_longer q key h = cc
 
 -- at the root
-pub none_at_root : (book : Book) (node : Point) (kind : Kind) → HasOneCapture book → Reached book node [] → ¬ (stated_at kind node ≡ Some true) → HasNone book kind []
+pub none_at_root : (book : Book) (node : Point) (kind : Kind) → HasOneCapture book → Reached book node [] → ¬ (stated_by kind node ≡ Some true) → HasNone book kind []
 none_at_root book node kind one r h [] pattern above rule = h (from_rule_here book node [] kind pattern true one r rule)
 none_at_root book node kind one r h (k ∷ q) pattern above rule = no_longer q k above
 
@@ -128,7 +128,7 @@ last_prefix (k ∷ p) key (l ∷ q) h =
     further e (inr g) = inr (λ i. e i ∷ g i)
 
 -- one key further
-pub none_further_on : (book : Book) (node : Point) (kind : Kind) (path : Path) (i : ℕ) (key : Key) → HasOneCapture book → i < length path → key ≡ get_or path i key → Reached book node (take (i + 1) path) → ¬ (stated_at kind node ≡ Some true) → HasNone book kind (take i path) → HasNone book kind (take (i + 1) path)
+pub none_further_on : (book : Book) (node : Point) (kind : Kind) (path : Path) (i : ℕ) (key : Key) → HasOneCapture book → i < length path → key ≡ get_or path i key → Reached book node (take (i + 1) path) → ¬ (stated_by kind node ≡ Some true) → HasNone book kind (take i path) → HasNone book kind (take (i + 1) path)
 none_further_on book node kind path i key one l e r h before place pattern above rule =
     let longer : take (i + 1) path ≡ take i path ++ key ∷ [] = take_more path i key l ∙ ap (λ k. take i path ++ k ∷ []) (sym e) in
     by_case (last_prefix (take i path) key place (ap (is_prefix place) (sym longer) ∙ above)) longer
@@ -151,7 +151,7 @@ none_at_all book node kind path i key one l e r none before place pattern above 
 prefix_of_taken : (path : Path) (i : ℕ) → is_prefix (take i path) path ≡ true
 prefix_of_taken path i = ap (is_prefix (take i path)) (sym (take-append-drop i path)) ∙ prefix-append (take i path) (drop i path)
 
-pub granted_at : (book : Book) (node : Point) (kind : Kind) (path : Path) (i : ℕ) → Reached book node (take i path) → stated_at kind node ≡ Some true → IsGranted book kind path
+pub granted_at : (book : Book) (node : Point) (kind : Kind) (path : Path) (i : ℕ) → Reached book node (take i path) → stated_by kind node ≡ Some true → IsGranted book kind path
 granted_at book node kind path i r h = record {
   place = take i path;
   above = prefix_of_taken path i;
@@ -161,67 +161,54 @@ granted_at book node kind path i r h = record {
 
 -- ---- what a denial names
 
-named_more : (book : Book) (kind : Kind) (places : List Path) (place : Path) (named : List Named) (rule : Named) → AreNamed book kind places named → IsNamed book kind place rule → AreNamed book kind (places ++ place ∷ []) (named ++ rule ∷ [])
-named_more book kind [] place named rule h r = inr (rule, [], ap (λ l. l ++ rule ∷ []) h, r, refl)
-named_more book kind (q ∷ qs) place named rule (inl h) r = inl (h.0, named_more book kind qs place named rule h.1 r)
-named_more book kind (q ∷ qs) place named rule (inr h) r = inr (h.0, h.1 ++ rule ∷ [], ap (λ l. l ++ rule ∷ []) h.2, h.3, named_more book kind qs place h.1 rule h.4 r)
-
-named_none : (book : Book) (kind : Kind) (places : List Path) (place : Path) (named : List Named) → AreNamed book kind places named → HasNoRule book kind place → AreNamed book kind (places ++ place ∷ []) named
-named_none book kind [] place named h r = inl (r, h)
-named_none book kind (q ∷ qs) place named (inl h) r = inl (h.0, named_none book kind qs place named h.1 r)
-named_none book kind (q ∷ qs) place named (inr h) r = inr (h.0, h.1, h.2, h.3, named_none book kind qs place h.1 h.4 r)
-
 pub reached_start : (book : Book) (root : Point) → root ≡ record { at = []; book = book } → map_of.contains_key book [] ≡ true → Reached book root []
 reached_start book root e h = subst (λ (node : Point). Reached book node []) (sym e) (reached_root (record { at = []; book = book }) refl h)
 
--- the rule that a node states, if it states one, comes after these
-pub record Names (kind : Kind) (node : Point) (old new : List Named) : Type 0 where
-  pub none : stated_at kind node ≡ None → new ≡ old
-  pub some : IsSome (stated_at kind node) → (rule : Named) × (new ≡ old ++ rule ∷ []) × (texts rule.pattern ≡ node.at) × (rule.why ≡ No)
+-- the rules of the kind at these paths, as a denial names them
+abbrev pub names_at : Book → Kind → List Path → List Named
+names_at book kind places = filter_map (named_at book kind) places
 
--- no rule of the kind stands where the node states none
-none_here : (book : Book) (node : Point) (path : Path) (kind : Kind) → HasOneCapture book → Reached book node path → stated_at kind node ≡ None → HasNoRule book kind path
-none_here book node path kind one r h pattern value rule = none_is_not_some _ h (ap is_some (from_rule_here book node path kind pattern value one r rule))
-
--- the rule that the node states does not hold, since it would grant
-not_holding : (book : Book) (node : Point) (kind : Kind) (path : Path) (i : ℕ) (value : Bool) → Reached book node (take i path) → ¬ (IsGranted book kind path) → stated_at kind node ≡ Some value → stated_at kind node ≡ Some false
-not_holding book node kind path i true r denied h = absurd (denied (granted_at book node kind path i r h))
-not_holding book node kind path i false r denied h = h
+-- at a path that the walk has reached, that is the rule which the node states
+named_there : (book : Book) (node : Point) (path : Path) (kind : Kind) → HasOneCapture book → Reached book node path → names_at book kind (path ∷ []) ≡ named_here kind node
+named_there book node path kind one r =
+    ap (λ name. cons_option name []) (ap (option_and_then (named_by book kind)) (standing_is book node.at path one r.stands) ∙ ap (option_map (λ _. name_of node.at)) (sym (own_rules book node path kind r)))
 
 -- one place more
-named_on : (book : Book) (node : Point) (kind : Kind) (path : Path) (i : ℕ) (places : List Path) (old new : List Named) → HasOneCapture book → Reached book node (take i path) → ¬ (IsGranted book kind path) → Names kind node old new → AreNamed book kind places old → AreNamed book kind (places ++ take i path ∷ []) new
-named_on book node kind path i places old new one r denied names before = by_case (stated_at kind node) refl
-  where
-    by_case : (o : Option Bool) → stated_at kind node ≡ o → AreNamed book kind (places ++ take i path ∷ []) new
-    by_case None e = subst (AreNamed book kind (places ++ take i path ∷ [])) (sym (names.none e)) (named_none book kind places (take i path) old before (none_here book node (take i path) kind one r e))
-    by_case (Some value) e =
-        let rule = names.some (ap is_some e) in
-        let here = subst (λ (p : Pattern). IsRuleAt book kind (take i path) p false) (sym rule.2) (rule_here book node (take i path) kind false r (not_holding book node kind path i value r denied e)) in
-        subst (AreNamed book kind (places ++ take i path ∷ [])) (sym rule.1) (named_more book kind places (take i path) old rule.0 before (here, rule.3))
+named_on : (book : Book) (node : Point) (path : Path) (kind : Kind) (places : List Path) (old new : List Named) → HasOneCapture book → Reached book node path → new ≡ old ++ named_here kind node → old ≡ names_at book kind places → new ≡ names_at book kind (places ++ path ∷ [])
+named_on book node path kind places old new one r more before =
+    more ∙ (λ i. before i ++ sym (named_there book node path kind one r) i) ∙ sym (filter_map-append (named_at book kind) places (path ∷ []))
 
-pub named_at_root : (book : Book) (node : Point) (kind : Kind) (path : Path) (old new : List Named) → HasOneCapture book → Reached book node [] → ¬ (IsGranted book kind path) → Names kind node old new → old ≡ [] → AreNamed book kind (prefixes []) new
-named_at_root book node kind path old new one r denied names e =
-    subst (λ (p : Path). AreNamed book kind (p ∷ []) new) (take-none path) (named_on book node kind path 0 [] old new one (subst (Reached book node) (sym (take-none path)) r) denied names e)
-  where
-    take-none : (xs : Path) → take 0 xs ≡ []
-    take-none [] = refl
-    take-none (x ∷ xs) = refl
+pub named_at_root : (book : Book) (node : Point) (kind : Kind) (old new : List Named) → HasOneCapture book → Reached book node [] → new ≡ old ++ named_here kind node → old ≡ [] → new ≡ names_at book kind (prefixes [])
+named_at_root book node kind old new one r more none = named_on book node [] kind [] old new one r more none
 
-pub named_further_on : (book : Book) (node : Point) (kind : Kind) (path : Path) (i : ℕ) (key : Key) (old new : List Named) → HasOneCapture book → i < length path → key ≡ get_or path i key → Reached book node (take (i + 1) path) → ¬ (IsGranted book kind path) → Names kind node old new → AreNamed book kind (prefixes (take i path)) old → AreNamed book kind (prefixes (take (i + 1) path)) new
-named_further_on book node kind path i key old new one l e r denied names before =
+pub named_further_on : (book : Book) (node : Point) (kind : Kind) (path : Path) (i : ℕ) (key : Key) (old new : List Named) → HasOneCapture book → i < length path → key ≡ get_or path i key → Reached book node (take (i + 1) path) → new ≡ old ++ named_here kind node → old ≡ names_at book kind (prefixes (take i path)) → new ≡ names_at book kind (prefixes (take (i + 1) path))
+named_further_on book node kind path i key old new one l e r more before =
     let longer : take (i + 1) path ≡ take i path ++ key ∷ [] = take_more path i key l ∙ ap (λ k. take i path ++ k ∷ []) (sym e) in
     let places : prefixes (take (i + 1) path) ≡ prefixes (take i path) ++ take (i + 1) path ∷ [] =
     ap prefixes longer ∙ prefixes-longer (take i path) key ∙ ap (λ q. prefixes (take i path) ++ q ∷ []) (sym longer) in
-    subst (λ (qs : List Path). AreNamed book kind qs new) (sym places) (named_on book node kind path (i + 1) (prefixes (take i path)) old new one r denied names before)
+    named_on book node (take (i + 1) path) kind (prefixes (take i path)) old new one r more before ∙ ap (names_at book kind) (sym places)
 
 -- nothing more is named where nothing stands
-named_beyond : (book : Book) (kind : Kind) (p : Path) (key : Key) (rest : Path) (named : List Named) → ((r : Path) → HasNoRule book kind (p ++ key ∷ r)) → AreNamed book kind (prefixes p) named → AreNamed book kind (prefixes (p ++ key ∷ rest)) named
-named_beyond book kind p key [] named none before = subst (λ (qs : List Path). AreNamed book kind qs named) (sym (prefixes-longer p key)) (named_none book kind (prefixes p) (p ++ key ∷ []) named before (none []))
-named_beyond book kind p key (next ∷ rest) named none before =
-    let here : AreNamed book kind (prefixes (p ++ key ∷ [])) named =
-    subst (λ (qs : List Path). AreNamed book kind qs named) (sym (prefixes-longer p key)) (named_none book kind (prefixes p) (p ++ key ∷ []) named before (none [])) in
-    subst (λ (q : Path). AreNamed book kind (prefixes q) named) (append_assoc p (key ∷ []) (next ∷ rest)) (named_beyond book kind (p ++ key ∷ []) next rest named (λ r. subst (HasNoRule book kind) (sym (append_assoc p (key ∷ []) (next ∷ r))) (none (next ∷ r))) here)
+none_named : (book : Book) (kind : Kind) (p : Path) (key : Key) → ((pattern : Pattern) → StandsAt book pattern (p ++ key ∷ []) → ⊥) → names_at book kind (prefixes (p ++ key ∷ [])) ≡ names_at book kind (prefixes p)
+none_named book kind p key none =
+    ap (names_at book kind) (prefixes-longer p key)
+    ∙ filter_map-append (named_at book kind) (prefixes p) ((p ++ key ∷ []) ∷ [])
+    ∙ ap (λ o. names_at book kind (prefixes p) ++ cons_option (option_and_then (named_by book kind) o) []) (standing_none book (p ++ key ∷ []) none)
+    ∙ append-nil _
 
-pub named_at_all : (book : Book) (node : Point) (kind : Kind) (path : Path) (i : ℕ) (key : Key) (named : List Named) → HasOneCapture book → i < length path → key ≡ get_or path i key → Reached book node (take i path) → NoneMatches node.book key → AreNamed book kind (prefixes (take i path)) named → AreNamed book kind (prefixes path) named
-named_at_all book node kind path i key named one l e r none before =
-    subst (λ (q : Path). AreNamed book kind (prefixes q) named) (sym (split_at path i key l e)) (named_beyond book kind (take i path) key (drop (i + 1) path) named (λ s pattern value rule. none_beyond book node (take i path) key s pattern one r none rule.stands) before)
+named_beyond : (book : Book) (kind : Kind) (p : Path) (key : Key) (rest : Path) → ((r : Path) (pattern : Pattern) → StandsAt book pattern (p ++ key ∷ r) → ⊥) → names_at book kind (prefixes (p ++ key ∷ rest)) ≡ names_at book kind (prefixes p)
+named_beyond book kind p key [] none = none_named book kind p key (none [])
+named_beyond book kind p key (next ∷ rest) none =
+    ap (λ q. names_at book kind (prefixes q)) (sym (append_assoc p (key ∷ []) (next ∷ rest)))
+    ∙ named_beyond book kind (p ++ key ∷ []) next rest (λ r pattern s. none (next ∷ r) pattern (subst (StandsAt book pattern) (append_assoc p (key ∷ []) (next ∷ r)) s))
+    ∙ none_named book kind p key (none [])
+
+pub named_at_all : (book : Book) (node : Point) (kind : Kind) (path : Path) (i : ℕ) (key : Key) → HasOneCapture book → i < length path → key ≡ get_or path i key → Reached book node (take i path) → NoneMatches node.book key → names_at book kind (prefixes (take i path)) ≡ named_rules book kind path
+unfolding named_rules
+named_at_all book node kind path i key one l e r none =
+    sym (named_beyond book kind (take i path) key (drop (i + 1) path) (λ s pattern. none_beyond book node (take i path) key s pattern one r none))
+    ∙ ap (λ q. names_at book kind (prefixes q)) (sym (split_at path i key l e))
+
+pub named_whole : (book : Book) (kind : Kind) (path : Path) (i : ℕ) → length path ≤ i → names_at book kind (prefixes (take i path)) ≡ named_rules book kind path
+unfolding named_rules
+named_whole book kind path i end = ap (λ q. names_at book kind (prefixes q)) (take_all i path end)

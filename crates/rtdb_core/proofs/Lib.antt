@@ -1,3 +1,4 @@
+pub mod Tests
 pub mod Judging
 pub mod Sessions
 pub mod Walks

@@ -1,30 +1,17 @@
--- Each call of a run is judged.
-use Rattle.std.proofs.Common.{◌≡◌, List, [], ◌∷◌, ◌++◌, refl, ap, subst}
-use Rattle.rtdb_core.specs.declared.event.Event.{Event}
+-- Each call of a run is judged, by the rules in force from its beginning.
+use Rattle.std.proofs.Common.{◌≡◌, List, [], ◌∷◌, ◌++◌, refl, ap, ◌∙◌}
 use Rattle.rtdb_core.specs.declared.reply.Reply.{Reply}
 use Rattle.rtdb_core.specs.State.{State}
 use Rattle.rtdb_core.specs.Step.{Step, Call, Run}
-use Rattle.rtdb_core.specs.Headline.{IsJudged, IsJudgedAmong}
-use Rattle.rtdb_core.proofs.StepLaws.{refused_stays, read_granted, read_denies, read_denied, write_granted, write_denies, write_denied}
+use Rattle.rtdb_core.specs.Headline.{IsJudgedAmong}
+use Rattle.rtdb_core.proofs.StepLaws.{rules_stay, judged}
 
--- a step at an event that is told by an equation
-at_event : (old new : State) (call : Call) (reply : Reply) → Step old call.now call.session call.event reply new → (event : Event) → call.event ≡ event → Step old call.now call.session event reply new
-at_event old new call reply s event is = subst (λ (e : Event). Step old call.now call.session e reply new) is s
-
--- a step with a reply that is told by an equation
-at_reply : (old new : State) (call : Call) (event : Event) (reply : Reply) → Step old call.now call.session event reply new → (told : Reply) → reply ≡ told → Step old call.now call.session event told new
-at_reply old new call event reply s told is = subst (λ (r : Reply). Step old call.now call.session event r new) is s
-
-judged : (old new : State) (call : Call) (reply : Reply) → Step old call.now call.session call.event reply new → IsJudged old call reply new
-judged old new call reply s = record {
-  read = λ path is n. read_granted old new call.now call.session path reply (at_event old new call reply s _ is) n;
-  denies_read = λ path is n opened none. read_denies old new call.now call.session path reply (at_event old new call reply s _ is) n opened none;
-  read_denied = λ path named is told. read_denied old new call.now call.session path named (at_reply old new call _ reply (at_event old new call reply s _ is) _ told);
-  write = λ write is n. write_granted old new call.now call.session write reply (at_event old new call reply s _ is) n;
-  denies_write = λ write is n opened none. write_denies old new call.now call.session write reply (at_event old new call reply s _ is) n opened none;
-  write_denied = λ write at named is told. write_denied old new call.now call.session write at named (at_reply old new call _ reply (at_event old new call reply s _ is) _ told);
-  refused = λ refusal told. refused_stays old new call.now call.session call.event refusal (at_reply old new call _ reply s _ told);
-}
+-- no call of a run changes the rules in force
+pub rules_in_force : (old new : State) (calls : List Call) (replies : List Reply) → Run old calls replies new → new.rules ≡ old.rules
+rules_in_force old new [] [] h = ap (λ (s : State). s.rules) h
+rules_in_force old new [] (reply ∷ replies) h = absurd h
+rules_in_force old new (call ∷ calls) [] h = absurd h
+rules_in_force old new (call ∷ calls) (reply ∷ replies) h = rules_in_force h.0 new calls replies h.2 ∙ rules_stay old h.0 call.now call.session call.event reply h.1
 
 -- one call before those that come earlier
 one_before : (old mid new : State) (first : Call) (earlier : List Call) (call : Call) (later : List Call) (reply : Reply) (replies : List Reply) → Step old first.now first.session first.event reply mid → IsJudgedAmong mid earlier call later replies new → IsJudgedAmong old (first ∷ earlier) call later (reply ∷ replies) new
@@ -36,6 +23,7 @@ one_before old mid new first earlier call later reply replies s rest = record {
   before = rest.before;
   after = rest.after;
   arrives = (mid, s, rest.arrives);
+  in_force = rest.in_force ∙ rules_stay old mid first.now first.session first.event reply s;
   judged = rest.judged;
   goes_on = rest.goes_on;
 }
@@ -50,6 +38,7 @@ judged_among old new [] later call (reply ∷ replies) h = record {
   before = old;
   after = h.0;
   arrives = refl;
+  in_force = refl;
   judged = judged old h.0 call reply h.1;
   goes_on = h.2;
 }

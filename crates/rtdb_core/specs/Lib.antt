@@ -1,5 +1,5 @@
 pub mod State
 pub mod Verdict
 pub mod Step
-pub mod Denial
 pub mod Headline
+pub mod Working

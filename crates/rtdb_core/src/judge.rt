@@ -1,8 +1,7 @@
 //! Judging: which rules stand along a path, and whether one of them grants.
-ghost use Rattle.std.specs.Prelude.{◌≡◌, ◌↔◌, ◌++◌, ◌∷◌, [], true, Some, None, IsTrue, IsSome, IfOk, OnOk, option_and_then};
-ghost use Rattle.tree_model.specs.PathMap.{get};
-ghost use Rattle.rules_reader.specs.Part.{texts};
-ghost use Rattle.rtdb_core.specs.Verdict.{stated_for, kind_of, IsGranted, AreNamedRules};
+ghost use Rattle.std.specs.Prelude.{◌≡◌, ◌↔◌, ◌++◌, true, Some, IsTrue, IfOk, OnOk};
+ghost use Rattle.rtdb_core.specs.Verdict.{kind_of, IsGranted, named_rules};
+ghost use Rattle.rtdb_core.specs.Working.Naming.{stated_by, named_here};
 
 use crate::reply::{Named, NamedRules, Why};
 use json_tree::{Key, NoMemory};
@@ -39,16 +38,15 @@ pub fn is_granted(rules: &Rules, access: Access, path: &[Key]) -> bool
     false
 }
 
-/// The rules of this access at the path and its prefixes, shortest first, of a path that none of
-/// them grants: one step down for each key, and the growths for the list and its patterns.
+/// The rules of this access at the path and its prefixes, shortest first, as a denial names them:
+/// one step down for each key, and the growths for the list and its patterns.
 pub fn named_rules(
     alloc: Global,
     rules: &Rules,
     access: Access,
     path: &[Key],
 ) -> Result<NamedRules, NoMemory>
-    requires { ¬ (IsGranted rules.now (kind_of access) path.now) }
-    ensures { IfOk result (λ named. AreNamedRules rules.now (kind_of access) path.now named) }
+    ensures { IfOk result (λ named. named ≡ named_rules rules.now (kind_of access) path.now) }
 {
     let mut named = Vec::new(alloc);
     let mut node = rules.root();
@@ -65,14 +63,14 @@ pub fn named_rules(
 
 // Whether the node states a rule of this access that holds.
 fn holds(node: &RuleNode, access: Access) -> bool
-    ensures { IsTrue result ↔ (option_and_then (stated_for (kind_of access)) (get node.now.book []) ≡ Some true) }
+    ensures { IsTrue result ↔ (stated_by (kind_of access) node.now ≡ Some true) }
 {
     stated(node, access) == Some(true)
 }
 
 // What the node states for this access, if it does.
 fn stated(node: &RuleNode, access: Access) -> Option<bool>
-    ensures { result ≡ option_and_then (stated_for (kind_of access)) (get node.now.book []) }
+    ensures { result ≡ stated_by (kind_of access) node.now }
 {
     match access {
         Access::Read => node.read(),
@@ -82,11 +80,11 @@ fn stated(node: &RuleNode, access: Access) -> Option<bool>
 
 // Adds the rule of this access that the node states, if it does.
 fn name(node: &RuleNode, access: Access, named: &mut Vec<Named>) -> Result<(), NoMemory>
-    ensures none { option_and_then (stated_for (kind_of access)) (get node.now.book []) ≡ None → OnOk result (named.new.items ≡ named.old.items) }
-    ensures some { IsSome (option_and_then (stated_for (kind_of access)) (get node.now.book [])) → OnOk result ((rule : Named) × (named.new.items ≡ named.old.items ++ rule ∷ []) × (texts rule.pattern ≡ node.now.at) × (rule.why ≡ Why.No)) }
+    ensures { OnOk result (named.new.items ≡ named.old.items ++ named_here (kind_of access) node.now) }
 {
     if stated(node, access).is_some() {
         let pattern = node.pattern().copy()?;
+        pattern.law();
         named.push(Named {
             pattern,
             why: Why::No,

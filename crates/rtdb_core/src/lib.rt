@@ -19,9 +19,10 @@ pub use judge::{Access, is_granted, named_rules};
 pub use limits::{MAX_MOMENT, MAX_SESSIONS, the_limits};
 pub use machine::Core;
 pub use reply::{Named, NamedRules, Refusal, Reply, Why};
-pub use run_laws::every_call_of_a_run_is_judged_by_the_rules_in_force;
+pub use run_laws::{
+    a_run_keeps_the_rules_in_force, every_call_of_a_run_is_judged_by_the_rules_in_force,
+};
 pub use session::Session;
 pub use step_laws::{
-    a_read_is_granted_exactly_when_a_rule_holds, a_refused_event_changes_nothing,
-    a_write_is_granted_exactly_when_a_rule_holds,
+    a_refused_event_changes_nothing, a_step_is_a_function, every_step_is_judged, the_tests_decide,
 };

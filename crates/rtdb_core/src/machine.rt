@@ -1,17 +1,16 @@
 //! The state machine: one event in, one reply out.
-ghost use Rattle.std.specs.Prelude.{◌≡◌, ℕ, ◌≤◌, ◌↔◌, IsTrue, IfOk, OnOk, OnErr, option_map};
+ghost use Rattle.std.specs.Prelude.{◌≡◌, ℕ, ◌≤◌, IfOk, OnOk, OnErr, option_map};
 ghost use Rattle.std.specs.FinMap as map_of;
 ghost use Rattle.tree_model.specs.PathMap.{sub};
 ghost use Rattle.tree_model.specs.Tree.{non_null};
 ghost use Rattle.path_capture.specs.Write.{tree_of};
-ghost use Rattle.rules_reader.specs.Book.{reads, writes};
 ghost use Rattle.rtdb_core.specs.State.{opening, is_open};
-ghost use Rattle.rtdb_core.specs.Verdict.{kind_of, IsGranted};
+ghost use Rattle.rtdb_core.specs.Verdict.{kind_of, is_granted};
 ghost use Rattle.rtdb_core.specs.Step.{opened, written_to, Step};
-ghost use Rattle.rtdb_core.specs.Denial.{IsReadDenied, IsWriteDenied};
+ghost use Rattle.rtdb_core.specs.Working.Denial.{IsReadDenied, IsWriteDenied};
 
 use crate::event::Event;
-use crate::judge::{Access, is_granted, named_rules};
+use crate::judge::{self, Access, named_rules};
 use crate::limits::{MAX_MOMENT, MAX_SESSIONS};
 use crate::reply::{Refusal, Reply};
 use crate::session::Session;
@@ -112,9 +111,9 @@ impl Core {
     }
 
     fn grants(&self, access: Access, path: &[Key]) -> bool
-        ensures { IsTrue result ↔ IsGranted self.now.rules (kind_of access) path.now }
+        ensures { result ≡ is_granted self.now.rules (kind_of access) path.now }
     {
-        is_granted(&self.rules, access, path)
+        judge::is_granted(&self.rules, access, path)
     }
 
     #[tactic(auto, unfolding(crate::specs::Step::Step))]
@@ -162,7 +161,6 @@ impl Core {
 
     // The refusal of a read at a path that no rule grants.
     fn read_denied(&self, path: &Path) -> Reply
-        requires { ¬ (IsGranted self.now.rules reads path.now) }
         ensures { IsReadDenied self.now.rules path.now result }
     {
         match named_rules(self.alloc, &self.rules, Access::Read, path.keys()) {
@@ -189,7 +187,6 @@ impl Core {
 
     // The refusal of a write at a location that no rule grants.
     fn write_denied(&self, at: &Path) -> Reply
-        requires { ¬ (IsGranted self.now.rules writes at.now) }
         ensures { IsWriteDenied self.now.rules at.now result }
     {
         let Ok(named) = named_rules(self.alloc, &self.rules, Access::Write, at.keys()) else {

@@ -1,36 +1,35 @@
 //! Laws of the steps of a database.
-ghost use Rattle.std.specs.Prelude.{◌≡◌, ◌≢◌, ◌↔◌, ℕ, List, Option, true};
+ghost use Rattle.std.specs.Prelude.{◌≡◌, ◌≢◌, ◌↔◌, ℕ, IsTrue};
 ghost use Rattle.tree_model.specs.Path.{Path};
-ghost use Rattle.tree_model.specs.Tree.{Tree};
-ghost use Rattle.tree_model.specs.Write.{Write, location};
-ghost use Rattle.rules_reader.specs.Book.{reads, writes};
+ghost use Rattle.rules_reader.specs.Book.{Book, Kind};
 ghost use Rattle.rtdb_core.specs.declared.event.Event.{Event};
-ghost use Rattle.rtdb_core.specs.declared.reply.Named.{Named};
 ghost use Rattle.rtdb_core.specs.declared.reply.Refusal.{Refusal};
 ghost use Rattle.rtdb_core.specs.declared.reply.Reply.{Reply};
-ghost use Rattle.rtdb_core.specs.State.{State, is_open};
-ghost use Rattle.rtdb_core.specs.Verdict.{IsGranted, AreNamedRules};
-ghost use Rattle.rtdb_core.specs.Step.{Step};
+ghost use Rattle.rtdb_core.specs.State.{State};
+ghost use Rattle.rtdb_core.specs.Verdict.{IsGranted, is_granted};
+ghost use Rattle.rtdb_core.specs.Step.{Call, Step};
+ghost use Rattle.rtdb_core.specs.Headline.{IsJudged};
+
+/// The test by which a step grants decides what is said in words: a rule holds at some prefix.
+pub fn the_tests_decide()
+    ensures { (book : Book) (kind : Kind) (path : Path) → IsTrue (is_granted book kind path) ↔ IsGranted book kind path }
+{}
 
 /// Where an event is refused, nothing has changed.
 pub fn a_refused_event_changes_nothing()
     ensures { (old new : State) (now session : ℕ) (event : Event) (refusal : Refusal) → Step old now session event (Reply.Refused refusal) new → new ≡ old }
 {}
 
-/// But for want of memory, a read is answered by a value exactly where its session is open and the
-/// rules grant it, and where it is open and they do not, it is denied; a denial names the rules.
-/// (Reference, `.read`.)
-pub fn a_read_is_granted_exactly_when_a_rule_holds()
-    ensures granted { (old new : State) (now session : ℕ) (path : Path) (reply : Reply) → Step old now session (Event.Get path) reply new → reply ≢ Reply.Refused Refusal.NoMemory → ((tree : Option Tree) × (reply ≡ Reply.Value tree)) ↔ ((is_open old session ≡ true) × IsGranted old.rules reads path) }
-    ensures denies { (old new : State) (now session : ℕ) (path : Path) (reply : Reply) → Step old now session (Event.Get path) reply new → reply ≢ Reply.Refused Refusal.NoMemory → is_open old session ≡ true → ¬ (IsGranted old.rules reads path) → (named : List Named) × (reply ≡ Reply.Refused (Refusal.ReadDenied named)) }
-    ensures denied { (old new : State) (now session : ℕ) (path : Path) (named : List Named) → Step old now session (Event.Get path) (Reply.Refused (Refusal.ReadDenied named)) new → AreNamedRules old.rules reads path named }
+/// Each step is judged: but for want of memory, a read is answered by what stands there, and a write
+/// is made, exactly where the session is open and the rules grant it; where it is open and they do
+/// not, it is denied, with the names of the rules; nothing else changes. (Reference, `.read` and
+/// `.write`.)
+pub fn every_step_is_judged()
+    ensures { (old new : State) (call : Call) (reply : Reply) → Step old call.now call.session call.event reply new → IsJudged old call reply new }
 {}
 
-/// But for want of memory, a write is made exactly where its session is open and the rules grant it,
-/// and where it is open and they do not, it is denied at its location; a denial names the rules.
-/// (Reference, `.write`.)
-pub fn a_write_is_granted_exactly_when_a_rule_holds()
-    ensures granted { (old new : State) (now session : ℕ) (write : Write) (reply : Reply) → Step old now session (Event.Set write) reply new → reply ≢ Reply.Refused Refusal.NoMemory → (reply ≡ Reply.Done) ↔ ((is_open old session ≡ true) × IsGranted old.rules writes (location write)) }
-    ensures denies { (old new : State) (now session : ℕ) (write : Write) (reply : Reply) → Step old now session (Event.Set write) reply new → reply ≢ Reply.Refused Refusal.NoMemory → is_open old session ≡ true → ¬ (IsGranted old.rules writes (location write)) → (named : List Named) × (reply ≡ Reply.Refused (Refusal.WriteDenied (location write) named)) }
-    ensures denied { (old new : State) (now session : ℕ) (write : Write) (at : Path) (named : List Named) → Step old now session (Event.Set write) (Reply.Refused (Refusal.WriteDenied at named)) new → (at ≡ location write) × AreNamedRules old.rules writes at named }
+/// For each event there is an answer other than want of memory, and there is one only.
+pub fn a_step_is_a_function()
+    ensures some { (old : State) (now session : ℕ) (event : Event) → (reply : Reply) × (new : State) × (reply ≢ Reply.Refused Refusal.NoMemory) × Step old now session event reply new }
+    ensures one { (old new other : State) (now session : ℕ) (event : Event) (reply another : Reply) → reply ≢ Reply.Refused Refusal.NoMemory → another ≢ Reply.Refused Refusal.NoMemory → Step old now session event reply new → Step old now session event another other → (reply ≡ another) × (new ≡ other) }
 {}

@@ -11,7 +11,7 @@ use Rattle.sessions.specs.Lines.{cut, told}
 use Rattle.sessions.specs.Said.{Phase, unopened, refused, running, Stands, Said}
 use Rattle.sessions.specs.Sent.{Breaks}
 use Rattle.sessions.specs.Follow.{phase_of, Goes, LineStops, Follows, Fronts, Partly, FallsShort, Halts, Sends}
-use Rattle.sessions.specs.Ends.{Ends}
+use Rattle.sessions.specs.Ends.{IsRest, Ends}
 use Rattle.sessions.proofs.Sending.{Appends-refl, Appends-trans, Consumes-refl}
 use Rattle.sessions.proofs.Standing.{told-append, Stands-refused}
 use Rattle.sessions.proofs.Feeding.{cut-plain, Partly-of-Follows, Partly-of-FallsShort}
@@ -19,36 +19,40 @@ use Rattle.sessions.proofs.Going.{Stands-more}
 
 -- ---- of the whole input
 
--- the first lines of the whole input are answered, where it is known what is left of it
+-- the first lines of the whole input are answered
 abbrev Begins : Option (List ℕ) → List ℕ → Phase → List ℕ → Type 0
-Begins left taken phase out = IfSome left (λ rest. Fronts (taken ++ rest) phase out)
+Begins left taken phase out = (rest : List ℕ) × IsRest left rest × Fronts (taken ++ rest) phase out
 
 Begins-of-Partly : (left : Option (List ℕ)) (taken : List ℕ) (phase : Phase) (out : List ℕ) → Partly taken phase out → Begins left taken phase out
-Begins-of-Partly None taken phase out h = tt
-Begins-of-Partly (Some rest) taken phase out h = h rest
+Begins-of-Partly None taken phase out h = ([], tt, h [])
+Begins-of-Partly (Some rest) taken phase out h = (rest, refl, h rest)
 
 Begins-at-end : (left : Option (List ℕ)) (taken : List ℕ) (phase : Phase) (out : List ℕ) → IsAtEnd left → Fronts taken phase out → Begins left taken phase out
-Begins-at-end None taken phase out e f = tt
-Begins-at-end (Some rest) taken phase out e f = subst (λ (x : List ℕ). Fronts x phase out) (sym (ap (λ r. taken ++ r) e ∙ append-nil taken)) f
+Begins-at-end None taken phase out e f = ([], tt, subst (λ (x : List ℕ). Fronts x phase out) (sym (append-nil taken)) f)
+Begins-at-end (Some rest) taken phase out e f = (rest, refl, subst (λ (x : List ℕ). Fronts x phase out) (sym (ap (λ r. taken ++ r) e ∙ append-nil taken)) f)
 
 -- the other lines have an answer, so that what was written is the front of what is said to all
-Said-lost : (left : Option (List ℕ)) (taken : List ℕ) (phase : Phase) (out lost : List ℕ) → Begins left taken phase (out ++ lost) → IfSome left (λ rest. (p : Phase) × (l : List ℕ) × Said (taken ++ rest) p (out ++ l))
-Said-lost None taken phase out lost h = tt
-Said-lost (Some rest) taken phase out lost h =
-    let all = Stands-more (told h.0) (told h.1) phase (out ++ lost) h.3 in (
+Said-lost : (left : Option (List ℕ)) (taken : List ℕ) (phase : Phase) (out lost : List ℕ) → Begins left taken phase (out ++ lost) → (rest : List ℕ) × IsRest left rest × (p : Phase) × (l : List ℕ) × Said (taken ++ rest) p (out ++ l)
+Said-lost left taken phase out lost h =
+    let f : Fronts (taken ++ h.0) phase (out ++ lost) = h.2 in
+    let all = Stands-more (told f.0) (told f.1) phase (out ++ lost) f.3 in (
+      h.0,
+      h.1,
       all.0,
       lost ++ all.1,
-      subst (λ (o : List ℕ). Said (taken ++ rest) all.0 o) (append_assoc out lost all.1) (subst (λ (x : List (List ℕ)). Stands x all.0 ((out ++ lost) ++ all.1)) (sym (ap told h.2 ∙ told-append h.0 h.1)) all.2),
+      subst (λ (o : List ℕ). Said (taken ++ h.0) all.0 o) (append_assoc out lost all.1) (subst (λ (x : List (List ℕ)). Stands x all.0 ((out ++ lost) ++ all.1)) (sym (ap told f.2 ∙ told-append f.0 f.1)) all.2),
     )
+
+Ends-lost : (left : Option (List ℕ)) (source_failed : Bool) (reads : ℕ) (failed : Bool) (taken : List ℕ) (phase : Phase) (out lost : List ℕ) → failed ≡ true → Begins left taken phase (out ++ lost) → Ends ends.WriteFault taken left source_failed reads failed out
+Ends-lost left source_failed reads failed taken phase out lost e h = let all = Said-lost left taken phase out lost h in (e, all.0, all.1, all.2, all.3, all.4)
 
 -- no line after a refused header is answered
 Said-refused : (input : List ℕ) (out : List ℕ) → Fronts input refused out → Said input refused out
 Said-refused input out f =
     subst (λ (x : List (List ℕ)). Stands x refused out) (sym (ap told f.2 ∙ told-append f.0 f.1)) (Stands-refused (told f.0) (told f.1) out f.3)
 
-Said-refused-left : (left : Option (List ℕ)) (taken out : List ℕ) → Begins left taken refused out → IfSome left (λ rest. Said (taken ++ rest) refused out)
-Said-refused-left None taken out h = tt
-Said-refused-left (Some rest) taken out h = Said-refused (taken ++ rest) out h
+Said-refused-left : (left : Option (List ℕ)) (taken out : List ℕ) → Begins left taken refused out → (rest : List ℕ) × IsRest left rest × Said (taken ++ rest) refused out
+Said-refused-left left taken out h = (h.0, h.1, Said-refused (taken ++ h.0) out h.2)
 
 pub phase_of-refused : (machine : Option State) → phase_of machine ≢ refused
 phase_of-refused None e = let e' : unopened ≡ refused = e in cc
@@ -68,7 +72,7 @@ Ends-by-Sends end result a b c failed source_failed reads taken left sent more k
     ap (λ x. (sent ++ more) ++ x) broken.3 ∙ sym (append_assoc (sent ++ more) broken.0 broken.1) ∙ ap (λ x. x ++ broken.1) (append_assoc sent more broken.0) in (
       more ++ broken.0,
       Appends-trans a b c more broken.0 p broken.2,
-      subst (λ (x : ScriptEnd). Ends x taken left source_failed reads failed (sent ++ (more ++ broken.0))) (sym s.0) (s.1, Said-lost left taken phase (sent ++ (more ++ broken.0)) broken.1 (subst (λ (o : List ℕ). Begins left taken phase o) out f)),
+      subst (λ (x : ScriptEnd). Ends x taken left source_failed reads failed (sent ++ (more ++ broken.0))) (sym s.0) (Ends-lost left source_failed reads failed taken phase (sent ++ (more ++ broken.0)) broken.1 s.1 (subst (λ (o : List ℕ). Begins left taken phase o) out f)),
     )
 
 -- nothing was written before that
@@ -108,7 +112,7 @@ module _ (result : ScriptEnd) (a b c : Option (List ℕ)) (failed source_failed 
       Ends-by-Sends ends.NoMemory result a b c failed source_failed reads taken left sent g.0 kept' phase' g.1 s (Begins-at-end left taken phase' _ at_end fronts) (λ k. (phase', going, f.lines, f.rest, [], cut-taken f, g.2))
 
   pub Ends-last-broken : (phase' : Phase) (lost : List ℕ) → failed ≡ true → Goes (f.lines ++ f.rest ∷ []) phase' a c sent lost → (m : List ℕ) × Appends a c m × Ends ends.WriteFault taken left source_failed reads failed (sent ++ m)
-  Ends-last-broken phase' lost e g = (g.0, g.1, (e, Said-lost left taken phase' (sent ++ g.0) lost (Begins-last phase' _ g.2)))
+  Ends-last-broken phase' lost e g = (g.0, g.1, Ends-lost left source_failed reads failed taken phase' (sent ++ g.0) lost e (Begins-last phase' _ g.2))
 
 -- ---- where no line is left to be answered
 
@@ -130,7 +134,7 @@ module _ (result : ScriptEnd) (a c : Option (List ℕ)) (failed source_failed : 
 -- the sink broke before, and nothing more is written
 pub Ends-broken : (a : Option (List ℕ)) (failed source_failed : Bool) (reads : ℕ) (left : Option (List ℕ)) (phase : Phase) (lost taken sent : List ℕ) → failed ≡ true → Partly taken phase (sent ++ lost) → (m : List ℕ) × Appends a a m × Ends ends.WriteFault taken left source_failed reads failed (sent ++ m)
 Ends-broken a failed source_failed reads left phase lost taken sent e h =
-    ([], Appends-refl a, (e, Said-lost left taken phase (sent ++ []) lost (subst (λ (o : List ℕ). Begins left taken phase o) (ap (λ x. x ++ lost) (sym (append-nil sent))) (Begins-of-Partly left taken phase _ h))))
+    ([], Appends-refl a, Ends-lost left source_failed reads failed taken phase (sent ++ []) lost e (subst (λ (o : List ℕ). Begins left taken phase o) (ap (λ x. x ++ lost) (sym (append-nil sent))) (Begins-of-Partly left taken phase _ h)))
 
 -- nothing was read
 pub Ends-before : (a b : Option (List ℕ)) (source_failed : Bool) (reads : ℕ) (failed : Bool) → (taken out : List ℕ) × Consumes a a taken × Appends b b out × Ends ends.NoMemory taken a source_failed reads failed out

@@ -1,5 +1,5 @@
 -- Where a script stands after a piece of the input.
-use Rattle.std.proofs.Common.{◌≡◌, ◌≢◌, ℕ, ◌+◌, length, arith, Bool, false, List, [], ◌∷◌, ◌++◌, Option, refl, sym, ap, subst, ◌∙◌, append_assoc}
+use Rattle.std.proofs.Common.{◌≡◌, ◌≢◌, ℕ, ◌+◌, length, arith, Bool, true, false, List, [], ◌∷◌, ◌++◌, Option, refl, sym, ap, subst, ◌∙◌, append_assoc}
 use Rattle.std.specs.Prelude.{◌==◌}
 use Rattle.std.specs.Io.KnownBytes.{Appends}
 use Rattle.std.proofs.lemmas.List.{append-nil}
@@ -10,6 +10,7 @@ use Rattle.sessions.specs.declared.desk.Stop.TheVariants as stops
 use Rattle.sessions.specs.Lines.{cut, told, is_blank}
 use Rattle.sessions.specs.Said.{Phase, unopened, refused, Stands}
 use Rattle.sessions.specs.Parts.{front, IsPlain, Holds, Shows}
+use Rattle.sessions.specs.Sent.{Passes, Breaks}
 use Rattle.sessions.specs.Follow.{Goes, LineStops, Follows, FeedStops, Fronts, Partly, FallsShort}
 use Rattle.sessions.proofs.Keeping.{nil_of_front}
 use Rattle.sessions.proofs.Sending.{Appends-trans}
@@ -159,3 +160,27 @@ Partly-of-Follows f = λ more. (f.lines, cut (f.rest ++ more), f.cuts more, f.st
 
 pub Partly-of-FallsShort : (taken : List ℕ) (phase : Phase) (out : List ℕ) → FallsShort taken phase out → Partly taken phase out
 Partly-of-FallsShort taken phase out h = λ more. let w = h.1 more in (w.0, w.1 ∷ w.2, w.3, w.4)
+
+-- ---- what is kept is handed on
+
+-- after what was written before, all that was kept is written
+pub Follows-handed : {phase : Phase} {held : List ℕ} {blank : Bool} {kept kept' taken : List ℕ} (sent more : List ℕ) (a b c : Option (List ℕ)) → Appends a b more → Follows phase held blank kept taken (sent ++ more) → Passes b c kept [] → kept' ≡ [] → (m : List ℕ) × Appends a c m × Follows phase held blank kept' taken (sent ++ m)
+Follows-handed {phase} {held} {blank} {kept} {kept'} {taken} sent more a b c p f s none = (more ++ s.0, Appends-trans a b c more s.0 p s.1, record {
+  lines = f.lines;
+  rest = f.rest;
+  cuts = f.cuts;
+  plain = f.plain;
+  holds = f.holds;
+  stands = subst (λ (o : List ℕ). Stands (told f.lines) phase o) same f.stands;
+})
+  where
+    same : (sent ++ more) ++ kept ≡ (sent ++ (more ++ s.0)) ++ kept'
+    same = ap (λ x. (sent ++ more) ++ x) (s.2 ∙ append-nil s.0) ∙ append_assoc sent more s.0 ∙ sym (append-nil _) ∙ ap (λ x. (sent ++ (more ++ s.0)) ++ x) (sym none)
+
+-- the sink breaks meanwhile
+pub FeedStops-handed : {phase : Phase} {held : List ℕ} {blank : Bool} {kept taken : List ℕ} (sent more : List ℕ) (a b c : Option (List ℕ)) (failed : Bool) (kept' : List ℕ) → Appends a b more → Follows phase held blank kept taken (sent ++ more) → Breaks b c kept → failed ≡ true → FeedStops stops.WriteFault a c failed kept' taken sent
+FeedStops-handed {phase} {held} {blank} {kept} {taken} sent more a b c failed kept' p f s e =
+    (e, phase, s.1, more ++ s.0, Appends-trans a b c more s.0 p s.2, λ next. subst (λ (o : List ℕ). Fronts (taken ++ next) phase o) same (Partly-of-Follows f next))
+  where
+    same : (sent ++ more) ++ kept ≡ (sent ++ (more ++ s.0)) ++ s.1
+    same = ap (λ x. (sent ++ more) ++ x) s.3 ∙ sym (append_assoc (sent ++ more) s.0 s.1) ∙ ap (λ x. x ++ s.1) (append_assoc sent more s.0)

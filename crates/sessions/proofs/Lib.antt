@@ -10,3 +10,4 @@ pub mod Feeding
 pub mod Going
 pub mod Ending
 pub mod Running
+pub mod InFull

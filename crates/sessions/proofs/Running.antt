@@ -11,8 +11,7 @@ use Rattle.rtdb_core.specs.State.{State, opening}
 use Rattle.rtdb_core.specs.Step.{Run}
 use Rattle.sessions.specs.Message.{asks}
 use Rattle.sessions.specs.Header.{Opens}
-use Rattle.sessions.specs.Lines.{cut, told}
-use Rattle.sessions.specs.Said.{Phase, running, unopened, refused, IsAnsweredBy, AreAnswered, AreAnsweredByRun, Continues, Stands, Said, IsSaidByRun, calls_of}
+use Rattle.sessions.specs.Said.{Phase, running, unopened, refused, IsAnsweredBy, AreAnswered, AreAnsweredByRun, Continues, Stands, IsSaidByRun, calls_of}
 
 -- one line before the others
 one_before : (old mid new : State) (line text : List ℕ) (lines texts : List (List ℕ)) (message : Result Request MessageFault) → (message ≡ asks Script line) ⊎ (message ≡ Err NoMemory) → IsAnsweredBy old message text mid → AreAnsweredByRun mid lines texts new → AreAnsweredByRun old (line ∷ lines) (text ∷ texts) new
@@ -43,10 +42,10 @@ state_in other unopened = other
 state_in other refused = other
 state_in other (running state) = state
 
-continued : (input header : List ℕ) (lines : List (List ℕ)) (state : State) (out : List ℕ) → told (cut input) ≡ header ∷ lines → (opened : Result Book HeaderFault) → Opens header opened → Continues opened lines (running state) out → IsSaidByRun input state out
+continued : (said_to : List (List ℕ)) (header : List ℕ) (lines : List (List ℕ)) (state : State) (out : List ℕ) → said_to ≡ header ∷ lines → (opened : Result Book HeaderFault) → Opens header opened → Continues opened lines (running state) out → IsSaidByRun said_to state out
 unfolding state_in
-continued input header lines state out is (Err fault) opens h = let e : running state ≡ refused = h.0 in cc
-continued input header lines state out is (Ok book) opens h = record {
+continued said_to header lines state out is (Err fault) opens h = let e : running state ≡ refused = h.0 in cc
+continued said_to header lines state out is (Ok book) opens h = record {
   header = header;
   lines = lines;
   in_order = is;
@@ -57,9 +56,6 @@ continued input header lines state out is (Ok book) opens h = record {
   written = h.4;
 }
 
-stood : (input : List ℕ) (ls : List (List ℕ)) (state : State) (out : List ℕ) → told (cut input) ≡ ls → Stands ls (running state) out → IsSaidByRun input state out
-stood input [] state out is h = let e : running state ≡ unopened = h.0 in cc
-stood input (header ∷ lines) state out is h = continued input header lines state out is h.0 h.1 h.2
-
-pub said_by_run : (input out : List ℕ) (state : State) → Said input (running state) out → IsSaidByRun input state out
-said_by_run input out state h = stood input (told (cut input)) state out refl h
+pub said_by_run : (lines : List (List ℕ)) (out : List ℕ) (state : State) → Stands lines (running state) out → IsSaidByRun lines state out
+said_by_run [] out state h = let e : running state ≡ unopened = h.0 in cc
+said_by_run (header ∷ lines) out state h = continued (header ∷ lines) header lines state out refl h.0 h.1 h.2

@@ -1,8 +1,10 @@
 -- What a script is answered.
-use Rattle.std.specs.Prelude.{◌≡◌, ℕ, ◌⊎◌, List, [], ◌∷◌, ◌++◌, length, Result, Ok, Err, ⊤, flat_map}
+use Rattle.std.specs.Prelude.{◌≡◌, ◌≢◌, ℕ, ◌⊎◌, List, [], ◌∷◌, ◌++◌, length, Result, Ok, Err, ⊤, flat_map}
 use Rattle.tree_model.specs.Tree.{null}
 use Rattle.rules_reader.specs.Book.{Book, rules}
+use Rattle.rtdb_core.specs.declared.reply.Refusal.TheVariants as refusals
 use Rattle.rtdb_core.specs.declared.reply.Reply.{Reply}
+use Rattle.rtdb_core.specs.declared.reply.Reply.TheVariants.{Refused}
 use Rattle.sessions.specs.declared.message.Form.TheVariants.{Script}
 use Rattle.sessions.specs.declared.message.Request.{Request}
 use Rattle.sessions.specs.declared.message.MessageFault.{MessageFault}
@@ -30,6 +32,15 @@ IsAnsweredBy old (Err fault) text new = (text ≡ answer.fault_text fault) × (n
 -- a line is read as what it asks, or refused for want of memory, and then answered
 abbrev pub IsAnswered : State → List ℕ → List ℕ → State → Type 0
 IsAnswered old line text new = (message : Result Request MessageFault) × ((message ≡ asks Script line) ⊎ (message ≡ Err NoMemory)) × IsAnsweredBy old message text new
+
+-- the same where memory suffices: a request is answered by a step that does not want it
+abbrev pub IsAnsweredInFullBy : State → Result Request MessageFault → List ℕ → State → Type 0
+IsAnsweredInFullBy old (Ok request) text new = (reply : Reply) × (reply ≢ Refused refusals.NoMemory) × Step old request.stamp.now request.stamp.session request.event reply new × (text ≡ answer.text reply)
+IsAnsweredInFullBy old (Err fault) text new = (fault ≢ NoMemory) × (text ≡ answer.fault_text fault) × (new ≡ old)
+
+-- a line is answered by what it asks, and nothing wants memory
+abbrev pub IsAnsweredInFull : State → List ℕ → List ℕ → State → Type 0
+IsAnsweredInFull old line text new = IsAnsweredInFullBy old (asks Script line) text new
 
 -- these lines are answered by these texts, one after another, from old to new
 abbrev pub AreAnswered : State → List (List ℕ) → List (List ℕ) → State → Type 0
@@ -97,11 +108,11 @@ Stands (header ∷ lines) phase out = (opened : Result Book HeaderFault) × Open
 abbrev pub Said : List ℕ → Phase → List ℕ → Type 0
 Said input phase out = Stands (told (cut input)) phase out
 
--- A script whose header was accepted: its header, the rules that it opens with, and the output as a run from the state in which a database opens with these rules and null.
-pub record IsSaidByRun (input : List ℕ) (state : State) (out : List ℕ) : Type 0 where
+-- Lines whose header was accepted: their header, the rules that it opens with, and the output as a run from the state in which a database opens with these rules and null.
+pub record IsSaidByRun (said_to : List (List ℕ)) (state : State) (out : List ℕ) : Type 0 where
   pub header : List ℕ
   pub lines : List (List ℕ)
-  pub in_order : told (cut input) ≡ header ∷ lines
+  pub in_order : said_to ≡ header ∷ lines
   pub book : Book
   pub opens : Opens header (Ok book)
   pub texts : List (List ℕ)

@@ -56,8 +56,20 @@ impl Outgoing {
         }
     }
 
-    /// Writes all that is kept, so that nothing is. After an error it is lost.
-    pub fn send<W: Sink>(&mut self, sink: &mut W) -> Result<(), Broken>
+    /// Writes all that is kept, so that nothing is, and flushes the sink. After an error it is lost.
+    pub fn hand_on<W: Sink>(&mut self, sink: &mut W) -> Result<(), Broken>
+        requires { W.failed sink.old ≡ false }
+        ensures ok { OnOk result (Passes (W.written sink.old) (W.written sink.new) self.old.bytes.items []
+            × (self.new.bytes.items ≡ []) × (W.handed_on sink.new ≡ true)) }
+        ensures err { OnErr result (Breaks (W.written sink.old) (W.written sink.new) self.old.bytes.items) }
+        ensures failed { MatchResult result (λ _. W.failed sink.new ≡ W.failed sink.old) (λ _. W.failed sink.new ≡ true) }
+    {
+        self.send(sink)?;
+        sink.flush()
+    }
+
+    // Writes all that is kept, so that nothing is. After an error it is lost.
+    fn send<W: Sink>(&mut self, sink: &mut W) -> Result<(), Broken>
         requires { W.failed sink.old ≡ false }
         ensures ok { OnOk result (Passes (W.written sink.old) (W.written sink.new) self.old.bytes.items []
             × (self.new.bytes.items ≡ [])) }

@@ -146,7 +146,38 @@ impl Script {
         }
     }
 
-    // Reads and answers, up to the end of the input, a fault, or 2^40 reads.
+    // Takes the next piece of the input, answers each line that ends in it, and hands the answers on,
+    // so that nobody waits for one while the script waits for input.
+    fn answer_piece<W: Sink>(
+        &mut self,
+        sink: &mut W,
+        arena: &mut Bump,
+        piece: &[u8],
+    ) -> Result<(), Stop>
+        requires { W.failed sink.old ≡ false }
+        ensures ok { (taken sent : List ℕ)
+            → IsAfter self.old taken sent
+            → OnOk result ((more : List ℕ) × Appends (W.written sink.old) (W.written sink.new) more
+            × IsAfter self.new (taken ++ piece.now) (sent ++ more)) }
+        ensures handed_on { OnOk result ((self.new.desk.outgoing.bytes.items ≡ []) × (W.handed_on sink.new ≡ true)) }
+        ensures err { (taken sent : List ℕ)
+            → IsAfter self.old taken sent
+            → IfErr result (λ stop. FeedStops stop (W.written sink.old) (W.written sink.new) (W.failed sink.new)
+            self.new.desk.outgoing.bytes.items (taken ++ piece.now) sent) }
+        ensures sound { MatchResult result (λ _. W.failed sink.new ≡ W.failed sink.old) (λ stop. stop ≢ Stop.WriteFault → W.failed sink.new ≡ W.failed sink.old) }
+    {
+        match self.feed(sink, arena, piece) {
+            Ok(()) => {}
+            Err(stop) => return Err(stop),
+        }
+        match self.desk.outgoing.hand_on(sink) {
+            Ok(()) => Ok(()),
+            Err(_) => Err(Stop::WriteFault),
+        }
+    }
+
+    // Reads and answers, up to the end of the input, a fault, or 2^40 reads. Before each read the
+    // answers to all that was read are handed on.
     fn read_all<R: Source, W: Sink>(
         &mut self,
         source: &mut R,
@@ -157,7 +188,8 @@ impl Script {
         requires unread { R.reads source.old ≡ 0 }
         requires room { 0 < length block.old }
         requires begins { IsAfter self.old [] [] }
-        requires sound { W.failed sink.old ≡ false }
+        requires source { R.failed source.old ≡ false }
+        requires sink { W.failed sink.old ≡ false }
         ensures source { result ≢ ScriptEnd.ReadFault → R.failed source.new ≡ R.failed source.old }
         ensures sink { result ≢ ScriptEnd.WriteFault → W.failed sink.new ≡ W.failed sink.old }
         ensures halts { (taken sent : List ℕ) × Consumes (R.left source.old) (R.left source.new) taken
@@ -167,7 +199,7 @@ impl Script {
         for _made in 0..MAX_READS {
             match source.read(block) {
                 Ok(0) => return ScriptEnd::Finished,
-                Ok(count) => match self.feed(sink, arena, &block[..count]) {
+                Ok(count) => match self.answer_piece(sink, arena, &block[..count]) {
                     Ok(()) => {}
                     Err(Stop::BadHeader) => return ScriptEnd::BadHeader,
                     Err(Stop::WriteFault) => return ScriptEnd::WriteFault,
@@ -179,17 +211,14 @@ impl Script {
         ScriptEnd::ReadFault
     }
 
-    // Writes what is kept of the answers, and ends so if that succeeds.
+    // Hands on what is kept of the answers, and ends so if that succeeds.
     fn send<W: Sink>(&mut self, sink: &mut W, end: ScriptEnd) -> ScriptEnd
         requires { W.failed sink.old ≡ false }
         ensures sends { Sends end result (W.written sink.old) (W.written sink.new) (W.failed sink.new) self.old.desk.outgoing.bytes.items }
         ensures sound { result ≢ ScriptEnd.WriteFault → (W.failed sink.new ≡ W.failed sink.old) × (W.handed_on sink.new ≡ true) }
     {
-        match self.desk.outgoing.send(sink) {
-            Ok(()) => match sink.flush() {
-                Ok(()) => end,
-                Err(_) => ScriptEnd::WriteFault,
-            },
+        match self.desk.outgoing.hand_on(sink) {
+            Ok(()) => end,
             Err(_) => ScriptEnd::WriteFault,
         }
     }
@@ -220,8 +249,9 @@ impl Script {
     }
 }
 
-/// Runs a script: reads its header and its requests from the source, and writes their answers to the
-/// sink, which has them when the script ends or 64 KiB of them are kept. It takes 128 KiB for what is
+/// Runs a script: reads its header and its requests from the source, 64 KiB at a time where so much
+/// is there, and writes their answers to the sink, which has all answers to what was read before the
+/// next read. It takes 128 KiB for what is
 /// read and written, up to about 2 MiB for a line that is cut by the end of a block, and what each
 /// line needs; each step is handed the arena. A sink that has failed is written to no more.
 pub fn run_script<R: Source, W: Sink>(

@@ -6,7 +6,7 @@ ghost use Rattle.std.specs.Io.KnownBytes.{ReadConsumes, WriteAppends, Keeps};
 #[derive(Clone, Copy, Debug, PartialEq, Eq)]
 pub struct Broken;
 
-/// What bytes are read from, up to 2^40 times.
+/// What bytes are read from, up to 2^40 times, and until it fails.
 pub trait Source {
     // The bytes that are still to be read, where they are known.
     ghost left: { Self → Option (List ℕ) };
@@ -18,9 +18,11 @@ pub trait Source {
     ghost failed: { Self → Bool };
 
     /// Fills the buffer from its front, and answers how many bytes came. Into a buffer that has room
-    /// none come only at the end of the input. It may wait for the other side.
+    /// none come only at the end of the input. It may wait for the other side. After a read that failed
+    /// none is made.
     fn read(&mut self, buffer: &mut [u8]) -> Result<usize, Broken>
-        requires { reads self.old < 2 ^ 40 }
+        requires few { reads self.old < 2 ^ 40 }
+        requires sound { failed self.old ≡ false }
         ensures count { IfOk result (λ n. n ≤ length buffer.new) }
         ensures bytes { ReadConsumes (left self.old) (left self.new) result buffer.new }
         ensures reads { reads self.new ≡ reads self.old + 1 }

@@ -25,5 +25,5 @@ returns-in-Err-NoMemory-clause-halts g c =
 pub loop-made-preserved : goal.loop-made-preserved
 loop-made-preserved g c =
     let i = c.loop-made.invariant in
-    let s = c.in-Ok-feed.ensures.ok i.1 i.2 i.5 in
-    ((c.in-Ok.ensures.reads ∙ ap (λ n. n + 1) i.0.0, c.in-Ok.ensures.failed ∙ i.0.1, c.in-Ok-feed.ensures.sound ∙ i.0.2), i.1 ++ take c.in-Ok.count c.read.new.buffer, i.2 ++ s.0, Consumes-trans _ _ _ _ _ i.3 c.in-Ok.ensures.bytes.0, Appends-trans _ _ _ _ _ i.4 s.1, s.2)
+    let s = c.in-Ok-answer_piece.ensures.ok i.1 i.2 i.5 in
+    ((c.in-Ok.ensures.reads ∙ ap (λ n. n + 1) i.0.0, c.in-Ok.ensures.failed ∙ i.0.1, c.in-Ok-answer_piece.ensures.sound ∙ i.0.2), i.1 ++ take c.in-Ok.count c.read.new.buffer, i.2 ++ s.0, Consumes-trans _ _ _ _ _ i.3 c.in-Ok.ensures.bytes.0, Appends-trans _ _ _ _ _ i.4 s.1, s.2)
