@@ -88,25 +88,26 @@ fn write_shape(text: &mut String, expr: &Expr) -> Result<(), AllocError> {
 
 #[cycle(write_shape)]
 fn write_arguments(text: &mut String, given: &[Argument]) -> Result<(), AllocError> {
-    let mut comma = "";
-    for argument in given {
-        text.push_str(comma)?;
+    for (i, argument) in given.iter().enumerate() {
+        if 0 < i {
+            text.push(',')?;
+        }
         match argument {
             Argument::One(expr) => write_shape(text, expr)?,
             Argument::List(elements) => write_list(text, elements)?,
         }
-        comma = ",";
     }
     Ok(())
 }
 
 #[cycle(write_shape)]
 fn write_list(text: &mut String, elements: &[Expr]) -> Result<(), AllocError> {
-    let mut before = "{";
-    for element in elements {
-        text.push_str(before)?;
+    text.push('{')?;
+    for (i, element) in elements.iter().enumerate() {
+        if 0 < i {
+            text.push(',')?;
+        }
         write_shape(text, element)?;
-        before = ",";
     }
     text.push('}')
 }

@@ -2,6 +2,7 @@
 ghost use Rattle.std.specs.Prelude.{◌≡◌, Some, true, false};
 
 use sessions::{Broken, Sink, Source};
+use std::cell::Cell;
 use std::io;
 
 /// A text that is read in pieces of so many bytes, and breaks after so many of them.
@@ -109,6 +110,101 @@ impl Sink for Written {
             self.failed = true;
             return Err(Broken);
         }
+        Ok(())
+    }
+}
+
+/// A text of which a line is there once the line before is answered, as with somebody who waits for
+/// each answer: a read that comes too early would wait for ever, and breaks.
+#[derive(Drop)]
+pub struct Waiting<'a> {
+    text: &'a [u8],
+    answers: &'a Cell<usize>,
+    reads: u64,
+    failed: bool,
+}
+
+impl<'a> Waiting<'a> {
+    pub fn new(text: &'a [u8], answers: &'a Cell<usize>) -> Waiting<'a>
+        ensures reads { result.reads ≡ 0 }
+        ensures failed { result.failed ≡ false }
+    {
+        Waiting {
+            text,
+            answers,
+            reads: 0,
+            failed: false,
+        }
+    }
+}
+
+impl<'a> Source for Waiting<'a> {
+    ghost left = { λ source. Some source.text.now };
+
+    ghost reads = { λ source. source.reads };
+
+    ghost failed = { λ source. source.failed };
+
+    fn read(&mut self, buffer: &mut [u8]) -> Result<usize, Broken> {
+        self.reads += 1;
+        if (self.answers.get() as u64).saturating_add(1) < self.reads {
+            self.failed = true;
+            return Err(Broken);
+        }
+        let line = self.text.iter().take_while(|byte| **byte != b'\n').count();
+        let count = line
+            .saturating_add(1)
+            .min(self.text.len())
+            .min(buffer.len());
+        let (piece, rest) = self.text.split_at(count);
+        buffer[..count].copy_from_slice(piece);
+        self.text = rest;
+        Ok(count)
+    }
+}
+
+/// Bytes that are written to memory, and how many lines of them were flushed.
+#[derive(Drop)]
+pub struct Noting<'a> {
+    pub bytes: Vec<u8>,
+    answers: &'a Cell<usize>,
+    failed: bool,
+    flushed: bool,
+}
+
+impl<'a> Noting<'a> {
+    pub fn new(bytes: Vec<u8>, answers: &'a Cell<usize>) -> Noting<'a>
+        ensures { result.failed ≡ false }
+    {
+        Noting {
+            bytes,
+            answers,
+            failed: false,
+            flushed: true,
+        }
+    }
+}
+
+impl<'a> Sink for Noting<'a> {
+    ghost written = { λ sink. Some sink.bytes.items };
+
+    ghost failed = { λ sink. sink.failed };
+
+    ghost handed_on = { λ sink. sink.flushed };
+
+    fn write(&mut self, text: &[u8]) -> Result<usize, Broken> {
+        self.flushed = false;
+        if self.bytes.extend_from_slice(text).is_err() {
+            self.failed = true;
+            return Err(Broken);
+        }
+        Ok(text.len())
+    }
+
+    fn flush(&mut self) -> Result<(), Broken> {
+        self.answers
+            .set(self.bytes.iter().filter(|byte| **byte == b'\n').count());
+        self.flushed = true;
         Ok(())
     }
 }

@@ -1,8 +1,9 @@
 //! Whole scripts: cut into pieces, with a source or a sink that fails, and longer than a block.
-use crate::memory::{Full, Halting, Held, Pieces, Written};
+use crate::memory::{Full, Halting, Held, Noting, Pieces, Waiting, Written};
 use bumpalo::Bump;
 use sessions::{Reading, ScriptEnd, Writing, run_script};
 use std::alloc::{AllocError, Global};
+use std::cell::Cell;
 
 const INPUT: &[u8] =
     br#"{"rules":"{\"rules\":{\"a\":{\".read\":true,\".write\":true,\"b\":{\".read\":false}}}}"}
@@ -35,6 +36,17 @@ fn a_script_is_answered_in_pieces_of_each_size(rt: HostRuntime) {
         assert!(rt; end == ScriptEnd::Finished, "at {step}");
         assert!(rt; sink.bytes.as_slice() == OUTPUT, "at {step}");
     }
+}
+
+#[test]
+fn each_line_is_answered_before_the_next_is_waited_for(rt: HostRuntime) {
+    let alloc = rt.alloc();
+    let answers = Cell::new(0);
+    let mut source = Waiting::new(INPUT, &answers);
+    let mut sink = Noting::new(Vec::new(alloc), &answers);
+    let end = run_script(alloc, &mut source, &mut sink, &mut Bump::new(alloc));
+    assert!(rt; end == ScriptEnd::Finished);
+    assert!(rt; sink.bytes.as_slice() == OUTPUT);
 }
 
 #[test]
@@ -123,7 +135,7 @@ fn a_sink_that_takes_nothing_has_failed(rt: HostRuntime) {
 #[test]
 fn a_flush_that_fails_is_a_fault_of_the_sink(rt: HostRuntime) {
     let alloc = rt.alloc();
-    let mut source = Pieces::new(INPUT, 100, u64::MAX);
+    let mut source = Pieces::new(INPUT, 1000, u64::MAX);
     let mut sink = Written::new(Vec::new(alloc), 100, usize::MAX, Full::FailsToFlush);
     let end = run_script(alloc, &mut source, &mut sink, &mut Bump::new(alloc));
     assert!(rt; end == ScriptEnd::WriteFault);
@@ -133,13 +145,16 @@ fn a_flush_that_fails_is_a_fault_of_the_sink(rt: HostRuntime) {
 #[test]
 fn interrupted_calls_are_made_again_and_the_writer_is_flushed(rt: HostRuntime) {
     let alloc = rt.alloc();
-    for (flushes, wanted) in [(true, ScriptEnd::Finished), (false, ScriptEnd::WriteFault)] {
+    for (flushes, wanted, output) in [
+        (true, ScriptEnd::Finished, OUTPUT),
+        (false, ScriptEnd::WriteFault, b"".as_slice()),
+    ] {
         let mut held = Held::new(Vec::new(alloc), flushes);
         let mut source = Reading::new(Halting::new(INPUT));
         let mut sink = Writing::new(&mut held);
         let end = run_script(alloc, &mut source, &mut sink, &mut Bump::new(alloc));
         assert!(rt; end == wanted);
-        assert!(rt; held.bytes.as_slice() == OUTPUT);
+        assert!(rt; held.bytes.as_slice() == output);
     }
 }
 

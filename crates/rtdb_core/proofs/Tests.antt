@@ -1,6 +1,6 @@
 -- The tests by which a step grants, and the relations that they decide.
-use Rattle.std.proofs.Common.{◌≡◌, ℕ, zero, suc, ◌<◌, Bool, true, false, cond, ◌&&◌, ◌||◌, List, [], ◌∷◌, ◌++◌, map, length, take, get_or, Some, None, Option, is_some, IsSome, option_and_then, sym, ap, ◌∙◌, subst, refl, arith, append_assoc, append-nil}
-use Rattle.std.specs.Prelude.{◌↔◌, find, option_map}
+use Rattle.std.proofs.Common.{◌≡◌, ℕ, zero, suc, ◌<◌, Bool, true, false, cond, ◌||◌, List, [], ◌∷◌, ◌++◌, map, length, take, get_or, Some, None, Option, is_some, sym, ap, ◌∙◌, refl, arith, append_assoc, append-nil}
+use Rattle.std.specs.Prelude.{◌↔◌, find}
 use Rattle.std.specs.List.{list_any}
 use Rattle.std.specs.Cmp.{first_so, second_so}
 use Rattle.std.specs.FinMap as map_of
@@ -9,7 +9,7 @@ use Rattle.std.proofs.lemmas.Bool.{false≢true}
 use Rattle.std.proofs.lemmas.List.Folds.{list_any_at}
 use Rattle.std.proofs.lemmas.Map.Views.{Contains-from_any}
 use Rattle.tree_model.specs.Key.{Key}
-use Rattle.tree_model.specs.Path.{Path, path_cmp, strip_prefix, is_prefix, prefixes}
+use Rattle.tree_model.specs.Path.{Path, strip_prefix, is_prefix, prefixes}
 use Rattle.tree_model.proofs.Choices.{not_true, both_so, or_right}
 use Rattle.tree_model.proofs.Orders.{same_key, same_path, bytes_eq-self}
 use Rattle.rules_reader.specs.Part.{Pattern}
@@ -95,11 +95,13 @@ holds_by_rule book kind path p rule = among_patterns book (holds_by book kind pa
 
 rule_of : (book : Book) (kind : Kind) (path : Path) → holds_at book kind path ≡ true → (p : Pattern) × IsRuleAt book kind path p true
 rule_of book kind path h =
-    let some = some_passes (holds_by book kind path) (patterns book) h in
-    (some.0, record {
-      stands = does_stand book path some.0 (first_so (stands_at book path some.0) _ some.1);
-      states = stated_so (stated_at book kind some.0) (second_so (stands_at book path some.0) _ some.1);
-    })
+    let some = some_passes (holds_by book kind path) (patterns book) h in (
+      some.0,
+      record {
+        stands = does_stand book path some.0 (first_so (stands_at book path some.0) _ some.1);
+        states = stated_so (stated_at book kind some.0) (second_so (stands_at book path some.0) _ some.1);
+      },
+    )
 
 -- ---- at a prefix
 

@@ -165,14 +165,18 @@ Partly-of-FallsShort taken phase out h = λ more. let w = h.1 more in (w.0, w.1 
 
 -- after what was written before, all that was kept is written
 pub Follows-handed : {phase : Phase} {held : List ℕ} {blank : Bool} {kept kept' taken : List ℕ} (sent more : List ℕ) (a b c : Option (List ℕ)) → Appends a b more → Follows phase held blank kept taken (sent ++ more) → Passes b c kept [] → kept' ≡ [] → (m : List ℕ) × Appends a c m × Follows phase held blank kept' taken (sent ++ m)
-Follows-handed {phase} {held} {blank} {kept} {kept'} {taken} sent more a b c p f s none = (more ++ s.0, Appends-trans a b c more s.0 p s.1, record {
-  lines = f.lines;
-  rest = f.rest;
-  cuts = f.cuts;
-  plain = f.plain;
-  holds = f.holds;
-  stands = subst (λ (o : List ℕ). Stands (told f.lines) phase o) same f.stands;
-})
+Follows-handed {phase} {held} {blank} {kept} {kept'} {taken} sent more a b c p f s none = (
+  more ++ s.0,
+  Appends-trans a b c more s.0 p s.1,
+  record {
+    lines = f.lines;
+    rest = f.rest;
+    cuts = f.cuts;
+    plain = f.plain;
+    holds = f.holds;
+    stands = subst (λ (o : List ℕ). Stands (told f.lines) phase o) same f.stands;
+  },
+)
   where
     same : (sent ++ more) ++ kept ≡ (sent ++ (more ++ s.0)) ++ kept'
     same = ap (λ x. (sent ++ more) ++ x) (s.2 ∙ append-nil s.0) ∙ append_assoc sent more s.0 ∙ sym (append-nil _) ∙ ap (λ x. (sent ++ (more ++ s.0)) ++ x) (sym none)
