@@ -1,5 +1,6 @@
 -- Reading looks no further than to the token at which it stops: with others behind that one it does the same.
 use Rattle.std.proofs.Common.{◌≡◌, ℕ, zero, suc, ◌+◌, ◌≤◌, Bool, true, false, cond, List, [], ◌∷◌, ◌++◌, length, refl, ap, subst, arith}
+use Rattle.expr_parser.specs.declared.limits.TheConstants.{MAX_LEVELS}
 use Rattle.std.specs.Prelude.{nat_lt, nat_le, Ok, Err}
 use Rattle.expr_tokens.specs.declared.operator.Operator.TheVariants as b
 use Rattle.expr_tokens.specs.declared.token.Token.{Token}
@@ -7,7 +8,7 @@ use Rattle.expr_tokens.specs.declared.token.Token.TheVariants as t
 use Rattle.expr_parser.specs.declared.parser.ParseFault.{ParseFault}
 use Rattle.expr_parser.specs.Tree.{Tree, Trees, Argument, Arguments, Number, Text, True, False, Null, Variable, Capture, Group, Member, Call, Not, Negate, Operation, Choice, One, Listed, no_argument, none}
 use Rattle.expr_parser.specs.Grammar.{level}
-use Rattle.expr_parser.specs.Reading.{Mode, Whole, Climb, On, Unary, After, Args, Items, Found, Reader, ◌>>=◌, stop, deeper, snoc, snoc_item, closed, group, primary, items_on, args_on, call, named, dotted, after, postfix, unary, on, climb, otherwise, parts, chosen, whole, items, arg, args, step, run, read}
+use Rattle.expr_parser.specs.Working.Reading.{Mode, Whole, Climb, On, Unary, After, Args, Items, Found, Reader, ◌>>=◌, stop, deeper, snoc, snoc_item, closed, group, primary, items_on, args_on, call, named, dotted, after, postfix, unary, on, climb, otherwise, parts, chosen, whole, items, arg, args, step, run, read}
 use Rattle.expr_parser.proofs.Turns.{place, Within, within_more, Alike, both_closed, both_primary, both_items_on, both_args_on, both_call, both_named, both_dotted, both_after, both_unary, both_on, both_otherwise, both_chosen, both_arg, run_short, run_enough}
 
 -- the same tokens up to a place with at most k tokens behind it, and any behind it
@@ -32,7 +33,7 @@ alike_if k true o o' p p' h g = h
 alike_if k false o o' p p' h g = g
 
 alike_deeper : {A : Type 0} (k d : ℕ) (ts us : List Token) (o p : Found A) → Alike' k o p → Alike' k (deeper d ts o) (deeper d us p)
-alike_deeper {A} k d ts us o p h = alike_if k (nat_lt d 64) o (stop {A = A} ts) p (stop {A = A} us) h (stops _ _)
+alike_deeper {A} k d ts us o p h = alike_if k (nat_lt d MAX_LEVELS) o (stop {A = A} ts) p (stop {A = A} us) h (stops _ _)
 
 alike_closed : (k : ℕ) (x : Tree) (ts us : List Token) → Like k ts us → Alike' k (closed x ts) (closed x us)
 alike_closed k x ts us (past h) = beyond (both_closed k x ts h).within

@@ -1,5 +1,6 @@
 -- What is spelled is read.
 use Rattle.std.proofs.Common.{◌≡◌, ℕ, suc, ◌<◌, ◌≤◌, cond, List, [], ◌∷◌, refl, sym, ap, ◌∙◌, arith}
+use Rattle.expr_parser.specs.declared.limits.TheConstants.{MAX_LEVELS}
 use Rattle.std.specs.Prelude.{Ok}
 use Rattle.std.proofs.lemmas.Bool.{le-leb, lt-leb, lt-ltb}
 use Rattle.expr_tokens.specs.declared.operator.Operator.{Operator}
@@ -8,8 +9,8 @@ use Rattle.expr_tokens.specs.declared.token.Token.{Token}
 use Rattle.expr_tokens.specs.declared.token.Token.TheVariants as t
 use Rattle.expr_parser.specs.Tree.{Tree, Trees, Argument, Arguments, Number, Text, True, False, Null, Variable, Capture, Group, Member, Call, Not, Negate, Operation, Choice, One, Listed, no_argument, argument, none, more}
 use Rattle.expr_parser.specs.Grammar.{level}
-use Rattle.expr_parser.specs.Printing.{spelled, spelled_argument, spelled_arguments, spelled_more, spelled_items, spelled_more_items, HasOne, Fits, FitsArgument, FitArguments, FitItems, Printed}
-use Rattle.expr_parser.specs.Reading.{Whole, Climb, On, Unary, After, Args, Items, Found, ◌>>=◌, stop, deeper, snoc, snoc_item, closed, items_on, args_on, call, named, after, on, otherwise, chosen, whole, arg, read}
+use Rattle.expr_parser.specs.Working.Printing.{spelled, spelled_argument, spelled_arguments, spelled_more, spelled_items, spelled_more_items, HasOne, Fits, FitsArgument, FitArguments, FitItems, Printed}
+use Rattle.expr_parser.specs.Working.Reading.{Whole, Climb, On, Unary, After, Args, Items, Found, ◌>>=◌, stop, deeper, snoc, snoc_item, closed, items_on, args_on, call, named, after, on, otherwise, chosen, whole, arg, read}
 use Rattle.expr_parser.proofs.Turns.{read_step}
 
 -- no token that goes on with an expression of the level n stands here
@@ -73,8 +74,8 @@ Ends-not_open : (n : ℕ) (ts : List Token) → Ends n ts → NotOpen ts
 Ends-not_open n (t.OpenParenthesis ∷ ts) e = e
 Ends-not_open n _ e = tt
 
-deeper_is : {A : Type 0} (d : ℕ) (ts : List Token) (o : Found A) → d < 64 → deeper d ts o ≡ o
-deeper_is {A} d ts o h = ap (λ c. cond c o (stop {A = A} ts)) (lt-ltb d 64 h)
+deeper_is : {A : Type 0} (d : ℕ) (ts : List Token) (o : Found A) → d < MAX_LEVELS → deeper d ts o ≡ o
+deeper_is {A} d ts o h = ap (λ c. cond c o (stop {A = A} ts)) (lt-ltb d MAX_LEVELS h)
 
 -- ---- reading stops where the expression ends
 

@@ -9,7 +9,7 @@ use Rattle.expr_parser.specs.declared.expr.Argument.{Argument, List as Listing, 
 use Rattle.expr_parser.specs.Tree as tree
 use Rattle.expr_parser.specs.Tree.{Tree, Trees, Arguments}
 use Rattle.expr_parser.specs.View.{view, view_argument, view_arguments, view_items, views, arguments}
-use Rattle.expr_parser.specs.Reading.{Whole, Climb, Unary, Items, Found, ◌>>=◌, snoc, snoc_item, items_on, on, otherwise, parts, chosen, read}
+use Rattle.expr_parser.specs.Working.Reading.{Whole, Climb, Unary, Items, Found, ◌>>=◌, snoc, snoc_item, items_on, on, otherwise, parts, chosen, read}
 use Rattle.expr_parser.proofs.Turns.{read_step}
 
 pub whole_is : (d : ℕ) (ts : List Token) → read Whole d ts ≡ (read (Climb 1) d ts >>= λ c. chosen read d c.0 c.1)

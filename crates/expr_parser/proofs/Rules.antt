@@ -5,7 +5,7 @@ use Rattle.expr_tokens.specs.declared.token.Token.{Token}
 use Rattle.expr_tokens.specs.declared.token.Token.TheVariants as t
 use Rattle.expr_parser.specs.Tree.{Tree, Trees, Argument, Arguments, Number, Text, True, False, Null, Variable, Capture, Group, Member, Call, Not, Negate, Operation, Choice, One, Listed, no_argument, argument, none, more}
 use Rattle.expr_parser.specs.Grammar.{level, Derives, DerivesArgument, DerivesItems, DerivesArguments, DerivesMore, choice, operation, not, negate, member, call, number, text, true, false, null, variable, capture, group, next_level, one, listed, last_item, next_item, no_arguments, arguments, last_argument, next_argument, Spells}
-use Rattle.expr_parser.specs.Printing.{spelled, spelled_argument, spelled_arguments, spelled_more, spelled_more_items, Fits, FitsArgument, FitArguments, FitItems, Printed}
+use Rattle.expr_parser.specs.Working.Printing.{spelled, spelled_argument, spelled_arguments, spelled_more, spelled_more_items, Fits, FitsArgument, FitArguments, FitItems, Printed}
 use Rattle.expr_parser.proofs.Complete.{level_below}
 use Rattle.expr_parser.proofs.Sound.{Fits-less}
 

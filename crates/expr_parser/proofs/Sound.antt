@@ -1,5 +1,6 @@
 -- What is read is spelled; where reading stops, the tokens before go on to an expression.
 use Rattle.std.proofs.Common.{◌≡◌, ℕ, zero, suc, ◌<◌, ◌≤◌, Bool, true, false, cond, List, [], ◌∷◌, ◌++◌, length, refl, sym, ap, subst, ◌∙◌, arith, append_assoc, inl, inr, ◌⊎◌}
+use Rattle.expr_parser.specs.declared.limits.TheConstants.{MAX_LEVELS}
 use Rattle.std.specs.Prelude.{nat_lt, nat_le, Ok, Err}
 use Rattle.std.proofs.lemmas.List.{append-nil}
 use Rattle.std.proofs.lemmas.Bool.{leb-true, leb-false, ltb-true}
@@ -11,8 +12,8 @@ use Rattle.expr_parser.specs.declared.parser.ParseFault.{ParseFault}
 use Rattle.expr_parser.specs.declared.parser.ParseFault.TheVariants.{Unexpected, Bracket, NoMemory}
 use Rattle.expr_parser.specs.Tree.{Tree, Trees, Argument, Arguments, Number, Text, True, False, Null, Variable, Capture, Group, Member, Call, Not, Negate, Operation, Choice, One, Listed, no_argument, argument, none, more}
 use Rattle.expr_parser.specs.Grammar.{level}
-use Rattle.expr_parser.specs.Printing.{spelled, spelled_argument, spelled_arguments, spelled_more, spelled_items, spelled_more_items, Fits, FitsArgument, FitArguments, FitItems}
-use Rattle.expr_parser.specs.Reading.{Whole, Climb, On, Unary, After, Args, Items, Found, Reader, ◌>>=◌, stop, deeper, snoc, snoc_item, closed, group, primary, items_on, args_on, call, named, dotted, after, postfix, unary, on, climb, otherwise, chosen, whole, items, arg, args, step, run, read}
+use Rattle.expr_parser.specs.Working.Printing.{spelled, spelled_argument, spelled_arguments, spelled_more, spelled_items, spelled_more_items, Fits, FitsArgument, FitArguments, FitItems}
+use Rattle.expr_parser.specs.Working.Reading.{Whole, Climb, On, Unary, After, Args, Items, Found, Reader, ◌>>=◌, stop, deeper, snoc, snoc_item, closed, group, primary, items_on, args_on, call, named, dotted, after, postfix, unary, on, climb, otherwise, chosen, whole, items, arg, args, step, run, read}
 use Rattle.expr_parser.proofs.Turns.{place}
 use Rattle.expr_parser.proofs.Complete.{level_below, append, append-none, append-snoc, append_items, append_items-none, append_items-snoc}
 
@@ -40,8 +41,8 @@ holds_if : {A : Type 0} (Q : A × List Token → Type 0) (W : ParseFault → Typ
 holds_if Q W true o p h g = h refl
 holds_if Q W false o p h g = g refl
 
-holds_deeper : {A : Type 0} (Q : A × List Token → Type 0) (W : ParseFault → Type 0) (d : ℕ) (ts : List Token) (o : Found A) → W (Unexpected (length ts)) → (d < 64 → Holds Q W o) → Holds Q W (deeper d ts o)
-holds_deeper {A} Q W d ts o w h = holds_if Q W (nat_lt d 64) o (stop {A = A} ts) (λ e. h (ltb-true d 64 e)) (λ _. w)
+holds_deeper : {A : Type 0} (Q : A × List Token → Type 0) (W : ParseFault → Type 0) (d : ℕ) (ts : List Token) (o : Found A) → W (Unexpected (length ts)) → (d < MAX_LEVELS → Holds Q W o) → Holds Q W (deeper d ts o)
+holds_deeper {A} Q W d ts o w h = holds_if Q W (nat_lt d MAX_LEVELS) o (stop {A = A} ts) (λ e. h (ltb-true d MAX_LEVELS e)) (λ _. w)
 
 -- ---- pieces
 
@@ -371,7 +372,7 @@ Joins-stops n d op e y (t.Operator p ∷ us) f g s = λ _. (omega arith, f, g)
 Joins-stops n d op e y _ f g s = tt
 
 -- behind the expression in a parenthesis
-closed_sound : (d : ℕ) (ts : List Token) (x : Tree) (us : List Token) → d < 64 → Got 0 (suc d) ts (x, us) → Holds (Is 8 d (t.OpenParenthesis ∷ ts)) (Stays 8 d (t.OpenParenthesis ∷ ts)) (closed x us)
+closed_sound : (d : ℕ) (ts : List Token) (x : Tree) (us : List Token) → d < MAX_LEVELS → Got 0 (suc d) ts (x, us) → Holds (Is 8 d (t.OpenParenthesis ∷ ts)) (Stays 8 d (t.OpenParenthesis ∷ ts)) (closed x us)
 closed_sound d ts x (t.CloseParenthesis ∷ vs) lt h = record { fits = (omega arith, lt, h.0.fits); tokens = ap (λ (us : List Token). t.OpenParenthesis ∷ us) h.0.tokens }
 closed_sound d ts x us lt h = record {
   before = t.OpenParenthesis ∷ spelled x [];
@@ -386,7 +387,7 @@ closed_sound d ts x us lt h = record {
 }
 
 module _ (r : Reader) (s : Sounds r) where
-  group_sound : (d : ℕ) (ts : List Token) → d < 64 → Holds (Is 8 d (t.OpenParenthesis ∷ ts)) (Stays 8 d (t.OpenParenthesis ∷ ts)) (group r d ts)
+  group_sound : (d : ℕ) (ts : List Token) → d < MAX_LEVELS → Holds (Is 8 d (t.OpenParenthesis ∷ ts)) (Stays 8 d (t.OpenParenthesis ∷ ts)) (group r d ts)
   group_sound d ts lt = holds_bind (Got 0 (suc d) ts) (Stays 0 (suc d) ts) (Is 8 d (t.OpenParenthesis ∷ ts)) (Stays 8 d (t.OpenParenthesis ∷ ts)) (r Whole (suc d) ts) (λ x. closed x.0 x.1) (s.whole_is (suc d) ts)
       (λ e h. stuck_in (λ x. Fits x 0 (suc d)) spelled (λ x. Fits x 8 d) spelled (t.OpenParenthesis ∷ []) (t.CloseParenthesis ∷ []) ts (t.OpenParenthesis ∷ ts) Group e (inl refl) refl (λ x f. (omega arith, lt, f)) (λ x to. refl) h)
       (λ x h. closed_sound d ts x.0 x.1 lt h)
@@ -515,7 +516,7 @@ module _ (r : Reader) (s : Sounds r) where
 
   -- ---- a choice: what stands behind the part for true, and behind the condition
 
-  otherwise_sound : (d : ℕ) (c x : Tree) (ts : List Token) → d < 64 → Fits c 1 d → Fits x 0 (suc d) → Free ts → Holds (Got 0 d (spelled c (t.Question ∷ spelled x ts))) (Stays 0 d (spelled c (t.Question ∷ spelled x ts))) (otherwise r d c x ts)
+  otherwise_sound : (d : ℕ) (c x : Tree) (ts : List Token) → d < MAX_LEVELS → Fits c 1 d → Fits x 0 (suc d) → Free ts → Holds (Got 0 d (spelled c (t.Question ∷ spelled x ts))) (Stays 0 d (spelled c (t.Question ∷ spelled x ts))) (otherwise r d c x ts)
   otherwise_sound d c x (t.Colon ∷ ts) lt f g free =
       let head : List Token = spelled c (t.Question ∷ spelled x (t.Colon ∷ [])) in
       let split : (us : List Token) → head ++ us ≡ spelled c (t.Question ∷ spelled x (t.Colon ∷ us)) = λ us. spelled-append c (t.Question ∷ spelled x (t.Colon ∷ [])) us ∙ ap (λ (vs : List Token). spelled c (t.Question ∷ vs)) (spelled-append x (t.Colon ∷ []) us) in

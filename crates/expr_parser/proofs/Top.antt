@@ -9,9 +9,9 @@ use Rattle.expr_parser.specs.declared.parser.ParseFault.TheVariants.{NoMemory, U
 use Rattle.expr_parser.specs.Tree.{Tree}
 use Rattle.expr_parser.specs.Grammar.{Spells}
 use Rattle.expr_parser.specs.Stopping.{NoneGoesOn, StopsAt, Indexed, Refused}
-use Rattle.expr_parser.specs.Printing.{spelled}
-use Rattle.expr_parser.specs.Gives.{Refuses}
-use Rattle.expr_parser.specs.Reading.{Whole, read}
+use Rattle.expr_parser.specs.Working.Printing.{spelled}
+use Rattle.expr_parser.specs.Working.Gives.{Refuses}
+use Rattle.expr_parser.specs.Working.Reading.{Whole, read}
 use Rattle.expr_parser.proofs.Turns.{place}
 use Rattle.expr_parser.proofs.Complete.{printed_is_read, one_tree}
 use Rattle.expr_parser.proofs.Sound.{Holds, Is, Got, Stays, EndsOperand, IsBracket, Free, free_not, Quiet, ends, ends-append, ends-operand, spelled-append, read_sound}

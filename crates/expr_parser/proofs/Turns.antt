@@ -1,5 +1,6 @@
 -- Each turn of reading takes a token, so `read` is its own next turn.
 use Rattle.std.proofs.Common.{◌≡◌, ℕ, zero, suc, ◌<◌, ◌≤◌, Bool, true, false, cond, List, ◌∷◌, length, refl, ap, ◌∙◌, arith}
+use Rattle.expr_parser.specs.declared.limits.TheConstants.{MAX_LEVELS}
 use Rattle.std.specs.Prelude.{nat_lt, nat_le, Ok, Err}
 use Rattle.expr_tokens.specs.declared.operator.Operator.TheVariants as b
 use Rattle.expr_tokens.specs.declared.token.Token.{Token}
@@ -8,7 +9,7 @@ use Rattle.expr_parser.specs.declared.parser.ParseFault.{ParseFault}
 use Rattle.expr_parser.specs.declared.parser.ParseFault.TheVariants.{Unexpected, Bracket, NoMemory}
 use Rattle.expr_parser.specs.Tree.{Tree, Trees, Arguments, Number, Text, True, False, Null, Variable, Capture, Group, Member, Call, Not, Negate, Operation, Choice, One, Listed, no_argument, none}
 use Rattle.expr_parser.specs.Grammar.{level}
-use Rattle.expr_parser.specs.Reading.{Mode, Whole, Climb, On, Unary, After, Args, Items, Found, Reader, ◌>>=◌, stop, deeper, snoc, snoc_item, closed, group, primary, items_on, args_on, call, named, dotted, after, postfix, unary, on, climb, otherwise, chosen, whole, items, arg, args, step, run, read}
+use Rattle.expr_parser.specs.Working.Reading.{Mode, Whole, Climb, On, Unary, After, Args, Items, Found, Reader, ◌>>=◌, stop, deeper, snoc, snoc_item, closed, group, primary, items_on, args_on, call, named, dotted, after, postfix, unary, on, climb, otherwise, chosen, whole, items, arg, args, step, run, read}
 
 -- how many tokens are left where reading stops
 abbrev pub place : ParseFault → ℕ
@@ -46,7 +47,7 @@ both_stop : {A : Type 0} (k : ℕ) (ts : List Token) → length ts ≤ k → Bot
 both_stop k ts h = record { same = refl; within = h }
 
 both_deeper : {A : Type 0} (d k : ℕ) (ts : List Token) (o p : Found A) → length ts ≤ k → Both k o p → Both k (deeper d ts o) (deeper d ts p)
-both_deeper d k ts o p le h = both_if (nat_lt d 64) k o p (stop ts) (stop ts) (λ _. h) (λ _. both_stop k ts le)
+both_deeper d k ts o p le h = both_if (nat_lt d MAX_LEVELS) k o p (stop ts) (stop ts) (λ _. h) (λ _. both_stop k ts le)
 
 pub both_ok : {A : Type 0} (k : ℕ) (x : A) (ts : List Token) → length ts ≤ k → Both {A = A} k (Ok (x, ts)) (Ok (x, ts))
 both_ok k x ts h = record { same = refl; within = h }

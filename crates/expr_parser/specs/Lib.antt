@@ -3,6 +3,4 @@ pub mod View
 pub mod Grammar
 pub mod Stopping
 pub mod Text
-pub mod Printing
-pub mod Reading
-pub mod Gives
+pub mod Working

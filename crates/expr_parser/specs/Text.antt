@@ -37,8 +37,3 @@ pub record IsOfGrammar (text : List ℕ) (fault : ExprFault) : Type 0 where
 -- Why the text is refused: for the earliest fault of its tokens, or else for where these stop to be an expression; or for want of memory. (This project's profile.)
 abbrev pub RefusedText : List ℕ → ExprFault → Type 0
 RefusedText text fault = (fault ≡ NoMemory) ⊎ IsEarliest text fault ⊎ IsOfGrammar text fault
-
--- The answer is this expression, unless memory is refused.
-abbrev pub ReadsText : Tree → Result Expr ExprFault → Type 0
-ReadsText x (Ok e) = view e ≡ x
-ReadsText x (Err fault) = fault ≡ NoMemory

@@ -2,7 +2,8 @@
 ghost use Rattle.std.specs.Prelude.{◌≡◌, ◌≢◌, ◌-◌, ◌<◌, ◌≤◌, ℕ, List, length, nat_eq, if◌then◌else◌, slice_index, IfOk, IfErr};
 ghost use Rattle.expr_tokens.specs.declared.fault.ExprFault.{ExprFault};
 ghost use Rattle.expr_parser.specs.Tree.{Tree};
-ghost use Rattle.expr_parser.specs.Text.{SpellsExpression, RefusedText, ReadsText};
+ghost use Rattle.expr_parser.specs.Text.{SpellsExpression, RefusedText};
+ghost use Rattle.expr_tokens.specs.Answers.{AnswersThis};
 ghost use Rattle.expr_parser.specs.View.{view};
 
 use crate::expr::Expr;
@@ -18,7 +19,7 @@ pub fn parse(alloc: Global, text: &str) -> Result<Expr, ExprFault>
     // What is found is spelled so.
     ensures found { IfOk result (λ expr. SpellsExpression text.now (view expr)) }
     // What is spelled so is found, unless memory is refused.
-    ensures only { (tree : Tree) → SpellsExpression text.now tree → ReadsText tree result }
+    ensures only { (tree : Tree) → SpellsExpression text.now tree → AnswersThis ExprFault.NoMemory view tree result }
     // A fault is the earliest one of the tokens; else it has the place of the first token with which
     // no spelled expression goes on, or says that this is a bracket that is left out.
     ensures refused { IfErr result (λ fault. RefusedText text.now fault) }

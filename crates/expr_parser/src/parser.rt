@@ -2,10 +2,11 @@
 ghost use Rattle.std.specs.Prelude.{◌≡◌, ◌<◌, ◌≤◌, List, length, IfOk, IfErr};
 ghost use Rattle.expr_parser.specs.Grammar.{level, Spells};
 ghost use Rattle.expr_parser.specs.Stopping.{Refused};
-ghost use Rattle.expr_parser.specs.Reading.{Whole, Climb, Unary, Items, read, arg, call, dotted, group, parts, postfix, primary};
+ghost use Rattle.expr_parser.specs.Working.Reading.{Whole, Climb, Unary, Items, read, arg, call, dotted, group, parts, postfix, primary};
 ghost use Rattle.expr_parser.specs.Tree.{Tree, none};
 ghost use Rattle.expr_parser.specs.View.{view, view_argument, views, arguments};
-ghost use Rattle.expr_parser.specs.Gives.{Gives, Reads};
+ghost use Rattle.expr_parser.specs.Working.Gives.{Gives};
+ghost use Rattle.expr_tokens.specs.Answers.{AnswersThis};
 ghost use Rattle.expr_tokens.specs.declared.token.Token.{Token};
 ghost use Rattle.expr_parser.specs.declared.parser.ParseFault.TheVariants.{NoMemory as no_memory};
 
@@ -63,7 +64,7 @@ pub fn expression(alloc: Global, tokens: &[Token]) -> Result<Expr, ParseFault>
     // What is found is spelled so.
     ensures found { IfOk result (λ expr. Spells tokens.now (view expr)) }
     // What is spelled so is found, unless memory is refused.
-    ensures only { (tree : Tree) → Spells tokens.now tree → Reads tree result }
+    ensures only { (tree : Tree) → Spells tokens.now tree → AnswersThis no_memory view tree result }
     // A fault names the first token that no spelled expression has after the tokens before it.
     ensures refused { IfErr result (λ fault. Refused tokens.now fault) }
 {
@@ -107,7 +108,7 @@ fn choice<'a, 't>(
     condition: Expr,
     tokens: &'a [Token<'t>],
 ) -> Result<(Expr, &'a [Token<'t>]), ParseFault>
-    requires { depth < 64 }
+    requires { depth < MAX_LEVELS }
     ensures gives { Gives (λ x. (view x.0, x.1.now)) result (parts read depth (view condition) tokens.now) }
     ensures shorter { IfOk result (λ x. length x.1.now ≤ length tokens.now) }
 {
@@ -335,7 +336,7 @@ fn group<'a, 't>(
     depth: usize,
     tokens: &'a [Token<'t>],
 ) -> Result<(Expr, &'a [Token<'t>]), ParseFault>
-    requires { depth < 64 }
+    requires { depth < MAX_LEVELS }
     ensures gives { Gives (λ x. (view x.0, x.1.now)) result (group read depth tokens.now) }
     ensures shorter { IfOk result (λ x. length x.1.now ≤ length tokens.now) }
 {

@@ -16,8 +16,8 @@ use Rattle.expr_tokens.specs.declared.token.Token.TheVariants as t
 use Rattle.expr_tokens.specs.Words.{is_name_start, is_name_byte, is_numeral, numeral, greatest, first_is, begins_digit, begins_fraction, ends_number}
 use Rattle.expr_tokens.specs.Quoted.{is_quote, meaning, escape_at, before, closed, unquoted, escaped}
 use Rattle.expr_tokens.specs.Token.{signs, literals, word_in, number, name, named, capture, token_of}
-use Rattle.expr_tokens.specs.Spelling.{IsWhole, Stands}
-use Rattle.expr_tokens.specs.Scanning.{IsRun, IsFaultFrom, begins_name, is_other, first_in, IsInside, ClosesAt, FailsAt}
+use Rattle.expr_tokens.specs.Spelling.{IsWhole, ComesFirst}
+use Rattle.expr_tokens.specs.Working.Scanning.{IsRun, IsFaultFrom, begins_name, is_other, first_in, IsInside, ClosesAt, FailsAt}
 use Rattle.expr_tokens.specs.Faults.{IsContent, BeginsBadEscape, BeginsUnclosed}
 use Rattle.expr_tokens.proofs.Runs.{and_true, or_false, not_true, seam, start_no_digit, quote_no_digit, quote_no_start, quote_ascii}
 use Rattle.expr_tokens.proofs.Texts.{tail_is}
@@ -74,7 +74,7 @@ number_not w h = ap (λ b. cond (b && nat_le (numeral w) greatest) (Some (t.Numb
 pub digits_end : (rest : List ℕ) → begins_digit rest ≡ false → begins_fraction rest ≡ false → ends_number rest ≡ true
 digits_end rest h k = ap (λ b. not (b || begins_fraction rest)) h ∙ ap not k
 
-digits_stand : (d : Bool) (w rest : List ℕ) → list_all is_ascii_digit w ≡ true → begins_digit (w ++ rest) ≡ true → begins_digit rest ≡ false → begins_fraction rest ≡ false → numeral w ≤ greatest → Stands d (w ++ rest) (t.Number (numeral w)) rest
+digits_stand : (d : Bool) (w rest : List ℕ) → list_all is_ascii_digit w ≡ true → begins_digit (w ++ rest) ≡ true → begins_digit rest ≡ false → begins_fraction rest ≡ false → numeral w ≤ greatest → ComesFirst d (w ++ rest) (t.Number (numeral w)) rest
 digits_stand d [] rest h b s f k = absurd cc
 digits_stand d (x ∷ w) rest h b s f k = record {
   word = x ∷ w;
@@ -84,11 +84,11 @@ digits_stand d (x ∷ w) rest h b s f k = record {
   whole = digits_end rest s f;
 }
 
-pub number_stands : (text : List ℕ) (n value : ℕ) → IsRun is_ascii_digit text n → begins_digit text ≡ true → begins_fraction (drop n text) ≡ false → value ≡ numeral (take n text) → value ≤ greatest → (d : Bool) → Stands d text (t.Number value) (drop n text)
+pub number_stands : (text : List ℕ) (n value : ℕ) → IsRun is_ascii_digit text n → begins_digit text ≡ true → begins_fraction (drop n text) ≡ false → value ≡ numeral (take n text) → value ≤ greatest → (d : Bool) → ComesFirst d text (t.Number value) (drop n text)
 number_stands text n value r b f v k d =
     let e = take-append-drop n text in
     let s = digits_stand d (take n text) (drop n text) r.passes (ap begins_digit e ∙ b) r.stops f (subst (λ (x : ℕ). x ≤ greatest) v k) in
-    subst (λ (z : List ℕ). Stands d z (t.Number value) (drop n text)) e (subst (λ (x : ℕ). Stands d (take n text ++ drop n text) (t.Number x) (drop n text)) (sym v) s)
+    subst (λ (z : List ℕ). ComesFirst d z (t.Number value) (drop n text)) e (subst (λ (x : ℕ). ComesFirst d (take n text ++ drop n text) (t.Number x) (drop n text)) (sym v) s)
 
 is_numeral_run : (w rest : List ℕ) → list_all is_ascii_digit w ≡ true → begins_digit (w ++ rest) ≡ true → begins_digit rest ≡ false → is_numeral w ≡ true
 is_numeral_run [] rest h b s = absurd cc
@@ -139,7 +139,7 @@ named_plain false w = go (word_in literals w) refl
     go None e = refl
     go (Some u) e = plain_in literals w u refl e
 
-name_run_stands : (d : Bool) (w rest : List ℕ) → list_all is_name_byte w ≡ true → begins_name (w ++ rest) ≡ true → first_is is_name_byte rest ≡ false → begins_name rest ≡ false → Stands d (w ++ rest) (named d w) rest
+name_run_stands : (d : Bool) (w rest : List ℕ) → list_all is_name_byte w ≡ true → begins_name (w ++ rest) ≡ true → first_is is_name_byte rest ≡ false → begins_name rest ≡ false → ComesFirst d (w ++ rest) (named d w) rest
 name_run_stands d [] rest h b s k = absurd cc
 name_run_stands d (x ∷ w) rest h b s k = record {
   word = x ∷ w;
@@ -158,10 +158,10 @@ byte_start (c ∷ cs) h = go (is_name_start c) h
     go true e = absurd cc
     go false e = refl
 
-pub name_stands : (d : Bool) (text : List ℕ) (n : ℕ) → IsRun is_name_byte text n → begins_name text ≡ true → Stands d text (named d (take n text)) (drop n text)
+pub name_stands : (d : Bool) (text : List ℕ) (n : ℕ) → IsRun is_name_byte text n → begins_name text ≡ true → ComesFirst d text (named d (take n text)) (drop n text)
 name_stands d text n r b =
     let e = take-append-drop n text in
-    subst (λ (z : List ℕ). Stands d z (named d (take n text)) (drop n text)) e (name_run_stands d (take n text) (drop n text) r.passes (ap begins_name e ∙ b) r.stops (byte_start (drop n text) r.stops))
+    subst (λ (z : List ℕ). ComesFirst d z (named d (take n text)) (drop n text)) e (name_run_stands d (take n text) (drop n text) r.passes (ap begins_name e ∙ b) r.stops (byte_start (drop n text) r.stops))
 
 -- captures
 
@@ -177,7 +177,7 @@ capture_long (x ∷ w) h = go (is_name_start x)
     go true = ap (λ z. cond z (Some (t.Capture (x ∷ w))) None) h
     go false = refl
 
-pub capture_stands : (behind : List ℕ) (n : ℕ) → IsRun is_name_byte behind n → begins_name behind ≡ true → (d : Bool) → Stands d (36 ∷ behind) (t.Capture (take n behind)) (drop n behind)
+pub capture_stands : (behind : List ℕ) (n : ℕ) → IsRun is_name_byte behind n → begins_name behind ≡ true → (d : Bool) → ComesFirst d (36 ∷ behind) (t.Capture (take n behind)) (drop n behind)
 capture_stands behind n r b d =
     let e = take-append-drop n behind in
     record {
@@ -248,18 +248,18 @@ closes_longest d q content c more h i =
     let e : unquoted q ((content ++ q ∷ []) ++ c ∷ more) ≡ None = ap (unquoted q) (append_assoc content (q ∷ []) (c ∷ more)) ∙ i.goes_on (q ∷ c ∷ more) ∙ ap (before i.says) (unquoted_end q (c ∷ more)) in
     token_text d q ((content ++ q ∷ []) ++ c ∷ more) h ∙ ap (λ b. option_map t.Text (cond b (unquoted q ((content ++ q ∷ []) ++ c ∷ more)) None)) h ∙ ap (option_map t.Text) e
 
-pub text_stands : (q : ℕ) (body : List ℕ) (on : ℕ) (m : List ℕ) → is_quote q ≡ true → ClosesAt q body on → meaning (take (on + 2) (q ∷ body)) ≡ Some m → (d : Bool) → Stands d (q ∷ body) (t.Text m) (drop (on + 2) (q ∷ body))
+pub text_stands : (q : ℕ) (body : List ℕ) (on : ℕ) (m : List ℕ) → is_quote q ≡ true → ClosesAt q body on → meaning (take (on + 2) (q ∷ body)) ≡ Some m → (d : Bool) → ComesFirst d (q ∷ body) (t.Text m) (drop (on + 2) (q ∷ body))
 text_stands q body on m h k e d =
     let p = closes_parts q body on k in
     let f : meaning (q ∷ (k.content ++ q ∷ [])) ≡ Some m = ap meaning (sym p.0) ∙ e in
-    let s : Stands d (q ∷ body) (t.Text m) k.rest = record {
+    let s : ComesFirst d (q ∷ body) (t.Text m) k.rest = record {
       word = q ∷ (k.content ++ q ∷ []);
       parts = ap (λ (z : List ℕ). q ∷ z) (k.parts ∙ sym (append_assoc k.content (q ∷ []) k.rest));
       spells = token_text d q (k.content ++ q ∷ []) h ∙ ap (option_map t.Text) f;
       longest = λ c more others r. closes_longest d q k.content c more h k.inside;
       whole = tt;
     } in
-    subst (λ (z : List ℕ). Stands d (q ∷ body) (t.Text m) z) (sym p.1) s
+    subst (λ (z : List ℕ). ComesFirst d (q ∷ body) (t.Text m) z) (sym p.1) s
 
 pub text_means : (q : ℕ) (body : List ℕ) (on : ℕ) → is_quote q ≡ true → ClosesAt q body on → IsSome (meaning (take (on + 2) (q ∷ body)))
 text_means q body on h k = subst (λ (o : List ℕ). IsSome (meaning o)) (sym (closes_parts q body on k).0) (inside_content q k.content h k.inside)
@@ -314,7 +314,7 @@ other_token : (d : Bool) (c : ℕ) (w : List ℕ) → IsOther c → token_of d (
 other_token d c w o = token_sign d c w o.no_digit o.no_start o.no_quote o.no_dollar
 
 chosen_stands : (d : Bool) (c : ℕ) (cs w rest : List ℕ) (u : Token) → IsOther c → c ∷ cs ≡ w ++ rest → word_in signs w ≡ Some u
-    → ((x : ℕ) (more others : List ℕ) → rest ≡ x ∷ (more ++ others) → word_in signs (w ++ x ∷ more) ≡ None) → Stands d (c ∷ cs) u rest
+    → ((x : ℕ) (more others : List ℕ) → rest ≡ x ∷ (more ++ others) → word_in signs (w ++ x ∷ more) ≡ None) → ComesFirst d (c ∷ cs) u rest
 chosen_stands d c cs [] rest u o p k l = absurd cc
 chosen_stands d c cs (y ∷ w) rest u o p k l =
     let same : c ≡ y = cc in
@@ -327,11 +327,11 @@ chosen_stands d c cs (y ∷ w) rest u o p k l =
       whole = plain_whole u rest (plain_in signs (y ∷ w) u refl k);
     }
 
-pub sign_stands : (text : List ℕ) (u : Token) (n : ℕ) → first_is is_other text ≡ true → first_in signs text ≡ Some (u, n) → (d : Bool) → Stands d text u (drop n text)
+pub sign_stands : (text : List ℕ) (u : Token) (n : ℕ) → first_is is_other text ≡ true → first_in signs text ≡ Some (u, n) → (d : Bool) → ComesFirst d text u (drop n text)
 sign_stands [] u n h e d = absurd cc
 sign_stands (c ∷ cs) u n h e d =
     let s = sign_found signs (c ∷ cs) u n signs_ordered signs_low e in
-    subst (λ (z : List ℕ). Stands d (c ∷ cs) u z) (sym (ap (drop n) s.parts ∙ drop_at s.word s.rest n s.bytes)) (chosen_stands d c cs s.word s.rest u (other_is c h) s.parts s.spells s.longest)
+    subst (λ (z : List ℕ). ComesFirst d (c ∷ cs) u z) (sym (ap (drop n) s.parts ∙ drop_at s.word s.rest n s.bytes)) (chosen_stands d c cs s.word s.rest u (other_is c h) s.parts s.spells s.longest)
 
 low_ascii : (c : ℕ) → is_low c ≡ true → c < 128
 low_ascii c h = grind (arith, nat_tests)
@@ -388,7 +388,7 @@ pub quoted_means : (text : List ℕ) (on : ℕ) → first_is is_quote text ≡ t
 quoted_means [] on h k = absurd cc
 quoted_means (q ∷ body) on h k = text_means q body on h (body_closes q body on k)
 
-pub quoted_stands : (text : List ℕ) (on : ℕ) (m : List ℕ) → first_is is_quote text ≡ true → ClosesAt (get_or text 0 0) (take (length text - 1) (drop 1 text)) on → meaning (take (on + 2) text) ≡ Some m → (d : Bool) → Stands d text (t.Text m) (drop (on + 2) text)
+pub quoted_stands : (text : List ℕ) (on : ℕ) (m : List ℕ) → first_is is_quote text ≡ true → ClosesAt (get_or text 0 0) (take (length text - 1) (drop 1 text)) on → meaning (take (on + 2) text) ≡ Some m → (d : Bool) → ComesFirst d text (t.Text m) (drop (on + 2) text)
 quoted_stands [] on m h k e d = absurd cc
 quoted_stands (q ∷ body) on m h k e d = text_stands q body on m h (body_closes q body on k) e d
 
@@ -404,6 +404,6 @@ pub dollar_fails : (place : ℕ) (text : List ℕ) → first_is (λ c. eqb c 36)
 dollar_fails place [] h b = absurd cc
 dollar_fails place (c ∷ cs) h b = let e : c ≡ 36 = eqb-true c 36 h in subst (λ (z : ℕ). IsFaultFrom place (z ∷ cs) (BadExpression place)) (sym e) (capture_fails place cs b)
 
-pub dollar_stands : (text : List ℕ) (n : ℕ) → first_is (λ c. eqb c 36) text ≡ true → IsRun is_name_byte (drop 1 text) n → begins_name (drop 1 text) ≡ true → (d : Bool) → Stands d text (t.Capture (take n (drop 1 text))) (drop n (drop 1 text))
+pub dollar_stands : (text : List ℕ) (n : ℕ) → first_is (λ c. eqb c 36) text ≡ true → IsRun is_name_byte (drop 1 text) n → begins_name (drop 1 text) ≡ true → (d : Bool) → ComesFirst d text (t.Capture (take n (drop 1 text))) (drop n (drop 1 text))
 dollar_stands [] n h r b d = absurd cc
-dollar_stands (c ∷ cs) n h r b d = let e : c ≡ 36 = eqb-true c 36 h in subst (λ (z : ℕ). Stands d (z ∷ cs) (t.Capture (take n cs)) (drop n cs)) (sym e) (capture_stands cs n r b d)
+dollar_stands (c ∷ cs) n h r b d = let e : c ≡ 36 = eqb-true c 36 h in subst (λ (z : ℕ). ComesFirst d (z ∷ cs) (t.Capture (take n cs)) (drop n cs)) (sym e) (capture_stands cs n r b d)

@@ -5,3 +5,4 @@ pub mod Fronts
 pub mod Same
 pub mod Whole
 pub mod Said
+pub mod Escapes

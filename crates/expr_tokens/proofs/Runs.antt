@@ -8,7 +8,7 @@ use Rattle.std.proofs.lemmas.List.{length-take-le, take-append-drop}
 use Rattle.std.proofs.lemmas.Str.{IsCharBoundary-at_seam, IsUtf8-past_char, encode_ascii}
 use Rattle.expr_tokens.specs.Words.{is_blank, past_blanks, is_name_start, is_name_byte, first_is, numeral_from, numeral, greatest}
 use Rattle.expr_tokens.specs.Quoted.{is_quote}
-use Rattle.expr_tokens.specs.Scanning.{IsRun}
+use Rattle.expr_tokens.specs.Working.Scanning.{IsRun}
 
 pub and_true : (a b : Bool) → (a && b) ≡ true → (a ≡ true) × (b ≡ true)
 and_true true b e = (refl, e)

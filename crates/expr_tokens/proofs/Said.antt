@@ -9,7 +9,7 @@ use Rattle.std.proofs.lemmas.List.{append-nil, take-append-drop, length-take-le,
 use Rattle.std.proofs.lemmas.Str.{IsCharBoundary-after_ascii, IsCharBoundary-before_ascii}
 use Rattle.expr_tokens.specs.Words.{first_is}
 use Rattle.expr_tokens.specs.Quoted.{is_quote, is_hex, letters, letter_in, coded, coded_at, then_rest, escape_at, meaning, said, before, closed, unquoted, escaped, hex_number, is_surrogate}
-use Rattle.expr_tokens.specs.Scanning.{IsRun, is_plain, seen}
+use Rattle.expr_tokens.specs.Working.Scanning.{IsRun, is_plain, seen}
 use Rattle.std.specs.Borrow.{Bor}
 use Rattle.expr_tokens.proofs.Runs.{and_true, or_false, not_true, quote_ascii}
 use Rattle.expr_tokens.proofs.Texts.{before_nil, before_both, escape_is, tail_is, meaning_said}

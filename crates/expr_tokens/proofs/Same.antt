@@ -14,9 +14,9 @@ use Rattle.expr_tokens.specs.declared.token.Token.TheVariants as t
 use Rattle.expr_tokens.specs.Words.{is_name_start, is_name_byte, is_numeral, numeral, greatest, first_is, begins_digit, begins_fraction, ends_number}
 use Rattle.expr_tokens.specs.Quoted.{is_quote, letters, letter_in, coded, coded_at, then_rest, escape_at, meaning, before, meant, closed, unquoted, escaped, escaped_code}
 use Rattle.expr_tokens.specs.Token.{number, name, named, token_of}
-use Rattle.expr_tokens.specs.Spelling.{IsLongest, IsWhole, Stands}
+use Rattle.expr_tokens.specs.Spelling.{IsLongest, IsWhole, ComesFirst}
 use Rattle.expr_tokens.specs.Faults.{IsContent, BeginsSlash, BeginsFraction, BeginsLarge, BeginsBadEscape, BeginsUnclosed, BeginsNoToken, IsMisspelled, IsFaultAt}
-use Rattle.expr_tokens.specs.Scanning.{IsInside}
+use Rattle.expr_tokens.specs.Working.Scanning.{IsInside}
 use Rattle.expr_tokens.proofs.Runs.{and_true, or_false, not_true}
 use Rattle.expr_tokens.proofs.Texts.{IsRead, read_none, read_plain, read_escape}
 use Rattle.expr_tokens.proofs.Fronts.{token_number, token_text, token_name, past_name, broken, unquoted_end}
@@ -39,7 +39,7 @@ longer_none : (d : Bool) (w v r s : List ℕ) (u : Token) (x : List ℕ) → IsL
 longer_none d w v r s u [] l k e f = (sym (e ∙ append-nil w), f)
 longer_none d w v r s u (c ∷ x) l k e f = let n = sym (l c x s f) ∙ ap (token_of d) (sym e) ∙ k in absurd cc
 
-pub one_token : (d : Bool) (text : List ℕ) (u v : Token) (r s : List ℕ) → Stands d text u r → Stands d text v s → (u ≡ v) × (r ≡ s)
+pub one_token : (d : Bool) (text : List ℕ) (u v : Token) (r s : List ℕ) → ComesFirst d text u r → ComesFirst d text v s → (u ≡ v) × (r ≡ s)
 one_token d text u v r s f g = go (words (compare f.word g.word r s (sym f.parts ∙ g.parts)))
   where
     words : ((x : List ℕ) × (g.word ≡ f.word ++ x) × (r ≡ x ++ s)) ⊎ ((x : List ℕ) × (f.word ≡ g.word ++ x) × (s ≡ x ++ r)) → (f.word ≡ g.word) × (r ≡ s)
@@ -252,7 +252,7 @@ number_some w u e = go (list_all is_ascii_digit w) (nat_le (numeral w) greatest)
     go true false k l h = absurd cc
     go false b k l h = absurd cc
 
-number_front : (d : Bool) (text rest : List ℕ) (u : Token) → begins_digit text ≡ true → Stands d text u rest → NumberFront text rest
+number_front : (d : Bool) (text rest : List ℕ) (u : Token) → begins_digit text ≡ true → ComesFirst d text u rest → NumberFront text rest
 number_front d text rest u h s = go s.word s.parts s.spells
   where
     go : (w : List ℕ) → text ≡ w ++ rest → token_of d w ≡ Some u → NumberFront text rest
@@ -274,7 +274,7 @@ map_some : (o : Option (List ℕ)) (u : Token) → option_map t.Text o ≡ Some 
 map_some None u e = absurd cc
 map_some (Some m) u e = (m, refl)
 
-text_front : (d : Bool) (text rest : List ℕ) (u : Token) → first_is is_quote text ≡ true → Stands d text u rest → TextFront text rest
+text_front : (d : Bool) (text rest : List ℕ) (u : Token) → first_is is_quote text ≡ true → ComesFirst d text u rest → TextFront text rest
 text_front d text rest u h s = go s.word s.parts s.spells
   where
     go : (w : List ℕ) → text ≡ w ++ rest → token_of d w ≡ Some u → TextFront text rest
@@ -348,7 +348,7 @@ token_either true (c ∷ w) h = go (is_ascii_digit c) (is_name_start c) refl ref
     go false true e f = token_name true c w f ∙ name_either (c ∷ w) (sym (token_name false c w f) ∙ h)
     go false false e f = past_name true c w e f ∙ sym (past_name false c w e f) ∙ h
 
-no_slash : (d : Bool) (text rest : List ℕ) (u : Token) → BeginsSlash text → Stands d text u rest → ⊥
+no_slash : (d : Bool) (text rest : List ℕ) (u : Token) → BeginsSlash text → ComesFirst d text u rest → ⊥
 no_slash d text rest u b s = go s.word s.parts s.spells
   where
     go : (w : List ℕ) → text ≡ w ++ rest → token_of d w ≡ Some u → ⊥
@@ -359,30 +359,30 @@ no_slash d text rest u b s = go s.word s.parts s.spells
         let n = ap (λ (z : ℕ). token_of d (z ∷ w)) (sym h) ∙ e in
         let m : None ≡ Some u = n in cc
 
-no_fraction : (d : Bool) (text rest : List ℕ) (u : Token) → BeginsFraction text → Stands d text u rest → ⊥
+no_fraction : (d : Bool) (text rest : List ℕ) (u : Token) → BeginsFraction text → ComesFirst d text u rest → ⊥
 no_fraction d text rest u b s =
     let f = number_front d text rest u (ap begins_digit b.parts ∙ numeral_first b.digits b.rest b.are_digits) s in
     let same = one_run is_ascii_digit f.word b.digits rest b.rest (sym f.parts ∙ b.parts) f.digits (numeral_all b.digits b.are_digits) (ends_parts rest f.ends).0 (fraction_no_digit b.rest b.fraction) in
     let n = sym (ends_parts rest f.ends).1 ∙ ap begins_fraction same.1 ∙ b.fraction in
     cc
 
-no_large : (d : Bool) (text rest : List ℕ) (u : Token) → BeginsLarge text → Stands d text u rest → ⊥
+no_large : (d : Bool) (text rest : List ℕ) (u : Token) → BeginsLarge text → ComesFirst d text u rest → ⊥
 no_large d text rest u b s =
     let f = number_front d text rest u (ap begins_digit b.parts ∙ numeral_first b.digits b.rest b.are_digits) s in
     let same = one_run is_ascii_digit f.word b.digits rest b.rest (sym f.parts ∙ b.parts) f.digits (numeral_all b.digits b.are_digits) (ends_parts rest f.ends).0 (ends_parts b.rest b.whole).0 in
     let n = sym f.small ∙ ap (λ (z : List ℕ). nat_le (numeral z) greatest) same.0 ∙ lt-leb (numeral b.digits) greatest b.large in
     cc
 
-no_quoted : (d : Bool) (text rest : List ℕ) (u : Token) (on : ℕ) → QuotedFault text on → Stands d text u rest → ⊥
+no_quoted : (d : Bool) (text rest : List ℕ) (u : Token) (on : ℕ) → QuotedFault text on → ComesFirst d text u rest → ⊥
 no_quoted d text rest u on g s = text_no_fault text rest on (text_front d text rest u (ap (first_is is_quote) g.parts ∙ g.quoted) s) g
 
-no_misspelled : (d : Bool) (text rest : List ℕ) (u : Token) (on : ℕ) → IsMisspelled text on → Stands d text u rest → ⊥
+no_misspelled : (d : Bool) (text rest : List ℕ) (u : Token) (on : ℕ) → IsMisspelled text on → ComesFirst d text u rest → ⊥
 no_misspelled d text rest u on (inl b) s = no_large d text rest u b.1 s
 no_misspelled d text rest u on (inr (inl b)) s = let n = sym s.spells ∙ token_either d s.word (b.1.none s.word rest s.parts) in cc
 no_misspelled d text rest u on (inr (inr (inl b))) s = no_quoted d text rest u on (bad_escape text on b) s
 no_misspelled d text rest u on (inr (inr (inr b))) s = no_quoted d text rest u on (unclosed text on b) s
 
-pub token_no_fault : (d : Bool) (text rest : List ℕ) (u : Token) (byte : ℕ) (f : ExprFault) (p : ℕ) → Stands d text u rest → IsFaultAt byte text f p → ⊥
+pub token_no_fault : (d : Bool) (text rest : List ℕ) (u : Token) (byte : ℕ) (f : ExprFault) (p : ℕ) → ComesFirst d text u rest → IsFaultAt byte text f p → ⊥
 token_no_fault d text rest u byte (BadExpression n) p s b = no_misspelled d text rest u b.1 b.3 s
 token_no_fault d text rest u byte (NotInProfile Slash) p s b = no_slash d text rest u b.1 s
 token_no_fault d text rest u byte (NotInProfile Number) p s b = no_fraction d text rest u b.1 s

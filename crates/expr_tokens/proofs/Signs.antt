@@ -7,7 +7,7 @@ use Rattle.std.proofs.lemmas.Bool.{eqb-true, eq-eqb}
 use Rattle.std.proofs.lemmas.Slice.Eq.{bytes_eq-Decides}
 use Rattle.expr_tokens.specs.declared.token.Token.{Token}
 use Rattle.expr_tokens.specs.Token.{signs, word_in}
-use Rattle.expr_tokens.specs.Scanning.{begins_with, first_in}
+use Rattle.expr_tokens.specs.Working.Scanning.{begins_with, first_in}
 use Rattle.expr_tokens.proofs.Runs.{and_true}
 
 -- what is behind the word, where the text begins with it

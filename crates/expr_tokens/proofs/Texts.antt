@@ -4,7 +4,7 @@ use Rattle.std.specs.Prelude.{encode_utf8}
 use Rattle.std.proofs.lemmas.Bool.{eqb-true, ne_eqb, eq-eqb}
 use Rattle.std.proofs.lemmas.List.{take_all}
 use Rattle.expr_tokens.specs.Quoted.{meaning, said, letters, letter_in, coded, coded_at, then_rest, escape_at, before, meant, closed, unquoted, escaped, escaped_code}
-use Rattle.expr_tokens.specs.Scanning.{IsInside, ClosesAt, FailsAt}
+use Rattle.expr_tokens.specs.Working.Scanning.{IsInside, ClosesAt, FailsAt}
 
 pub meaning_said : (w : List ℕ) → IsSome (meaning w) → meaning w ≡ Some (said w)
 meaning_said w h = go (meaning w) refl h

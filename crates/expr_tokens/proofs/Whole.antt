@@ -10,13 +10,13 @@ use Rattle.expr_tokens.specs.declared.fault.Excluded.TheVariants.{Slash, Number,
 use Rattle.expr_tokens.specs.declared.token.Token.{Token}
 use Rattle.expr_tokens.specs.Words.{is_blank, past_blanks, is_numeral}
 use Rattle.expr_tokens.specs.Token.{token_of}
-use Rattle.expr_tokens.specs.Spelling.{Stands, Begins, is_dot, most_bytes, SpellsTokens, PlaceAfter, ArePlaces}
+use Rattle.expr_tokens.specs.Spelling.{ComesFirst, Begins, is_dot, most_bytes, SpellsTokens, PlaceAfter, ArePlaces}
 use Rattle.expr_tokens.specs.Faults.{IsFaultAt, IsMisspelled, TokenFault, IsEarliest}
-use Rattle.expr_tokens.specs.Scanning.{IsFaultFrom, capped}
+use Rattle.expr_tokens.specs.Working.Scanning.{IsFaultFrom, capped}
 use Rattle.expr_tokens.proofs.Same.{one_token, token_no_fault, one_fault, QuotedFault, bad_escape, unclosed}
 
 -- a token takes at least a byte
-pub stands_shorter : (d : Bool) (text : List ℕ) (u : Token) (rest : List ℕ) → Stands d text u rest → length rest < length text
+pub stands_shorter : (d : Bool) (text : List ℕ) (u : Token) (rest : List ℕ) → ComesFirst d text u rest → length rest < length text
 stands_shorter d text u rest s = go s.word s.parts s.spells
   where
     go : (w : List ℕ) → text ≡ w ++ rest → token_of d w ≡ Some u → length rest < length text
@@ -77,7 +77,7 @@ fault_place byte text (NotInProfile Number) p b = let z = b.0 in (omega arith, o
 fault_place byte text (NotInProfile Bracket) p b = absurd b
 fault_place byte text NoMemory p b = absurd b
 
-stands_none : (d : Bool) (text : List ℕ) (u : Token) (rest : List ℕ) → Stands d text u rest → text ≡ [] → ⊥
+stands_none : (d : Bool) (text : List ℕ) (u : Token) (rest : List ℕ) → ComesFirst d text u rest → text ≡ [] → ⊥
 stands_none d text u rest s e = let k = stands_shorter d text u rest s in let n : length text ≡ 0 = ap length e in omega arith
 
 -- one list of tokens
@@ -98,7 +98,7 @@ one_list text us vs f g = same_list false us vs text f.rest g.rest f.begins g.be
 
 no_later : (d : Bool) (us vs : List Token) (text r s : List ℕ) (byte : ℕ) (f : ExprFault) (p : ℕ) → Begins d us text r → Begins d vs text s → IsFaultAt byte (past_blanks s) f p → length (past_blanks s) ≤ length (past_blanks r)
 no_later d [] vs text r s byte f p a b x = subst (λ (z : List ℕ). length (past_blanks s) ≤ length (past_blanks z)) a (begins_shorter d vs text s b)
-no_later d (u ∷ us) [] text r s byte f p a b x = absurd (token_no_fault d (past_blanks s) a.0 u byte f p (subst (λ (z : List ℕ). Stands d (past_blanks z) u a.0) b a.1) x)
+no_later d (u ∷ us) [] text r s byte f p a b x = absurd (token_no_fault d (past_blanks s) a.0 u byte f p (subst (λ (z : List ℕ). ComesFirst d (past_blanks z) u a.0) b a.1) x)
 no_later d (u ∷ us) (v ∷ vs) text r s byte f p a b x =
     let one = one_token d (past_blanks text) u v a.0 b.0 a.1 b.1 in
     let b' : Begins (is_dot u) vs a.0 s = subst (λ (z : List ℕ). Begins (is_dot u) vs z s) (sym one.1) (subst (λ (z : Token). Begins (is_dot z) vs b.0 s) (sym one.0) b.2) in
@@ -106,8 +106,8 @@ no_later d (u ∷ us) (v ∷ vs) text r s byte f p a b x =
 
 same_rest : (d : Bool) (us vs : List Token) (text r s : List ℕ) (a b : ℕ) (f g : ExprFault) (p q : ℕ) → Begins d us text r → Begins d vs text s → IsFaultAt a (past_blanks r) f p → IsFaultAt b (past_blanks s) g q → r ≡ s
 same_rest d [] [] text r s a b f g p q x y h k = sym x ∙ y
-same_rest d [] (v ∷ vs) text r s a b f g p q x y h k = absurd (token_no_fault d (past_blanks r) y.0 v a f p (subst (λ (z : List ℕ). Stands d (past_blanks z) v y.0) x y.1) h)
-same_rest d (u ∷ us) [] text r s a b f g p q x y h k = absurd (token_no_fault d (past_blanks s) x.0 u b g q (subst (λ (z : List ℕ). Stands d (past_blanks z) u x.0) y x.1) k)
+same_rest d [] (v ∷ vs) text r s a b f g p q x y h k = absurd (token_no_fault d (past_blanks r) y.0 v a f p (subst (λ (z : List ℕ). ComesFirst d (past_blanks z) v y.0) x y.1) h)
+same_rest d (u ∷ us) [] text r s a b f g p q x y h k = absurd (token_no_fault d (past_blanks s) x.0 u b g q (subst (λ (z : List ℕ). ComesFirst d (past_blanks z) u x.0) y x.1) k)
 same_rest d (u ∷ us) (v ∷ vs) text r s a b f g p q x y h k =
     let one = one_token d (past_blanks text) u v x.0 y.0 x.1 y.1 in
     let y' : Begins (is_dot u) vs x.0 s = subst (λ (z : List ℕ). Begins (is_dot u) vs z s) (sym one.1) (subst (λ (z : Token). Begins (is_dot z) vs y.0 s) (sym one.0) y.2) in
@@ -152,8 +152,8 @@ ends_dot_last : (d : Bool) (us : List Token) (u : Token) → ends_dot d (us ++ u
 ends_dot_last d [] u = refl
 ends_dot_last d (v ∷ us) u = ends_dot_last (is_dot v) us u
 
-begins_last : (d : Bool) (us : List Token) (text behind after : List ℕ) (u : Token) → Begins d us text behind → Stands (ends_dot d us) (past_blanks behind) u after → Begins d (us ++ u ∷ []) text after
-begins_last d [] text behind after u b s = (after, subst (λ (z : List ℕ). Stands d (past_blanks z) u after) (sym b) s, refl)
+begins_last : (d : Bool) (us : List Token) (text behind after : List ℕ) (u : Token) → Begins d us text behind → ComesFirst (ends_dot d us) (past_blanks behind) u after → Begins d (us ++ u ∷ []) text after
+begins_last d [] text behind after u b s = (after, subst (λ (z : List ℕ). ComesFirst d (past_blanks z) u after) (sym b) s, refl)
 begins_last d (v ∷ us) text behind after u b s = (b.0, b.1, begins_last (is_dot v) us b.0 behind after u b.2 s)
 
 pub record Kept (text : List ℕ) (tokens : List Token) (places rest : List ℕ) (after_dot : Bool) : Type 0 where
@@ -191,9 +191,9 @@ place_next text us ps u p k a b h =
     lt_from_ne : (i j : ℕ) → i < j + 1 → (i ≡ j → ⊥) → i < j
     lt_from_ne i j a' b' = elim (leb_tells j i) [ inl t ↦ absurd (b' (let t' = t.1 in omega arith)) | inr t ↦ t.1 ]
 
-pub kept_next : (text : List ℕ) (us : List Token) (ps rest : List ℕ) (d : Bool) (u : Token) (after : List ℕ) (p : ℕ) → Kept text us ps rest d → Stands d rest u after → p + length rest ≡ length text → Kept text (us ++ u ∷ []) (ps ++ p ∷ []) (past_blanks after) (is_dot u)
+pub kept_next : (text : List ℕ) (us : List Token) (ps rest : List ℕ) (d : Bool) (u : Token) (after : List ℕ) (p : ℕ) → Kept text us ps rest d → ComesFirst d rest u after → p + length rest ≡ length text → Kept text (us ++ u ∷ []) (ps ++ p ∷ []) (past_blanks after) (is_dot u)
 kept_next text us ps rest d u after p k s h =
-    let s' : Stands (ends_dot false us) (past_blanks k.behind) u after = subst (λ (z : Bool). Stands z (past_blanks k.behind) u after) k.dot (subst (λ (z : List ℕ). Stands d z u after) k.rest_is s) in
+    let s' : ComesFirst (ends_dot false us) (past_blanks k.behind) u after = subst (λ (z : Bool). ComesFirst z (past_blanks k.behind) u after) k.dot (subst (λ (z : List ℕ). ComesFirst d z u after) k.rest_is s) in
     let b : PlaceAfter text us p = record { rest = k.behind; begins = k.begins; place_is = subst (λ (z : List ℕ). p + length z ≡ length text) k.rest_is h } in
     record {
       behind = after;
@@ -206,7 +206,7 @@ kept_next text us ps rest d u after p k s h =
       };
     }
 
-pub kept_smaller : (d : Bool) (rest : List ℕ) (u : Token) (after : List ℕ) → Stands d rest u after → length (past_blanks after) < length rest
+pub kept_smaller : (d : Bool) (rest : List ℕ) (u : Token) (after : List ℕ) → ComesFirst d rest u after → length (past_blanks after) < length rest
 kept_smaller d rest u after s = let a = stands_shorter d rest u after s in let b = past_shorter after in omega arith
 
 -- the length is the earliest fault, where no token's fault can stand before

@@ -4,10 +4,10 @@ use Rattle.expr_tokens.specs.declared.fault.ExprFault.{ExprFault}
 use Rattle.expr_tokens.specs.declared.fault.ExprFault.TheVariants.{NoMemory}
 use Rattle.expr_tokens.specs.declared.token.Token.{Token}
 
--- it is these tokens, as the answer holds them, unless memory is refused
-abbrev pub AnswersTokens : {A : Type 0} → (A → List Token) → List Token → Result A ExprFault → Type 0
-AnswersTokens held us (Ok found) = held found ≡ us
-AnswersTokens held us (Err fault) = fault ≡ NoMemory
+-- the answer, as it is seen, is this one, unless memory is refused
+abbrev pub AnswersThis : {A X E : Type 0} → E → (A → X) → X → Result A E → Type 0
+AnswersThis no_memory see x (Ok found) = see found ≡ x
+AnswersThis no_memory see x (Err fault) = fault ≡ no_memory
 
 -- it is this fault, unless memory is refused
 abbrev pub AnswersFault : {A : Type 0} → ExprFault → Result A ExprFault → Type 0

@@ -5,4 +5,4 @@ pub mod Quoted
 pub mod Spelling
 pub mod Token
 pub mod Words
-pub mod Scanning
+pub mod Working

@@ -81,6 +81,11 @@ abbrev mutual
   escaped_code q (a ∷ b ∷ c ∷ d ∷ cs) = meant (coded a b c d) (unquoted q cs)
   escaped_code q _ = None
 
+-- where an escape was found, its character, and then what the rest means
+abbrev pub meant_behind : ℕ → Option (ℕ × List ℕ) → Option (List ℕ)
+meant_behind q None = None
+meant_behind q (Some found) = before (encode_utf8 found.0) (unquoted q found.1)
+
 -- the bytes that a text in quotes means, where it is one (this project's profile)
 abbrev pub meaning : List ℕ → Option (List ℕ)
 meaning [] = None

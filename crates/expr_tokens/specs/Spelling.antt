@@ -15,7 +15,7 @@ IsWhole (t.Number n) rest = ends_number rest ≡ true
 IsWhole _ rest = ⊤
 
 -- the token stands at the front of the text, the longest that fits, and then the rest (this project's profile)
-pub record Stands (after_dot : Bool) (text : List ℕ) (u : Token) (rest : List ℕ) : Type 0 where
+pub record ComesFirst (after_dot : Bool) (text : List ℕ) (u : Token) (rest : List ℕ) : Type 0 where
   pub word : List ℕ
   pub parts : text ≡ word ++ rest
   pub spells : token_of after_dot word ≡ Some u
@@ -30,7 +30,7 @@ is_dot _ = false
 -- the text is the spellings of the tokens, with blanks before each, and then the rest (this project's profile)
 abbrev pub Begins : Bool → List Token → List ℕ → List ℕ → Type 0
 Begins after_dot [] text rest = text ≡ rest
-Begins after_dot (u ∷ us) text rest = (behind : List ℕ) × Stands after_dot (past_blanks text) u behind × Begins (is_dot u) us behind rest
+Begins after_dot (u ∷ us) text rest = (behind : List ℕ) × ComesFirst after_dot (past_blanks text) u behind × Begins (is_dot u) us behind rest
 
 -- the most bytes of a text (this project's profile)
 abbrev pub most_bytes : ℕ

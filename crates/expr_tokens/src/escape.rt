@@ -1,7 +1,7 @@
 //! Escapes in quoted texts, and where a text ends.
 ghost use Rattle.std.specs.Prelude.{◌≡◌, ◌+◌, ◌<◌, true, IfSome, IfOk, IfErr};
 ghost use Rattle.expr_tokens.specs.Quoted.{is_quote, letters, letter_in, hex_digit, coded, coded_at, escape_at};
-ghost use Rattle.expr_tokens.specs.Scanning.{seen, ClosesAt, FailsAt};
+ghost use Rattle.expr_tokens.specs.Working.Scanning.{seen, ClosesAt, FailsAt};
 
 pub(crate) fn is_quote(byte: u8) -> bool
     ensures { result ≡ is_quote byte }

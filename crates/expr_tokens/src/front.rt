@@ -4,8 +4,8 @@ ghost use Rattle.std.specs.Char.{is_ascii_digit};
 ghost use Rattle.expr_tokens.specs.Words.{is_blank, past_blanks, is_name_start, is_name_byte, numeral, greatest, first_is, begins_digit, begins_fraction};
 ghost use Rattle.expr_tokens.specs.Quoted.{is_quote as is_quote_byte};
 ghost use Rattle.expr_tokens.specs.Token.{named, signs};
-ghost use Rattle.expr_tokens.specs.Spelling.{Stands};
-ghost use Rattle.expr_tokens.specs.Scanning.{IsRun, IsFaultFrom, begins_name, is_other, first_in};
+ghost use Rattle.expr_tokens.specs.Spelling.{ComesFirst};
+ghost use Rattle.expr_tokens.specs.Working.Scanning.{IsRun, IsFaultFrom, begins_name, is_other, first_in};
 
 use crate::escape::{closing, is_quote};
 use crate::fault::{Excluded, ExprFault};
@@ -31,7 +31,7 @@ pub(crate) fn front<'a>(
 ) -> Result<(Token<'a>, &'a str), ExprFault>
     requires some { 0 < length text.now }
     requires fits { place + length text.now < 2 ^ 64 }
-    ensures ok { IfOk result (λ x. Stands after_dot text.now x.0 x.1.now) }
+    ensures ok { IfOk result (λ x. ComesFirst after_dot text.now x.0 x.1.now) }
     ensures err { IfErr result (λ fault. IsFaultFrom place text.now fault) }
 {
     let first = text.as_bytes()[0];
@@ -55,7 +55,7 @@ pub(crate) fn front<'a>(
 
 fn number<'a>(place: usize, text: &'a str) -> Result<(Token<'a>, &'a str), ExprFault>
     requires { begins_digit text.now ≡ true }
-    ensures ok { IfOk result (λ x. (after_dot : Bool) → Stands after_dot text.now x.0 x.1.now) }
+    ensures ok { IfOk result (λ x. (after_dot : Bool) → ComesFirst after_dot text.now x.0 x.1.now) }
     ensures err { IfErr result (λ fault. IsFaultFrom place text.now fault) }
 {
     let (digits, rest) = text.split_at(digit_run(text.as_bytes()));
@@ -85,7 +85,7 @@ fn value_of(digits: &[u8]) -> Option<u64>
 
 fn name<'a>(after_dot: bool, text: &'a str) -> (Token<'a>, &'a str)
     requires { begins_name text.now ≡ true }
-    ensures { Stands after_dot text.now result.0 result.1.now }
+    ensures { ComesFirst after_dot text.now result.0 result.1.now }
 {
     let (word, rest) = text.split_at(name_run(text.as_bytes()));
     (named(after_dot, word), rest)
@@ -109,7 +109,7 @@ fn named<'a>(after_dot: bool, word: &'a str) -> Token<'a>
 fn quoted<'a>(place: usize, text: &'a str) -> Result<(Token<'a>, &'a str), ExprFault>
     requires quote { first_is is_quote_byte text.now ≡ true }
     requires fits { place + length text.now < 2 ^ 64 }
-    ensures ok { IfOk result (λ x. (after_dot : Bool) → Stands after_dot text.now x.0 x.1.now) }
+    ensures ok { IfOk result (λ x. (after_dot : Bool) → ComesFirst after_dot text.now x.0 x.1.now) }
     ensures err { IfErr result (λ fault. IsFaultFrom place text.now fault) }
 {
     let bytes = text.as_bytes();
@@ -126,7 +126,7 @@ fn quoted<'a>(place: usize, text: &'a str) -> Result<(Token<'a>, &'a str), ExprF
 
 fn capture<'a>(place: usize, text: &'a str) -> Result<(Token<'a>, &'a str), ExprFault>
     requires { first_is (λ c. c == 36) text.now ≡ true }
-    ensures ok { IfOk result (λ x. (after_dot : Bool) → Stands after_dot text.now x.0 x.1.now) }
+    ensures ok { IfOk result (λ x. (after_dot : Bool) → ComesFirst after_dot text.now x.0 x.1.now) }
     ensures err { IfErr result (λ fault. IsFaultFrom place text.now fault) }
 {
     let (_, behind) = text.split_at(1);
@@ -139,7 +139,7 @@ fn capture<'a>(place: usize, text: &'a str) -> Result<(Token<'a>, &'a str), Expr
 
 fn sign<'a>(place: usize, text: &'a str) -> Result<(Token<'a>, &'a str), ExprFault>
     requires { first_is is_other text.now ≡ true }
-    ensures ok { IfOk result (λ x. (after_dot : Bool) → Stands after_dot text.now x.0 x.1.now) }
+    ensures ok { IfOk result (λ x. (after_dot : Bool) → ComesFirst after_dot text.now x.0 x.1.now) }
     ensures err { IfErr result (λ fault. IsFaultFrom place text.now fault) }
 {
     let Some((token, bytes)) = sign_at(text.as_bytes()) else {

@@ -21,7 +21,7 @@ pub use fault::{Excluded, ExprFault};
 pub use limits::{MAX_EXPRESSION_BYTES, MAX_NUMBER, the_limits};
 pub use name::Name;
 pub use operator::Operator;
-pub use quoted::Quoted;
+pub use quoted::{Quoted, one_meaning_of_escapes};
 pub use scanner::{Scanned, one_fault, one_list, scan, tokens};
 pub use text::Text;
 pub use token::Token;

@@ -1,7 +1,7 @@
 //! A quoted text, as it is written.
-ghost use Rattle.std.specs.Prelude.{◌≡◌, Some, IfOk, IsSome, string_bytes};
-ghost use Rattle.expr_tokens.specs.Quoted.{meaning, said};
-ghost use Rattle.expr_tokens.specs.Scanning.{IsRun, is_plain};
+ghost use Rattle.std.specs.Prelude.{◌≡◌, ℕ, List, Some, IfOk, IsSome, string_bytes};
+ghost use Rattle.expr_tokens.specs.Quoted.{meaning, said, escaped, escape_at, meant_behind};
+ghost use Rattle.expr_tokens.specs.Working.Scanning.{IsRun, is_plain};
 
 use crate::escape::escape;
 use crate::text::Text;
@@ -66,6 +66,12 @@ fn resolved(alloc: Global, written: &str) -> Result<String, AllocError>
         rest = behind.split_at(behind.len() - after.len()).1;
     }
 }
+
+/// An escape means within a text what it means alone: so the meaning of a text, and a fault at an
+/// escape, speak of the same escapes.
+pub fn one_meaning_of_escapes()
+    ensures { (quote : ℕ) (behind : List ℕ) → escaped quote behind ≡ meant_behind quote (escape_at behind) }
+{}
 
 // How many bytes come first that are neither the quote nor a backslash.
 fn plain_run(quote: u8, bytes: &[u8]) -> usize

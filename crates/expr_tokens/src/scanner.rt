@@ -5,8 +5,8 @@ ghost use Rattle.expr_tokens.specs.declared.fault.ExprFault.TheVariants.{NoMemor
 ghost use Rattle.expr_tokens.specs.declared.token.Token.{Token};
 ghost use Rattle.expr_tokens.specs.Spelling.{SpellsTokens, ArePlaces, is_dot, most_bytes};
 ghost use Rattle.expr_tokens.specs.Faults.{IsEarliest};
-ghost use Rattle.expr_tokens.specs.Answers.{AnswersTokens, AnswersFault};
-ghost use Rattle.expr_tokens.specs.Scanning.{capped};
+ghost use Rattle.expr_tokens.specs.Answers.{AnswersThis, AnswersFault};
+ghost use Rattle.expr_tokens.specs.Working.Scanning.{capped};
 
 use crate::fault::ExprFault;
 use crate::front::{front, past_blanks};
@@ -30,7 +30,7 @@ pub fn tokens<'a>(alloc: Global, text: &'a str) -> Result<Vec<Token<'a>>, ExprFa
     // What is answered is spelled.
     ensures found { IfOk result (λ found. SpellsTokens text.now found.items) }
     // What is spelled is answered, unless memory is refused.
-    ensures only { (us : List Token) → SpellsTokens text.now us → AnswersTokens (λ found. found.items) us result }
+    ensures only { (us : List Token) → SpellsTokens text.now us → AnswersThis NoMemory (λ found. found.items) us result }
     // What is refused has this fault as its earliest, unless memory is refused.
     ensures fault { IfErr result (λ fault. (fault ≡ NoMemory) ⊎ IsEarliest text.now fault) }
     // The earliest fault is answered, unless memory is refused.

@@ -29,8 +29,8 @@ use Rattle.tree_model.proofs.Lookups.{same_tree, get-null}
 use Rattle.tree_model.proofs.Existence.{by_null}
 use Rattle.tree_model.proofs.Grafts.{find-append, child_of, get-graft-root}
 use Rattle.json_tree.specs.Json.{of_json}
-use Rattle.json_tree.specs.Levels.{levels_of_items}
-use Rattle.json_tree.specs.Members.{members_at, children_of}
+use Rattle.json_tree.specs.Working.Levels.{levels_of_items}
+use Rattle.json_tree.specs.Working.Members.{members_at, children_of}
 use Rattle.json_tree.proofs.Lists.{all_by_recursion, all_from_recursion, weaker}
 use Rattle.json_tree.proofs.Members.{find-under, graft-children_of, of_json-array}
 use Rattle.json_tree.proofs.Building.{children_have_room, levels-members_at}

@@ -16,8 +16,8 @@ use Rattle.tree_model.specs.Children.{graft}
 use Rattle.tree_model.proofs.Existence.{by_null, non_null-null, non_null-some}
 use Rattle.tree_model.proofs.Grafts.{lone≢null}
 use Rattle.json_tree.specs.Json.{are_lawful_items, are_lawful_members, pairs_of, of_json}
-use Rattle.json_tree.specs.Levels.{raised, levels, levels_of_items, levels_of_members}
-use Rattle.json_tree.specs.Members.{members_at, children_of}
+use Rattle.json_tree.specs.Working.Levels.{raised, levels, levels_of_items, levels_of_members}
+use Rattle.json_tree.specs.Working.Members.{members_at, children_of}
 use Rattle.json_tree.proofs.Lists.{drop_next}
 use Rattle.json_tree.proofs.Heights.{depth-of_json}
 use Rattle.json_tree.proofs.Members.{EachMember, each_child, children-null, children-some}

@@ -7,7 +7,7 @@ use Rattle.serde_json.specs.declared.value.Value.{Value}
 use Rattle.serde_json.proofs.Views.{Entry}
 use Rattle.json_tree.specs.declared.json.TheConstants.{MANY_LEVELS}
 use Rattle.json_tree.specs.Json.{are_lawful_items, are_lawful_members}
-use Rattle.json_tree.specs.Levels.{raised, levels_of_items, levels_of_members}
+use Rattle.json_tree.specs.Working.Levels.{raised, levels_of_items, levels_of_members}
 
 -- what is left is lawful just where all is, and the most levels so far and there are those of all, as far as they are counted
 pub record Ahead (most : ℕ) (lawful_rest lawful_all : Bool) (rest all : ℕ) : Type 0 where

@@ -12,7 +12,7 @@ use Rattle.tree_model.specs.Tree.{Tree}
 use Rattle.tree_model.proofs.Orders.{paths_total, path_eq, path_eq-self, same_path}
 use Rattle.tree_model.proofs.Existence.{length-le-depth, depth_le}
 use Rattle.json_tree.specs.Json.{whole_of, pairs_of, pairs_of_items, pairs_of_members, of_json}
-use Rattle.json_tree.specs.Levels.{raised, levels, levels_of_items, levels_of_members}
+use Rattle.json_tree.specs.Working.Levels.{raised, levels, levels_of_items, levels_of_members}
 
 abbrev Pairs : Type 0
 Pairs = List (Path × Primitive)

@@ -24,7 +24,7 @@ use Rattle.tree_model.proofs.Lookups.{same_tree, get-null}
 use Rattle.tree_model.proofs.Existence.{by_null}
 use Rattle.tree_model.proofs.Grafts.{find-append}
 use Rattle.json_tree.specs.Json.{pairs_of, pairs_of_items, pairs_of_members, of_json}
-use Rattle.json_tree.specs.Members.{members_at, children_of}
+use Rattle.json_tree.specs.Working.Members.{members_at, children_of}
 
 -- ---- which children the members make
 

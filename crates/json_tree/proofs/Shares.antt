@@ -10,7 +10,7 @@ use Rattle.tree_model.specs.Children.{graft}
 use Rattle.tree_model.proofs.Counts.{count-graft}
 use Rattle.tree_model.proofs.Grafts.{depth-graft}
 use Rattle.json_tree.specs.Node.{tree_of, AreLawfulChildren, IsNode}
-use Rattle.json_tree.specs.Share.{deepest, IsSizeOf, Exchanges}
+use Rattle.json_tree.specs.Working.Share.{deepest, IsSizeOf, Exchanges}
 use Rattle.json_tree.specs.declared.share.Exchange.{Exchange}
 use Rattle.json_tree.specs.declared.node.Kind.{Kind}
 use Rattle.json_tree.specs.declared.node.Kind.TheVariants.{Parent}

@@ -24,7 +24,7 @@ use Rattle.tree_model.proofs.Lookups.{get-null}
 use Rattle.tree_model.proofs.Existence.{depth-null}
 use Rattle.tree_model.proofs.Grafts.{get-lone-root, get-graft-root, entries-children-graft}
 use Rattle.json_tree.specs.Json.{whole_of, is_lawful, are_lawful_members, of_json, data_of, members_of, object_of, value_within, value_of}
-use Rattle.json_tree.specs.Members.{children_of}
+use Rattle.json_tree.specs.Working.Members.{children_of}
 use Rattle.json_tree.proofs.Lists.{take_next, weaker}
 use Rattle.json_tree.proofs.Members.{children-some, graft-children_of}
 use Rattle.json_tree.proofs.Children.{each_subtree, children_depth, depth-sub, no_children, graft-children, lone-root, IsLawful-sub, child_key}

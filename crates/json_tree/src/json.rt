@@ -9,8 +9,8 @@ ghost use Rattle.tree_model.specs.Tree.{null, lone, non_null};
 ghost use Rattle.tree_model.specs.Children.{graft};
 ghost use Rattle.json_tree.specs.Leaf.{primitive_of};
 ghost use Rattle.json_tree.specs.Json.{whole_of, is_lawful, are_lawful_items, are_lawful_members, of_json, data_of, members_of, value_of};
-ghost use Rattle.json_tree.specs.Levels.{levels, levels_of_items, levels_of_members, raised};
-ghost use Rattle.json_tree.specs.Members.{members_at, children_of};
+ghost use Rattle.json_tree.specs.Working.Levels.{levels, levels_of_items, levels_of_members, raised};
+ghost use Rattle.json_tree.specs.Working.Members.{members_at, children_of};
 ghost use Rattle.json_tree.specs.declared.json.ValueFault.TheVariants.{NoMemory as no_memory};
 
 use crate::key::{Key, is_lawful_key};
@@ -233,7 +233,7 @@ fn parent(children: Vec<(Key, Node)>) -> Result<Option<Node>, NoMemory>
         return Ok(None);
     }
     let node = Node::of_children(children)?;
-    node.is_there();
+    node.law();
     Ok(Some(node))
 }
 

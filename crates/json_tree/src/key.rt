@@ -82,8 +82,8 @@ impl Key {
         self.text().cmp(text)
     }
 
-    // The key of a text that is known to be lawful.
-    pub(crate) fn of_lawful(alloc: Global, text: &str) -> Result<Key, NoMemory>
+    /// The key of a text that is known to be lawful, in one growth and without a test.
+    pub fn of_lawful(alloc: Global, text: &str) -> Result<Key, NoMemory>
         requires { is_key text.now ≡ true }
         ensures { IfOk result (λ key. key ≡ text.now) }
     {

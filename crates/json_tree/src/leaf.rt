@@ -116,7 +116,7 @@ impl Leaf {
     }
 
     /// Every leaf lies within the limits.
-    pub fn is_within_limits(&self)
+    pub fn law(&self)
         ensures { is_primitive (primitive_of self.now) ≡ true }
     {
         match self {

@@ -51,7 +51,7 @@ impl Model for Node {
 
     ghost size = { depth_of };
 
-    ghost use Rattle.json_tree.specs.NodeFalls.{falls};
+    ghost use Rattle.json_tree.specs.Working.NodeFalls.{falls};
 
     ghost size_decreases = { λ node h. falls node.kind node.depth node.count h };
 }
@@ -62,7 +62,7 @@ impl Node {
         ensures succeeds { IsOk result }
         ensures tree { IfOk result (λ node. node ≡ lone (primitive_of leaf)) }
     {
-        leaf.is_within_limits();
+        leaf.law();
         Ok(Node {
             kind: Kind::Primitive(leaf),
             depth: 0,
@@ -172,7 +172,7 @@ impl Node {
     }
 
     /// What holds of every node: something stands there, and all of it is lawful.
-    pub fn is_there(&self)
+    pub fn law(&self)
         ensures some { self.now ≢ null }
         ensures lawful { IsLawful self.now }
         ensures depth { depth self.now ≤ MAX_DEPTH }
@@ -195,7 +195,7 @@ pub(crate) fn sizes_of(children: &Vec<(Key, Node)>) -> (usize, usize)
     let mut count = 1usize;
     for child in children {
         child.0.text();
-        child.1.is_there();
+        child.1.law();
         depth = depth.max(child.1.depth() + 1);
         count = count.saturating_add(child.1.count());
     }

@@ -7,7 +7,7 @@ ghost use Rattle.tree_model.specs.Tree.{null};
 ghost use Rattle.tree_model.specs.Children.{graft};
 ghost use Rattle.tree_model.specs.Write.{proposed};
 ghost use Rattle.json_tree.specs.Node.{AreLawfulChildren};
-ghost use Rattle.json_tree.specs.Share.{Exchanges};
+ghost use Rattle.json_tree.specs.Working.Share.{Exchanges};
 
 use crate::key::Key;
 use crate::memory::NoMemory;
@@ -78,7 +78,7 @@ fn insert(alloc: Global, node: &mut Node, path: &[Key], value: Node) -> Result<(
         }
         [key, rest @ ..] => match &mut node.kind {
             Kind::Primitive(_) => {
-                value.is_there();
+                value.law();
                 *node = chain(alloc, path, value)?;
                 Ok(())
             }

@@ -7,7 +7,7 @@ ghost use Rattle.tree_model.specs.PathMap.{depth};
 ghost use Rattle.tree_model.specs.Tree.{Tree, null, count, IsLawful};
 ghost use Rattle.tree_model.specs.Children.{graft};
 ghost use Rattle.json_tree.specs.Node.{AreLawfulChildren};
-ghost use Rattle.json_tree.specs.Share.{deepest, IsSizeOf, Exchanges};
+ghost use Rattle.json_tree.specs.Working.Share.{deepest, IsSizeOf, Exchanges};
 
 use crate::key::Key;
 use crate::node::{Node, sizes_of};
@@ -45,7 +45,7 @@ pub(crate) fn share_of(child: &Node) -> Share
     ensures some { child.now ≢ null }
     ensures lawful { IsLawful child.now }
 {
-    child.is_there();
+    child.law();
     Share {
         depth: child.depth() + 1,
         count: child.count(),
@@ -97,7 +97,7 @@ fn is_as_deep(children: &Vec<(Key, Node)>, wanted: usize) -> bool
     ensures { OnTrue result (wanted ≤ deepest children.now.items) }
 {
     for child in children {
-        child.1.is_there();
+        child.1.law();
         if child.1.depth() + 1 == wanted {
             return true;
         }

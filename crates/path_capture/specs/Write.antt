@@ -3,6 +3,6 @@ use Rattle.std.specs.Prelude.{Option, Some, None}
 use Rattle.tree_model.specs.Tree.{Tree, null}
 
 -- the tree of an optional node: none is null, which removes
-abbrev pub tree_of : Option Tree → Tree
-tree_of None = null
-tree_of (Some t) = t
+abbrev pub tree_or_null : Option Tree → Tree
+tree_or_null None = null
+tree_or_null (Some t) = t

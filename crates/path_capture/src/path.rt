@@ -6,7 +6,7 @@ ghost use Rattle.tree_model.specs.Path.{path_cmp, is_path, is_prefix};
 ghost use Rattle.path_capture.specs.Path.{segments, printed};
 ghost use Rattle.path_capture.specs.declared.path.PathFault.TheVariants.{NoMemory as no_memory};
 
-use json_tree::{Key, KeyFault, NoMemory, is_lawful_key};
+use json_tree::{Key, NoMemory, is_lawful_key};
 use std::alloc::Global;
 use std::cmp::Ordering;
 use std::marker::Model;
@@ -155,22 +155,10 @@ fn keys_of(alloc: Global, text: &str, count: usize) -> Result<Vec<Key>, NoMemory
     let mut keys = Vec::with_capacity(alloc, count)?;
     for piece in text.split('/') {
         if !piece.is_empty() {
-            keys.push(key_of(alloc, piece)?)?;
+            keys.push(Key::of_lawful(alloc, piece)?)?;
         }
     }
     Ok(keys)
-}
-
-// The key of a text that is known to be lawful.
-fn key_of(alloc: Global, text: &str) -> Result<Key, NoMemory>
-    requires { is_key text.now ≡ true }
-    ensures { IfOk result (λ key. key ≡ text.now) }
-{
-    match Key::new(alloc, text) {
-        Ok(key) => Ok(key),
-        Err(KeyFault::NoMemory) => Err(NoMemory),
-        Err(KeyFault::BadKey) => unreachable!(),
-    }
 }
 
 fn is_prefix_of(front: &[Key], keys: &[Key]) -> bool

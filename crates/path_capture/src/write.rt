@@ -3,7 +3,7 @@ ghost use Rattle.std.specs.Prelude.{◌≡◌, ◌↔◌, ◌+◌, ◌≤◌, �
 ghost use Rattle.tree_model.specs.PathMap.{depth};
 ghost use Rattle.tree_model.specs.Tree.{null, non_null, IsLawful};
 ghost use Rattle.tree_model.specs.Write.{location, written, proposed, IsLawfulWrite};
-ghost use Rattle.path_capture.specs.Write.{tree_of};
+ghost use Rattle.path_capture.specs.Write.{tree_or_null};
 
 use crate::path::Path;
 use json_tree::{NoMemory, Node, put};
@@ -34,22 +34,22 @@ impl Model for Write {
     ghost use Rattle.std.specs.Coded.{coded×, coded_list, coded_ℕ};
     ghost use Rattle.tree_model.specs.Tree.{Tree, tree_code};
     ghost use Rattle.tree_model.specs.Write.{IsLawfulWrite};
-    ghost use Rattle.path_capture.specs.Write.{tree_of};
+    ghost use Rattle.path_capture.specs.Write.{tree_or_null};
 
     ghost Value = { List (List ℕ) × Tree };
 
     ghost coded = { coded× (coded_list (coded_list coded_ℕ)) tree_code };
 
-    ghost view = { λ write. (write.path, tree_of write.tree) };
+    ghost view = { λ write. (write.path, tree_or_null write.tree) };
 
-    ghost invariant = { λ write. IsLawfulWrite (write.path, tree_of write.tree) };
+    ghost invariant = { λ write. IsLawfulWrite (write.path, tree_or_null write.tree) };
 }
 
 impl Write {
     /// The write of this tree, or of null, at this path. It takes no memory.
     pub fn new(path: Path, tree: Option<Node>) -> Result<Write, TooDeep>
-        ensures ok { IfOk result (λ write. write ≡ (path, tree_of tree)) }
-        ensures too_deep { IsErr result ↔ (MAX_DEPTH < length path + depth (tree_of tree)) }
+        ensures ok { IfOk result (λ write. write ≡ (path, tree_or_null tree)) }
+        ensures too_deep { IsErr result ↔ (MAX_DEPTH < length path + depth (tree_or_null tree)) }
         ensures handed_back { IfErr result (λ refused. (refused.path ≡ path) × (refused.tree ≡ tree)) }
     {
         if path.keys().len() + depth_of(&tree) > MAX_DEPTH {
@@ -72,7 +72,7 @@ impl Write {
     {
         match &self.tree {
             Some(node) => {
-                node.is_there();
+                node.law();
                 Some(node)
             }
             None => None,
@@ -82,13 +82,13 @@ impl Write {
     /// Makes the write in a stored tree, in place: memory is taken only for what is new, and before
     /// anything changes. At an `Err` nothing has changed, and to remove takes none.
     pub fn make(self, alloc: Global, tree: &mut Option<Node>) -> Result<(), NoMemory>
-        ensures ok { OnOk result (tree_of tree.new ≡ proposed (tree_of tree.old) (self ∷ [])) }
+        ensures ok { OnOk result (tree_or_null tree.new ≡ proposed (tree_or_null tree.old) (self ∷ [])) }
         ensures err { OnErr result (tree.new ≡ tree.old) }
         ensures removal { written self ≡ null → IsOk result }
     {
         let Write { path, tree: value } = self;
         if let Some(node) = &value {
-            node.is_there();
+            node.law();
         }
         put(alloc, tree, path.keys(), value)
     }
@@ -96,13 +96,13 @@ impl Write {
 
 // How deep the tree of an optional node is.
 fn depth_of(tree: &Option<Node>) -> usize
-    ensures depth { result ≡ depth (tree_of tree.now) }
+    ensures depth { result ≡ depth (tree_or_null tree.now) }
     ensures within { result ≤ MAX_DEPTH }
-    ensures lawful { IsLawful (tree_of tree.now) }
+    ensures lawful { IsLawful (tree_or_null tree.now) }
 {
     match tree {
         Some(node) => {
-            node.is_there();
+            node.law();
             node.depth()
         }
         None => 0,

@@ -3,7 +3,7 @@ ghost use Rattle.std.specs.Prelude.{◌≡◌, ℕ, ◌≤◌, IfOk, OnOk, OnErr
 ghost use Rattle.std.specs.FinMap as map_of;
 ghost use Rattle.tree_model.specs.PathMap.{sub};
 ghost use Rattle.tree_model.specs.Tree.{non_null};
-ghost use Rattle.path_capture.specs.Write.{tree_of};
+ghost use Rattle.path_capture.specs.Write.{tree_or_null};
 ghost use Rattle.rtdb_core.specs.State.{opening, is_open};
 ghost use Rattle.rtdb_core.specs.Verdict.{kind_of, is_granted};
 ghost use Rattle.rtdb_core.specs.Step.{opened, written_to, Step};
@@ -36,14 +36,14 @@ impl Model for Core {
     ghost use Rattle.std.specs.Prelude.{◌≡◌, true};
     ghost use Rattle.std.specs.FinMap as map_of;
     ghost use Rattle.std.specs.Ordering.{nat_cmp};
-    ghost use Rattle.path_capture.specs.Write.{tree_of};
+    ghost use Rattle.path_capture.specs.Write.{tree_or_null};
     ghost use Rattle.rtdb_core.specs.State.{State, state_code};
 
     ghost Value = { State };
 
     ghost coded = { state_code };
 
-    ghost view = { λ core. record { tree = tree_of core.tree; rules = core.rules; sessions = map_of.from_entries core.sessions.entries } };
+    ghost view = { λ core. record { tree = tree_or_null core.tree; rules = core.rules; sessions = map_of.from_entries core.sessions.entries } };
 
     ghost invariant = { λ core. map_of.is_sorted nat_cmp core.sessions.entries ≡ true };
 }
@@ -52,7 +52,7 @@ impl Core {
     /// A database with these rules and this tree, null for None, in which no session is open. It
     /// takes no memory.
     pub fn new(alloc: Global, rules: Rules, tree: Option<Node>) -> Core
-        ensures { result ≡ opening rules (tree_of tree) }
+        ensures { result ≡ opening rules (tree_or_null tree) }
     {
         Core {
             alloc,
@@ -83,7 +83,7 @@ impl Core {
     {
         match &self.tree {
             Some(node) => {
-                node.is_there();
+                node.law();
                 Some(node)
             }
             None => None,
@@ -224,7 +224,7 @@ impl Core {
 fn node_at<'a>(root: &'a Node, path: &[Key]) -> Option<&'a Node>
     ensures { option_map (λ node. node.now) result ≡ non_null (sub root.now path.now) }
 {
-    root.is_there();
+    root.law();
     let mut node = root;
     for key in path {
         let Some(next) = node.child(key.text()) else {

@@ -19,9 +19,9 @@ use Rattle.rules_reader.specs.Part.{PartText, Pattern, is_part}
 use Rattle.rules_reader.specs.declared.rule.RuleSet.{RuleSet}
 use Rattle.rules_reader.specs.Book.{Book}
 use Rattle.rules_reader.specs.File.{objects, inner_objects, is_object, rule_set, book_of}
-use Rattle.rules_reader.specs.Inner.{parts_of}
+use Rattle.rules_reader.specs.Working.Inner.{parts_of}
 use Rattle.rules_reader.specs.Node.{grown}
-use Rattle.rules_reader.specs.NodeFalls.{get-grown-root, get-grown}
+use Rattle.rules_reader.specs.Working.NodeFalls.{get-grown-root, get-grown}
 
 pub sub-grown : (own : RuleSet) (parts : List (PartText × Book)) (part : PartText) → is_sorted key_cmp parts ≡ true → sub (grown own parts) (part ∷ []) ≡ child_of part parts
 sub-grown own parts part h = same_tree _ _ (λ q. get-sub (grown own parts) (part ∷ []) q ∙ get-grown own parts part q h)

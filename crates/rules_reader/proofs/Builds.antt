@@ -25,7 +25,7 @@ use Rattle.rules_reader.specs.declared.fault.RulesFault.TheVariants.{BadRulesJso
 use Rattle.rules_reader.specs.Part.{PartText, Pattern, texts, is_capture, is_part}
 use Rattle.rules_reader.specs.Book.{Book}
 use Rattle.rules_reader.specs.File.{listed, objects, is_object, rule_set, book_of, is_sound, faulty, captures_among, IsLeast}
-use Rattle.rules_reader.specs.Inner.{parts_of, faulty_inner}
+use Rattle.rules_reader.specs.Working.Inner.{parts_of, faulty_inner}
 use Rattle.rules_reader.specs.Place.{one_capture_at_most}
 use Rattle.rules_reader.specs.Node.{Point, text_of, books, names, IsChild}
 use Rattle.rules_reader.specs.Refusal.{Names}

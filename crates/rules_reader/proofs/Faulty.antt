@@ -18,7 +18,7 @@ use Rattle.tree_model.proofs.Orders.{keys_total, paths_total}
 use Rattle.tree_model.proofs.Paths.{prefix-append, strip-append}
 use Rattle.rules_reader.specs.Part.{PartText, Pattern, is_part}
 use Rattle.rules_reader.specs.File.{listed, objects, inner_objects, is_sound, faulty, IsLeast}
-use Rattle.rules_reader.specs.Inner.{faulty_among, faulty_inner}
+use Rattle.rules_reader.specs.Working.Inner.{faulty_among, faulty_inner}
 
 abbrev Objects : Type 0
 Objects = List (Pattern × Members)

@@ -18,7 +18,7 @@ use Rattle.tree_model.proofs.Orders.{paths_total, same_path, bytes_eq-self}
 use Rattle.path_capture.specs.Name.{is_name}
 use Rattle.rules_reader.specs.Part.{PartText, Pattern, is_capture, is_part}
 use Rattle.rules_reader.specs.File.{listed, is_object, objects, inner_objects, rule_set, book_of, is_sound, is_sound_member, faulty}
-use Rattle.rules_reader.specs.Inner.{faulty_inner}
+use Rattle.rules_reader.specs.Working.Inner.{faulty_inner}
 use Rattle.rules_reader.specs.Place.{captures, IsCaptureOf, NamesOnce, HasNamesOnce}
 use Rattle.rules_reader.proofs.Faulty.{faulty_inner-part, faulty_inner-other, faulty-sound, faulty-unsound}
 

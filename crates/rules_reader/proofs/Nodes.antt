@@ -9,7 +9,7 @@ use Rattle.rules_reader.specs.Part.{PartText, Pattern}
 use Rattle.rules_reader.specs.Book.{Book, rules, has_validate, stated_count}
 use Rattle.rules_reader.specs.Place.{HasOneCapture, one_capture_at_most}
 use Rattle.rules_reader.specs.Node.{Point, grown, text_of, books, names, rule_count_below, validate_below, IsChild, IsNode}
-use Rattle.rules_reader.specs.NodeFalls.{get-grown-root}
+use Rattle.rules_reader.specs.Working.NodeFalls.{get-grown-root}
 use Rattle.rules_reader.proofs.Grown.{length-rules-grown, HasOneCapture-grown}
 use Rattle.rules_reader.proofs.Validates.{has_validate-grown}
 

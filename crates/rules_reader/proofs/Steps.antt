@@ -26,7 +26,7 @@ use Rattle.rules_reader.specs.Part.{PartText, Pattern, is_capture}
 use Rattle.rules_reader.specs.Book.{Book}
 use Rattle.rules_reader.specs.Place.{matches}
 use Rattle.rules_reader.specs.Node.{Point, Steps, NoneMatches, grown, text_of, books, names, IsChild, IsNode, IsCaptureAt}
-use Rattle.rules_reader.specs.Stepped.{points, point_at, first_of, stepped}
+use Rattle.rules_reader.specs.Working.Stepped.{points, point_at, first_of, stepped}
 use Rattle.rules_reader.proofs.Books.{sub-grown}
 use Rattle.rules_reader.proofs.Standing.{exists-below}
 use Rattle.rules_reader.proofs.Grown.{exists_found}

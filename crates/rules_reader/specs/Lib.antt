@@ -1,10 +1,7 @@
 pub mod Part
 pub mod Book
 pub mod File
-pub mod Inner
 pub mod Place
 pub mod Node
-pub mod NodeFalls
-pub mod Stepped
-pub mod Rules
 pub mod Refusal
+pub mod Working

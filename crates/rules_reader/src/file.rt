@@ -7,7 +7,7 @@ ghost use Rattle.serde_json.specs.Find.{get, as_bool};
 ghost use Rattle.tree_model.specs.Key.{key_cmp};
 ghost use Rattle.rules_reader.specs.Part.{texts};
 ghost use Rattle.rules_reader.specs.File.{is_object, json_of, top, book_of, faulty, States};
-ghost use Rattle.rules_reader.specs.Inner.{parts_of, faulty_inner};
+ghost use Rattle.rules_reader.specs.Working.Inner.{parts_of, faulty_inner};
 ghost use Rattle.rules_reader.specs.Node.{text_of, books, IsChild};
 ghost use Rattle.rules_reader.specs.Refusal.{Names, Refuses};
 
@@ -133,7 +133,7 @@ fn build_children(
         };
         match build(alloc, member, longer) {
             Ok(node) => {
-                node.is_node();
+                node.law();
                 if children.push((part, node)).is_err() {
                     return Err(RulesFault::NoMemory);
                 }
@@ -167,6 +167,6 @@ pub fn compile(alloc: Global, bytes: &[u8]) -> Result<Rules, RulesFault>
     if count > MAX_RULES {
         return Err(RulesFault::TooManyRules);
     }
-    root.is_node();
+    root.law();
     Ok(Rules::of_root(root, count))
 }

@@ -9,7 +9,7 @@ ghost use Rattle.rules_reader.specs.Part.{texts, is_capture};
 ghost use Rattle.rules_reader.specs.Book.{rules, has_validate};
 ghost use Rattle.rules_reader.specs.Place.{HasOneCapture, one_capture_at_most};
 ghost use Rattle.rules_reader.specs.Node.{Steps, NoneMatches, IsCaptureAt, IsChild, books, names, grown, text_of, rule_count_below, validate_below};
-ghost use Rattle.rules_reader.specs.Stepped.{stepped};
+ghost use Rattle.rules_reader.specs.Working.Stepped.{stepped};
 
 use crate::rule::RuleSet;
 use json_tree::Key;
@@ -45,7 +45,7 @@ impl Model for RuleNode {
 
     ghost size = { λ point. depth_of point.book };
 
-    ghost use Rattle.rules_reader.specs.NodeFalls.{falls};
+    ghost use Rattle.rules_reader.specs.Working.NodeFalls.{falls};
 
     ghost size_decreases = { λ node h. falls node.rules (texts node.pattern) node.children.items node.capture h };
 }
@@ -130,7 +130,7 @@ impl RuleNode {
 
     /// What holds of every node: its own object is listed, and in each object at and below it at
     /// most one part is a capture.
-    pub(crate) fn is_node(&self)
+    pub(crate) fn law(&self)
         ensures listed { map_of.contains_key self.now.book [] ≡ true }
         ensures one { HasOneCapture self.now.book }
     {

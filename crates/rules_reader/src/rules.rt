@@ -27,7 +27,7 @@ impl Model for Rules {
 
     ghost coded = { book_code };
 
-    ghost use Rattle.rules_reader.specs.Rules.{IsRoot};
+    ghost use Rattle.rules_reader.specs.Working.Rules.{IsRoot};
 
     ghost view = { λ file. file.root.book };
 

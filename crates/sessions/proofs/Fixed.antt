@@ -8,7 +8,7 @@ use Rattle.sessions.specs.declared.message.MessageFault.TheVariants as message_f
 use Rattle.rtdb_core.specs.declared.reply.Reply.TheVariants as replies
 use Rattle.rtdb_core.specs.declared.reply.Refusal.TheVariants as refusals
 use Rattle.sessions.specs.Said.{as_line}
-use Rattle.sessions.specs.Text.{text, fault_text, rules_fault_text}
+use Rattle.sessions.specs.AnswerText.{text, fault_text, rules_fault_text}
 
 pub done_is : codes "{\"ok\":true}\n" ≡ as_line (text replies.Done)
 unfolding text serde_json_on_literals

@@ -26,7 +26,7 @@ use Rattle.sessions.specs.declared.message.Verb.{Verb}
 use Rattle.sessions.specs.declared.message.Verb.TheVariants as verbs
 use Rattle.sessions.specs.Message.{or_fault, unless_fault, value_of, has_only, text_at, form_members, verb_members, stamp_of, path_of, tree_of_value, write_of, event_of, verb_in, request_of, asks}
 use Rattle.sessions.specs.Said.{IsAnsweredBy, IsAnsweredInFullBy, IsAnsweredInFull, IsAnswered}
-use Rattle.sessions.specs.Text as answer
+use Rattle.sessions.specs.AnswerText as answer
 
 -- ---- no fault of a message is want of memory
 

@@ -11,7 +11,7 @@ use Rattle.rtdb_core.specs.State.{State, opening}
 use Rattle.rtdb_core.specs.Step.{Run}
 use Rattle.sessions.specs.Message.{asks}
 use Rattle.sessions.specs.Header.{Opens}
-use Rattle.sessions.specs.Said.{Phase, running, unopened, refused, IsAnsweredBy, AreAnswered, AreAnsweredByRun, Continues, Stands, IsSaidByRun, calls_of}
+use Rattle.sessions.specs.Said.{Phase, running, unopened, refused, IsAnsweredBy, AreAnswered, AreAnsweredByRun, Continues, IsWritten, IsSaidByRun, calls_of}
 
 -- one line before the others
 one_before : (old mid new : State) (line text : List ℕ) (lines texts : List (List ℕ)) (message : Result Request MessageFault) → (message ≡ asks Script line) ⊎ (message ≡ Err NoMemory) → IsAnsweredBy old message text mid → AreAnsweredByRun mid lines texts new → AreAnsweredByRun old (line ∷ lines) (text ∷ texts) new
@@ -56,6 +56,6 @@ continued said_to header lines state out is (Ok book) opens h = record {
   written = h.4;
 }
 
-pub said_by_run : (lines : List (List ℕ)) (out : List ℕ) (state : State) → Stands lines (running state) out → IsSaidByRun lines state out
+pub said_by_run : (lines : List (List ℕ)) (out : List ℕ) (state : State) → IsWritten lines (running state) out → IsSaidByRun lines state out
 said_by_run [] out state h = let e : running state ≡ unopened = h.0 in cc
 said_by_run (header ∷ lines) out state h = continued (header ∷ lines) header lines state out refl h.0 h.1 h.2

@@ -13,43 +13,44 @@ use Rattle.sessions.specs.declared.message.Form.TheVariants.{Script}
 use Rattle.sessions.specs.declared.message.MessageFault.TheVariants.{TooLarge}
 use Rattle.sessions.specs.Message.{value_of, asks, rules_text}
 use Rattle.sessions.specs.Header.{Opens}
-use Rattle.sessions.specs.Lines.{told, is_blank}
-use Rattle.sessions.specs.Said.{Phase, unopened, refused, running, IsAnswered, AreAnswered, Continues, Stands, as_line}
-use Rattle.sessions.specs.Sent.{Passes}
+use Rattle.sessions.specs.Lines.{non_blank, is_blank}
+use Rattle.sessions.specs.Said.{Phase, unopened, refused, running, IsAnswered, AreAnswered, Continues, IsWritten, as_line}
+use Rattle.sessions.specs.Working.Sent.{tells, Passes}
 use Rattle.rtdb_core.specs.State.{State}
-use Rattle.sessions.specs.Text as answer
-use Rattle.sessions.specs.Parts.{front, Shows}
-use Rattle.sessions.specs.Follow.{Adds, AddStops, Goes, LineStops}
+use Rattle.sessions.specs.AnswerText as answer
+use Rattle.sessions.specs.Working.Parts.{FRONT_BYTES, front, ShowsFront}
+use Rattle.sessions.specs.Working.Follow.{AnswersAt, StopsAt, HasAnswered, StopsAfter}
 use Rattle.sessions.proofs.Sending.{Appends-refl}
+use Rattle.sessions.specs.declared.limits.TheConstants.{MAX_MESSAGE_BYTES}
 
 -- ---- of a line only its front matters
 
-too_large : (line : List ℕ) → nat_le (length line) 1048576 ≡ false → value_of line ≡ Err TooLarge
+too_large : (line : List ℕ) → nat_le (length line) MAX_MESSAGE_BYTES ≡ false → value_of line ≡ Err TooLarge
 unfolding value_of
 too_large line h = rw h refl
 
-length-front : (line : List ℕ) → 1048576 < length line → length (front line) ≡ 1048577
+length-front : (line : List ℕ) → MAX_MESSAGE_BYTES < length line → length (front line) ≡ FRONT_BYTES
 unfolding front
-length-front line h = length-take-le 1048577 line (omega arith)
+length-front line h = length-take-le FRONT_BYTES line (omega arith)
 
-front_of_short : (line : List ℕ) → length line ≤ 1048576 → front line ≡ line
+front_of_short : (line : List ℕ) → length line ≤ MAX_MESSAGE_BYTES → front line ≡ line
 unfolding front
-front_of_short line h = take_all 1048577 line (omega arith)
+front_of_short line h = take_all FRONT_BYTES line (omega arith)
 
-is_over : (n : ℕ) → 1048576 < n → nat_le n 1048576 ≡ false
+is_over : (n : ℕ) → MAX_MESSAGE_BYTES < n → nat_le n MAX_MESSAGE_BYTES ≡ false
 is_over n h = grind (arith, nat_tests)
 
-value_of-front-by : (line : List ℕ) (short : Bool) → nat_le (length line) 1048576 ≡ short → value_of (front line) ≡ value_of line
+value_of-front-by : (line : List ℕ) (short : Bool) → nat_le (length line) MAX_MESSAGE_BYTES ≡ short → value_of (front line) ≡ value_of line
 value_of-front-by line false h =
-    let over : 1048576 < length line = grind (arith, nat_tests) in
-    let over' : 1048576 < length (front line) = omega (arith, length-front line over) in
+    let over : MAX_MESSAGE_BYTES < length line = grind (arith, nat_tests) in
+    let over' : MAX_MESSAGE_BYTES < length (front line) = omega (arith, length-front line over) in
     too_large (front line) (is_over _ over') ∙ sym (too_large line h)
 value_of-front-by line true h =
-    let le : length line ≤ 1048576 = grind (arith, nat_tests) in
+    let le : length line ≤ MAX_MESSAGE_BYTES = grind (arith, nat_tests) in
     ap value_of (front_of_short line le)
 
 value_of-front : (line : List ℕ) → value_of (front line) ≡ value_of line
-value_of-front line = value_of-front-by line (nat_le (length line) 1048576) refl
+value_of-front line = value_of-front-by line (nat_le (length line) MAX_MESSAGE_BYTES) refl
 
 -- texts with one front have one value
 value_of-shown : (text line : List ℕ) → front text ≡ front line → value_of text ≡ value_of line
@@ -73,10 +74,10 @@ IsAnswered-shown : (old : State) (text line said : List ℕ) (new : State) → a
 IsAnswered-shown old text line said new e (message, inl asked, a) = (message, inl (asked ∙ e), a)
 IsAnswered-shown old text line said new e (message, inr wanted, a) = (message, inr wanted, a)
 
-Adds-shown : (phase phase' : Phase) (text line out : List ℕ) → front text ≡ front line → Adds phase text phase' out → Adds phase line phase' out
-Adds-shown unopened phase' text line out e a = (a.0, Opens-shown text line a.0 (rules_text-shown text line e) a.1, a.2)
-Adds-shown refused phase' text line out e a = a
-Adds-shown (running old) phase' text line out e a = (a.0, a.1, IsAnswered-shown old text line a.0 a.1 (asks-shown text line e) a.2, a.3, a.4)
+AnswersAt-shown : (phase phase' : Phase) (text line out : List ℕ) → front text ≡ front line → AnswersAt phase text phase' out → AnswersAt phase line phase' out
+AnswersAt-shown unopened phase' text line out e a = (a.0, Opens-shown text line a.0 (rules_text-shown text line e) a.1, a.2)
+AnswersAt-shown refused phase' text line out e a = a
+AnswersAt-shown (running old) phase' text line out e a = (a.0, a.1, IsAnswered-shown old text line a.0 a.1 (asks-shown text line e) a.2, a.3, a.4)
 
 -- ---- one answer more
 
@@ -86,10 +87,10 @@ AreAnswered-append a b c [] (y ∷ ys) line text r h = absurd r
 AreAnswered-append a b c (x ∷ xs) [] line text r h = absurd r
 AreAnswered-append a b c (x ∷ xs) (y ∷ ys) line text r h = (r.0, r.1, AreAnswered-append r.0 b c xs ys line text r.2 h)
 
-Continues-append : (opened : Result Book HeaderFault) (lines : List (List ℕ)) (line : List ℕ) (phase phase' : Phase) (out more : List ℕ) → Continues opened lines phase out → Adds phase line phase' more → Continues opened (lines ++ line ∷ []) phase' (out ++ more)
-Continues-append (Err fault) lines line phase phase' out more b a = absurd (subst (λ (x : Phase). Adds x line phase' more) b.0 a)
+Continues-append : (opened : Result Book HeaderFault) (lines : List (List ℕ)) (line : List ℕ) (phase phase' : Phase) (out more : List ℕ) → Continues opened lines phase out → AnswersAt phase line phase' more → Continues opened (lines ++ line ∷ []) phase' (out ++ more)
+Continues-append (Err fault) lines line phase phase' out more b a = absurd (subst (λ (x : Phase). AnswersAt x line phase' more) b.0 a)
 Continues-append (Ok book) lines line phase phase' out more b a =
-    let a' = subst (λ (x : Phase). Adds x line phase' more) b.3 a in
+    let a' = subst (λ (x : Phase). AnswersAt x line phase' more) b.3 a in
     let first = as_line (answer.accepted_text (length (rules book))) in (
       b.0 ++ a'.0 ∷ [],
       a'.1,
@@ -98,11 +99,11 @@ Continues-append (Ok book) lines line phase phase' out more b a =
       ap (λ o. o ++ more) b.4 ∙ ap (λ t. (first ++ flat_map as_line b.0) ++ t) a'.4 ∙ flat_map_more as_line first b.0 a'.0,
     )
 
-pub Stands-append : (lines : List (List ℕ)) (line : List ℕ) (phase phase' : Phase) (out more : List ℕ) → Stands lines phase out → Adds phase line phase' more → Stands (lines ++ line ∷ []) phase' (out ++ more)
-Stands-append [] line phase phase' out more s a =
-    let a' = subst (λ (x : Phase). Adds x line phase' more) s.0 a in
+pub IsWritten-append : (lines : List (List ℕ)) (line : List ℕ) (phase phase' : Phase) (out more : List ℕ) → IsWritten lines phase out → AnswersAt phase line phase' more → IsWritten (lines ++ line ∷ []) phase' (out ++ more)
+IsWritten-append [] line phase phase' out more s a =
+    let a' = subst (λ (x : Phase). AnswersAt x line phase' more) s.0 a in
     (a'.0, a'.1, subst (λ (x : List ℕ). Continues a'.0 [] phase' x) (sym (ap (λ o. o ++ more) s.1)) a'.2)
-Stands-append (header ∷ lines) line phase phase' out more s a = (s.0, s.1, Continues-append s.0 lines line phase phase' out more s.2 a)
+IsWritten-append (header ∷ lines) line phase phase' out more s a = (s.0, s.1, Continues-append s.0 lines line phase phase' out more s.2 a)
 
 -- ---- after a refused header no line is answered
 
@@ -110,20 +111,20 @@ Continues-refused : (opened : Result Book HeaderFault) (lines more : List (List 
 Continues-refused (Err fault) lines more out b = b
 Continues-refused (Ok book) lines more out b = let e : refused ≡ running b.1 = b.3 in absurd (cc)
 
-pub Stands-refused : (lines more : List (List ℕ)) (out : List ℕ) → Stands lines refused out → Stands (lines ++ more) refused out
-Stands-refused [] more out s = let e : refused ≡ unopened = s.0 in absurd (cc)
-Stands-refused (header ∷ lines) more out s = (s.0, s.1, Continues-refused s.0 lines more out s.2)
+pub IsWritten-refused : (lines more : List (List ℕ)) (out : List ℕ) → IsWritten lines refused out → IsWritten (lines ++ more) refused out
+IsWritten-refused [] more out s = let e : refused ≡ unopened = s.0 in absurd (cc)
+IsWritten-refused (header ∷ lines) more out s = (s.0, s.1, Continues-refused s.0 lines more out s.2)
 
 -- ---- a complete line
 
-pub told-append : (lines more : List (List ℕ)) → told (lines ++ more) ≡ told lines ++ told more
-told-append lines more = filter-append (λ l. not (is_blank l)) lines more
+pub non_blank-append : (lines more : List (List ℕ)) → non_blank (lines ++ more) ≡ non_blank lines ++ non_blank more
+non_blank-append lines more = filter-append (λ l. not (is_blank l)) lines more
 
-told-blank : (lines : List (List ℕ)) (line : List ℕ) → is_blank line ≡ true → told (lines ++ line ∷ []) ≡ told lines
-told-blank lines line h = told-append lines (line ∷ []) ∙ ap (λ b. told lines ++ cond (not b) (line ∷ []) []) h ∙ append-nil (told lines)
+non_blank-blank : (lines : List (List ℕ)) (line : List ℕ) → is_blank line ≡ true → non_blank (lines ++ line ∷ []) ≡ non_blank lines
+non_blank-blank lines line h = non_blank-append lines (line ∷ []) ∙ ap (λ b. non_blank lines ++ cond (not b) (line ∷ []) []) h ∙ append-nil (non_blank lines)
 
-told-line : (lines : List (List ℕ)) (line : List ℕ) → is_blank line ≡ false → told (lines ++ line ∷ []) ≡ told lines ++ line ∷ []
-told-line lines line h = told-append lines (line ∷ []) ∙ ap (λ b. told lines ++ cond (not b) (line ∷ []) []) h
+non_blank-line : (lines : List (List ℕ)) (line : List ℕ) → is_blank line ≡ false → non_blank (lines ++ line ∷ []) ≡ non_blank lines ++ line ∷ []
+non_blank-line lines line h = non_blank-append lines (line ∷ []) ∙ ap (λ b. non_blank lines ++ cond (not b) (line ∷ []) []) h
 
 -- what is kept behind what was sent, with an answer behind it, of which more is then sent
 regrouped : (sent kept out more kept' : List ℕ) → kept ++ out ≡ more ++ kept' → (sent ++ kept) ++ out ≡ (sent ++ more) ++ kept'
@@ -132,37 +133,37 @@ regrouped sent kept out more kept' e = append_assoc sent kept out ∙ ap (λ x. 
 unsent : (sent kept kept' : List ℕ) → kept' ≡ kept → sent ++ kept ≡ (sent ++ []) ++ kept'
 unsent sent kept kept' e = ap (λ x. sent ++ x) (sym e) ∙ ap (λ x. x ++ kept') (sym (append-nil sent))
 
-module _ (lines : List (List ℕ)) (line text : List ℕ) (blank : Bool) (phase : Phase) (old new : Option (List ℕ)) (sent kept : List ℕ) (shows : Shows text blank line) (stands : Stands (told lines) phase (sent ++ kept)) where
+module _ (lines : List (List ℕ)) (line text : List ℕ) (blank : Bool) (phase : Phase) (old new : Option (List ℕ)) (sent kept : List ℕ) (shows : ShowsFront text blank line) (stands : IsWritten (non_blank lines) phase (sent ++ kept)) where
   -- it is blank
-  pub Goes-blank : blank ≡ true → Goes (lines ++ line ∷ []) phase old old sent kept
-  Goes-blank b = (
+  pub HasAnswered-blank : blank ≡ true → HasAnswered (lines ++ line ∷ []) phase old old sent kept
+  HasAnswered-blank b = (
     [],
     Appends-refl old,
-    subst (λ (x : List (List ℕ)). Stands x phase ((sent ++ []) ++ kept)) (sym (told-blank lines line (sym shows.1 ∙ b))) (subst (λ (x : List ℕ). Stands (told lines) phase x) (unsent sent kept kept refl) stands),
+    subst (λ (x : List (List ℕ)). IsWritten x phase ((sent ++ []) ++ kept)) (sym (non_blank-blank lines line (sym shows.1 ∙ b))) (subst (λ (x : List ℕ). IsWritten (non_blank lines) phase x) (unsent sent kept kept refl) stands),
   )
 
-  Stands-line : (phase' : Phase) (out : List ℕ) → blank ≡ false → Adds phase text phase' out → Stands (told (lines ++ line ∷ [])) phase' ((sent ++ kept) ++ out)
-  Stands-line phase' out b a =
-      subst (λ (x : List (List ℕ)). Stands x phase' ((sent ++ kept) ++ out)) (sym (told-line lines line (sym shows.1 ∙ b))) (Stands-append (told lines) line phase phase' (sent ++ kept) out stands (Adds-shown phase phase' text line out shows.0 a))
+  IsWritten-line : (phase' : Phase) (out : List ℕ) → blank ≡ false → AnswersAt phase text phase' out → IsWritten (non_blank (lines ++ line ∷ [])) phase' ((sent ++ kept) ++ out)
+  IsWritten-line phase' out b a =
+      subst (λ (x : List (List ℕ)). IsWritten x phase' ((sent ++ kept) ++ out)) (sym (non_blank-line lines line (sym shows.1 ∙ b))) (IsWritten-append (non_blank lines) line phase phase' (sent ++ kept) out stands (AnswersAt-shown phase phase' text line out shows.0 a))
 
   -- it is answered
-  pub Goes-line : (phase' : Phase) (out kept' : List ℕ) → blank ≡ false → Adds phase text phase' out → Passes old new (kept ++ out) kept' → Goes (lines ++ line ∷ []) phase' old new sent kept'
-  Goes-line phase' out kept' b a p = (
+  pub HasAnswered-line : (phase' : Phase) (out kept' : List ℕ) → blank ≡ false → AnswersAt phase text phase' out → Passes old new (kept ++ out) kept' → HasAnswered (lines ++ line ∷ []) phase' old new sent kept'
+  HasAnswered-line phase' out kept' b a p = (
     p.0,
     p.1,
-    subst (λ (x : List ℕ). Stands (told (lines ++ line ∷ [])) phase' x) (regrouped sent kept out p.0 kept' p.2) (Stands-line phase' out b a),
+    subst (λ (x : List ℕ). IsWritten (non_blank (lines ++ line ∷ [])) phase' x) (regrouped sent kept out p.0 kept' p.2) (IsWritten-line phase' out b a),
   )
 
   -- the script stops at it
-  pub LineStops-line : phase ≢ refused → (stop : Stop) (failed : Bool) (kept' : List ℕ) → blank ≡ false → AddStops stop old new failed phase text kept kept' → LineStops stop old new failed kept' lines line sent
-  LineStops-line going stops.BadHeader failed kept' b a = Goes-line refused a.0 kept' b a.1 a.2
-  LineStops-line going stops.WriteFault failed kept' b a = (a.0, a.1, a.4.1, Goes-line a.1 a.2 a.4.1 b a.3 (a.4.0, a.4.2, a.4.3))
-  LineStops-line going stops.NoMemory failed kept' b a = (
+  pub StopsAfter-line : phase ≢ refused → (stop : Stop) (failed : Bool) (kept' : List ℕ) → blank ≡ false → StopsAt stop (tells old new failed) phase text kept kept' → StopsAfter stop (tells old new failed) kept' lines line sent
+  StopsAfter-line going stops.BadHeader failed kept' b a = HasAnswered-line refused a.0 kept' b a.1 a.2
+  StopsAfter-line going stops.WriteFault failed kept' b a = (a.0, a.1, a.4.1, HasAnswered-line a.1 a.2 a.4.1 b a.3 (a.4.0, a.4.2, a.4.3))
+  StopsAfter-line going stops.NoMemory failed kept' b a = (
     phase,
     going,
     (
       [],
       subst (λ (x : Option (List ℕ)). Appends old x []) (sym a.0) (Appends-refl old),
-      subst (λ (x : List ℕ). Stands (told lines) phase x) (unsent sent kept kept' a.1) stands,
+      subst (λ (x : List ℕ). IsWritten (non_blank lines) phase x) (unsent sent kept kept' a.1) stands,
     ),
   )

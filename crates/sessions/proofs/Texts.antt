@@ -12,7 +12,7 @@ use Rattle.tree_model.specs.Primitive.{Primitive, truth, whole, words}
 use Rattle.tree_model.specs.PathMap.{get, depth}
 use Rattle.tree_model.specs.Tree.{Tree, null, children}
 use Rattle.json_tree.specs.Json.{data_of, members_of, object_of, value_within, value_of}
-use Rattle.path_capture.specs.Write.{tree_of}
+use Rattle.path_capture.specs.Write.{tree_or_null}
 use Rattle.rules_reader.specs.declared.fault.RulesFault.{RulesFault}
 use Rattle.rules_reader.specs.declared.fault.RulesFault.TheVariants as rules_faults
 use Rattle.rtdb_core.specs.declared.reply.Named.{Named}
@@ -20,7 +20,7 @@ use Rattle.rtdb_core.specs.declared.reply.Reply.{Reply}
 use Rattle.rtdb_core.specs.declared.reply.Reply.TheVariants.{Done, Value, Refused}
 use Rattle.rtdb_core.specs.declared.reply.Refusal.{Refusal}
 use Rattle.rtdb_core.specs.declared.reply.Refusal.TheVariants as refusals
-use Rattle.sessions.specs.Text.{named_data, items_of, refusal_data, reply_data, rules_fault_data, text}
+use Rattle.sessions.specs.AnswerText.{named_data, items_of, refusal_data, reply_data, rules_fault_data, text}
 
 -- ---- no answer has a float
 
@@ -71,7 +71,7 @@ refusal_is_no_float refusals.NoMemory = refl
 
 pub reply_is_no_float : (reply : Reply) → has_float (reply_data reply) ≡ false
 reply_is_no_float Done = refl
-reply_is_no_float (Value tree) = or_false _ false (tree_is_no_float (tree_of tree)) refl
+reply_is_no_float (Value tree) = or_false _ false (tree_is_no_float (tree_or_null tree)) refl
 reply_is_no_float (Refused refusal) = refusal_is_no_float refusal
 
 pub rules_fault_is_no_float : (fault : RulesFault) → has_float (rules_fault_data fault) ≡ false
@@ -91,17 +91,17 @@ unfolding text serde_json_on_literals
 done_text = refl
 
 -- a value between what stands before and after it
-pub value_text : (tree : Option Tree) → codes "{\"ok\":true,\"value\":" ++ (compact_text (value_of (tree_of tree)) ++ codes "}") ≡ text (Value tree)
+pub value_text : (tree : Option Tree) → codes "{\"ok\":true,\"value\":" ++ (compact_text (value_of (tree_or_null tree)) ++ codes "}") ≡ text (Value tree)
 unfolding text serde_json_on_literals
 value_text tree = refl
 
-tree_is : (tree : Option Tree) → unwrap_or tree null ≡ tree_of tree
+tree_is : (tree : Option Tree) → unwrap_or tree null ≡ tree_or_null tree
 tree_is None = refl
 tree_is (Some t) = refl
 
 -- what is written of a value is what is written between
 pub value_between : (bytes middle : List ℕ) (tree : Option Tree) (v : Data) → bytes ≡ codes "{\"ok\":true,\"value\":" ++ (middle ++ codes "}") → v ≡ value_of (unwrap_or tree null) → (has_float v ≡ false → middle ≡ compact_text v) → bytes ≡ text (Value tree)
 value_between bytes middle tree v e is h =
-    let seen : v ≡ value_of (tree_of tree) = is ∙ ap value_of (tree_is tree) in
-    let same : middle ≡ compact_text (value_of (tree_of tree)) = text_of_view middle (value_of (tree_of tree)) v seen (tree_is_no_float (tree_of tree)) h in
+    let seen : v ≡ value_of (tree_or_null tree) = is ∙ ap value_of (tree_is tree) in
+    let same : middle ≡ compact_text (value_of (tree_or_null tree)) = text_of_view middle (value_of (tree_or_null tree)) v seen (tree_is_no_float (tree_or_null tree)) h in
     e ∙ ap (λ m. codes "{\"ok\":true,\"value\":" ++ (m ++ codes "}")) same ∙ value_text tree

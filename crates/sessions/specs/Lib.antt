@@ -1,9 +1,7 @@
 pub mod Message
-pub mod Text
+pub mod AnswerText
 pub mod Header
 pub mod Lines
 pub mod Said
-pub mod Parts
-pub mod Sent
-pub mod Follow
 pub mod Ends
+pub mod Working

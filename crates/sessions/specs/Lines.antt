@@ -12,5 +12,5 @@ abbrev pub cut : List ℕ → List (List ℕ)
 cut input = slice_split (λ b. b == 10) input
 
 -- the lines that are not blank
-abbrev pub told : List (List ℕ) → List (List ℕ)
-told lines = filter (λ line. not (is_blank line)) lines
+abbrev pub non_blank : List (List ℕ) → List (List ℕ)
+non_blank lines = filter (λ line. not (is_blank line)) lines

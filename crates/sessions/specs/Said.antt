@@ -11,11 +11,11 @@ use Rattle.sessions.specs.declared.message.MessageFault.{MessageFault}
 use Rattle.sessions.specs.declared.message.MessageFault.TheVariants.{NoMemory}
 use Rattle.sessions.specs.declared.header.HeaderFault.{HeaderFault}
 use Rattle.sessions.specs.declared.header.HeaderFault.TheVariants.{Line, Rules}
-use Rattle.sessions.specs.Lines.{cut, told}
+use Rattle.sessions.specs.Lines.{cut, non_blank}
 use Rattle.rtdb_core.specs.State.{State, opening}
 use Rattle.rtdb_core.specs.Step.{Step, Call, Run}
 use Rattle.sessions.specs.Message.{asks}
-use Rattle.sessions.specs.Text as answer
+use Rattle.sessions.specs.AnswerText as answer
 use Rattle.sessions.specs.Header.{Opens}
 
 -- a text as a line of the output
@@ -100,13 +100,13 @@ Continues (Ok book) lines phase out =
     × (phase ≡ running state) × (out ≡ as_line (answer.accepted_text (length (rules book))) ++ flat_map as_line texts)
 
 -- what is written for lines that are not blank, the first of which is the header
-abbrev pub Stands : List (List ℕ) → Phase → List ℕ → Type 0
-Stands [] phase out = (phase ≡ unopened) × (out ≡ [])
-Stands (header ∷ lines) phase out = (opened : Result Book HeaderFault) × Opens header opened × Continues opened lines phase out
+abbrev pub IsWritten : List (List ℕ) → Phase → List ℕ → Type 0
+IsWritten [] phase out = (phase ≡ unopened) × (out ≡ [])
+IsWritten (header ∷ lines) phase out = (opened : Result Book HeaderFault) × Opens header opened × Continues opened lines phase out
 
 -- The output for an input: the answer to its header, and if that is accepted an answer to each later line, in order.
 abbrev pub Said : List ℕ → Phase → List ℕ → Type 0
-Said input phase out = Stands (told (cut input)) phase out
+Said input phase out = IsWritten (non_blank (cut input)) phase out
 
 -- Lines whose header was accepted: their header, the rules that it opens with, and the output as a run from the state in which a database opens with these rules and null.
 pub record IsSaidByRun (said_to : List (List ℕ)) (state : State) (out : List ℕ) : Type 0 where

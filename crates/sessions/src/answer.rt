@@ -3,7 +3,7 @@
 ghost use Rattle.std.specs.Prelude.{◌≡◌, ◌++◌, codes, option_map, IfOk};
 ghost use Rattle.serde_json.specs.Data.{string, object, member, no_members};
 ghost use Rattle.serde_json.specs.View.{view, members_view};
-ghost use Rattle.sessions.specs.Text.{text, fault_text, rules_fault_text, accepted_text, message_code, refusal_members, plain_data, placed_data, named_data, rules_data, read_denied_data, write_denied_data, accepted_data, refusal_data, rules_fault_data};
+ghost use Rattle.sessions.specs.AnswerText.{text, fault_text, rules_fault_text, accepted_text, message_code, refusal_members, plain_data, placed_data, named_data, rules_data, read_denied_data, write_denied_data, accepted_data, refusal_data, rules_fault_data};
 
 use crate::code::Code;
 use crate::message::MessageFault;
@@ -26,7 +26,7 @@ pub fn write_reply(alloc: Global, reply: &Reply) -> Result<Vec<u8>, NoMemory>
 }
 
 /// The text of a fault of a message.
-#[tactic(auto, unfolding(crate::specs::Text::fault_text), using(crate::proofs::Texts::text_of_view))]
+#[tactic(auto, unfolding(crate::specs::AnswerText::fault_text), using(crate::proofs::Texts::text_of_view))]
 pub fn write_fault(alloc: Global, fault: MessageFault) -> Result<Vec<u8>, NoMemory>
     ensures { IfOk result (λ bytes. bytes.items ≡ fault_text fault) }
 {
@@ -35,7 +35,7 @@ pub fn write_fault(alloc: Global, fault: MessageFault) -> Result<Vec<u8>, NoMemo
 }
 
 /// The text of a fault of a rules file.
-#[tactic(auto, unfolding(crate::specs::Text::rules_fault_text), using(crate::proofs::Texts::text_of_view, crate::proofs::Texts::rules_fault_is_no_float))]
+#[tactic(auto, unfolding(crate::specs::AnswerText::rules_fault_text), using(crate::proofs::Texts::text_of_view, crate::proofs::Texts::rules_fault_is_no_float))]
 pub fn write_rules_fault(alloc: Global, fault: &RulesFault) -> Result<Vec<u8>, NoMemory>
     ensures { IfOk result (λ bytes. bytes.items ≡ rules_fault_text fault.now) }
 {
@@ -44,7 +44,7 @@ pub fn write_rules_fault(alloc: Global, fault: &RulesFault) -> Result<Vec<u8>, N
 }
 
 /// The text of the answer to a header that is accepted, with so many rules.
-#[tactic(auto, unfolding(crate::specs::Text::accepted_text), using(crate::proofs::Texts::text_of_view))]
+#[tactic(auto, unfolding(crate::specs::AnswerText::accepted_text), using(crate::proofs::Texts::text_of_view))]
 pub fn write_accepted(alloc: Global, count: usize) -> Result<Vec<u8>, NoMemory>
     ensures { IfOk result (λ bytes. bytes.items ≡ accepted_text count) }
 {
@@ -103,7 +103,7 @@ fn between(alloc: Global, before: &[u8], middle: &[u8], after: &[u8]) -> Result<
     Ok(bytes)
 }
 
-#[tactic(auto, unfolding(crate::specs::Text::text), using(crate::proofs::Texts::text_of_view, crate::proofs::Texts::refusal_is_no_float))]
+#[tactic(auto, unfolding(crate::specs::AnswerText::text), using(crate::proofs::Texts::text_of_view, crate::proofs::Texts::refusal_is_no_float))]
 fn write_refusal(alloc: Global, refusal: &Refusal) -> Result<Vec<u8>, NoMemory>
     ensures { IfOk result (λ bytes. bytes.items ≡ text (Reply.Refused refusal.now)) }
 {

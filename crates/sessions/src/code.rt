@@ -1,6 +1,6 @@
 //! The names of all refusals, with their numbers.
 ghost use Rattle.std.specs.Prelude.{◌≡◌};
-ghost use Rattle.sessions.specs.Text.{number_of, name_of};
+ghost use Rattle.sessions.specs.AnswerText.{number_of, name_of};
 
 /// The name of a refusal, as an answer gives it.
 #[derive(Clone, Copy, Debug, PartialEq, Eq)]

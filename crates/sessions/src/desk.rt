@@ -1,17 +1,17 @@
 //! Where lines are answered, one at a time, and their answers put behind one another.
 ghost use Rattle.std.specs.Prelude.{◌≡◌, ◌≢◌, ℕ, ◌++◌, ◌∷◌, [], false, List, IfOk, IfErr, OnOk, MatchResult};
-ghost use Rattle.sessions.specs.Lines.{told};
-ghost use Rattle.sessions.specs.Sent.{Passes};
-ghost use Rattle.sessions.specs.Said.{unopened, Stands};
-ghost use Rattle.sessions.specs.Parts.{Shows};
-ghost use Rattle.sessions.specs.Follow.{phase_of, Adds, AddStops, Goes, LineStops};
+ghost use Rattle.sessions.specs.Lines.{non_blank};
+ghost use Rattle.sessions.specs.Working.Sent.{tells, Passes};
+ghost use Rattle.sessions.specs.Said.{unopened, refused, IsWritten};
+ghost use Rattle.sessions.specs.declared.desk.Stop.TheVariants.{NoMemory as no_memory};
+ghost use Rattle.sessions.specs.Working.Parts.{ShowsFront};
+ghost use Rattle.sessions.specs.Working.Follow.{phase_of, AnswersAt, StopsAt, HasAnswered, StopsAfter};
 
 use crate::outgoing::Outgoing;
-use crate::respond::respond;
+use crate::respond::{Stage, respond};
 use crate::stream::Sink;
 use bumpalo::Bump;
 use json_tree::NoMemory;
-use rtdb_core::Core;
 use std::alloc::Global;
 
 /// Why a script stops before the end of its input.
@@ -25,12 +25,19 @@ pub enum Stop {
     NoMemory,
 }
 
-/// What answers the lines of a script: its database, once the header has opened it, and the answers
-/// on their way.
+impl From<NoMemory> for Stop {
+    ghost from_gives = { λ _ stop. stop ≡ no_memory };
+
+    fn from(_refused: NoMemory) -> Stop {
+        Stop::NoMemory
+    }
+}
+
+/// What answers the lines of a script: where it stands, and the answers on their way.
 #[derive(Drop)]
 pub struct Desk {
     alloc: Global,
-    machine: Option<Core>,
+    stage: Stage,
     /// The answers that are not written yet.
     pub outgoing: Outgoing,
 }
@@ -38,12 +45,12 @@ pub struct Desk {
 impl Desk {
     /// A desk before the first line. It takes all memory for answers on their way.
     pub fn new(alloc: Global) -> Result<Desk, NoMemory>
-        ensures { IfOk result (λ desk. (phase_of desk.machine ≡ unopened) × (desk.outgoing.bytes.items ≡ [])) }
+        ensures { IfOk result (λ desk. (phase_of desk.stage ≡ unopened) × (desk.outgoing.bytes.items ≡ [])) }
     {
         let outgoing = Outgoing::new(alloc)?;
         Ok(Desk {
             alloc,
-            machine: None,
+            stage: Stage::Unopened,
             outgoing,
         })
     }
@@ -57,49 +64,49 @@ impl Desk {
         text: &[u8],
         blank: bool,
     ) -> Result<(), Stop>
-        requires { W.failed sink.old ≡ false }
-        ensures ok { (lines : List (List ℕ)) (line sent : List ℕ) → Shows text.now blank line
-            → Stands (told lines) (phase_of self.old.machine) (sent ++ self.old.outgoing.bytes.items)
-            → OnOk result (Goes (lines ++ line ∷ []) (phase_of self.new.machine) (W.written sink.old) (W.written sink.new) sent self.new.outgoing.bytes.items) }
-        ensures err { (lines : List (List ℕ)) (line sent : List ℕ) → Shows text.now blank line
-            → Stands (told lines) (phase_of self.old.machine) (sent ++ self.old.outgoing.bytes.items)
-            → IfErr result (λ stop. LineStops stop (W.written sink.old) (W.written sink.new) (W.failed sink.new)
+        requires sound { W.failed sink.old ≡ false }
+        requires going { phase_of self.old.stage ≢ refused }
+        ensures ok { (lines : List (List ℕ)) (line sent : List ℕ) → ShowsFront text.now blank line
+            → IsWritten (non_blank lines) (phase_of self.old.stage) (sent ++ self.old.outgoing.bytes.items)
+            → OnOk result (HasAnswered (lines ++ line ∷ []) (phase_of self.new.stage) (W.written sink.old) (W.written sink.new) sent self.new.outgoing.bytes.items) }
+        ensures err { (lines : List (List ℕ)) (line sent : List ℕ) → ShowsFront text.now blank line
+            → IsWritten (non_blank lines) (phase_of self.old.stage) (sent ++ self.old.outgoing.bytes.items)
+            → IfErr result (λ stop. StopsAfter stop (tells (W.written sink.old) (W.written sink.new) (W.failed sink.new))
             self.new.outgoing.bytes.items lines line sent) }
+        ensures going { OnOk result (phase_of self.new.stage ≢ refused) }
         ensures sound { MatchResult result (λ _. W.failed sink.new ≡ W.failed sink.old) (λ stop. stop ≢ Stop.WriteFault → W.failed sink.new ≡ W.failed sink.old) }
     {
         if blank {
             return Ok(());
         }
-        match self.answer_told(sink, arena, text) {
+        match self.answer_text(sink, arena, text) {
             Ok(()) => Ok(()),
             Err(stop) => Err(stop),
         }
     }
 
     // Answers a line that is not blank.
-    fn answer_told<W: Sink>(
+    fn answer_text<W: Sink>(
         &mut self,
         sink: &mut W,
         arena: &mut Bump,
         line: &[u8],
     ) -> Result<(), Stop>
-        requires { W.failed sink.old ≡ false }
-        ensures ok { OnOk result ((out : List ℕ) × Adds (phase_of self.old.machine) line.now (phase_of self.new.machine) out
+        requires sound { W.failed sink.old ≡ false }
+        requires going { phase_of self.old.stage ≢ refused }
+        ensures ok { OnOk result ((out : List ℕ) × AnswersAt (phase_of self.old.stage) line.now (phase_of self.new.stage) out
             × Passes (W.written sink.old) (W.written sink.new) (self.old.outgoing.bytes.items ++ out) self.new.outgoing.bytes.items) }
-        ensures err { IfErr result (λ stop. AddStops stop (W.written sink.old) (W.written sink.new)
-            (W.failed sink.new) (phase_of self.old.machine) line.now self.old.outgoing.bytes.items self.new.outgoing.bytes.items) }
+        ensures err { IfErr result (λ stop. StopsAt stop (tells (W.written sink.old) (W.written sink.new) (W.failed sink.new)) (phase_of self.old.stage) line.now self.old.outgoing.bytes.items self.new.outgoing.bytes.items) }
+        ensures going { OnOk result (phase_of self.new.stage ≢ refused) }
         ensures sound { MatchResult result (λ _. W.failed sink.new ≡ W.failed sink.old) (λ stop. stop ≢ Stop.WriteFault → W.failed sink.new ≡ W.failed sink.old) }
     {
-        let answer = match respond(self.alloc, &mut self.machine, arena, line) {
-            Ok(answer) => answer,
-            Err(_) => return Err(Stop::NoMemory),
-        };
+        let answer = respond(self.alloc, &mut self.stage, arena, line)?;
         if let Err(_) = self.outgoing.put(sink, answer.as_slice()) {
             return Err(Stop::WriteFault);
         }
-        if self.machine.is_none() {
-            return Err(Stop::BadHeader);
+        match &self.stage {
+            Stage::Refused => Err(Stop::BadHeader),
+            _ => Ok(()),
         }
-        Ok(())
     }
 }

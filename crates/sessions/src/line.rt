@@ -1,7 +1,7 @@
 //! The line that comes in pieces.
 ghost use Rattle.std.specs.Prelude.{◌≡◌, ℕ, ◌≤◌, ◌++◌, ◌↔◌, [], List, vec_len, IsTrue, OnOk};
 ghost use Rattle.sessions.specs.Lines.{is_blank};
-ghost use Rattle.sessions.specs.Parts.{front, Holds};
+ghost use Rattle.sessions.specs.Working.Parts.{FRONT_BYTES, front, KeepsFront};
 
 use crate::limits::MAX_MESSAGE_BYTES;
 use json_tree::NoMemory;
@@ -16,14 +16,14 @@ pub struct Line {
     pub kept: Vec<u8>,
     /// Whether all bytes so far are blank, those that are not kept too.
     pub blank: bool,
-    ghost short: { vec_len kept ≤ 1048577 },
+    ghost short: { vec_len kept ≤ FRONT_BYTES },
 }
 
 impl Line {
     /// An empty line. It takes no memory.
     #[tactic(auto, using(crate::proofs::Keeping::front_nil))]
     pub fn new(alloc: Global) -> Line
-        ensures { Holds result.kept.items result.blank [] }
+        ensures { KeepsFront result.kept.items result.blank [] }
     {
         Line {
             kept: Vec::new(alloc),
@@ -40,8 +40,8 @@ impl Line {
 
     /// Takes more of the line.
     pub fn add(&mut self, piece: &[u8]) -> Result<(), NoMemory>
-        ensures { (line : List ℕ) → Holds self.old.kept.items self.old.blank line
-            → OnOk result (Holds self.new.kept.items self.new.blank (line ++ piece.now)) }
+        ensures { (line : List ℕ) → KeepsFront self.old.kept.items self.old.blank line
+            → OnOk result (KeepsFront self.new.kept.items self.new.blank (line ++ piece.now)) }
     {
         self.blank = self.blank && is_blank(piece);
         keep(&mut self.kept, piece)?;
@@ -51,7 +51,7 @@ impl Line {
     /// Begins the next line. It keeps its memory.
     #[tactic(auto, using(crate::proofs::Keeping::front_nil))]
     pub fn clear(&mut self)
-        ensures { Holds self.new.kept.items self.new.blank [] }
+        ensures { KeepsFront self.new.kept.items self.new.blank [] }
     {
         self.kept.clear();
         self.blank = true;
@@ -72,9 +72,9 @@ pub fn is_blank(text: &[u8]) -> bool
 
 // Adds as much of the piece as there is room for.
 fn keep(kept: &mut Vec<u8>, piece: &[u8]) -> Result<(), AllocError>
-    requires { vec_len kept.old ≤ 1048577 }
+    requires { vec_len kept.old ≤ FRONT_BYTES }
     ensures ok { OnOk result (kept.new.items ≡ front (kept.old.items ++ piece.now)) }
-    ensures short { vec_len kept.new ≤ 1048577 }
+    ensures short { vec_len kept.new ≤ FRONT_BYTES }
 {
     let room = MAX_MESSAGE_BYTES + 1 - kept.len();
     if room < piece.len() {

@@ -3,7 +3,7 @@ ghost use Rattle.std.specs.Prelude.{◌≡◌, ◌≤◌, ◌++◌, option_map, 
 ghost use Rattle.std.specs.List.{list_all, list_any};
 ghost use Rattle.std.specs.Str.{bytes_eq};
 ghost use Rattle.serde_json.specs.View.{view, members_view};
-ghost use Rattle.path_capture.specs.Write.{tree_of};
+ghost use Rattle.path_capture.specs.Write.{tree_or_null};
 ghost use Rattle.sessions.specs.Message.{Tells, value_of, names_of, has_only, text_at, whole_at, verb_of, verb_in, form_members, verb_members, stamp_of, IsWithin, path_of, tree_of_value, write_of, event_of, request_of, asks};
 ghost use Rattle.sessions.specs.declared.message.MessageFault.TheVariants.{NoMemory as no_memory};
 
@@ -260,7 +260,7 @@ fn path_of(alloc: Global, text: &str) -> Result<Path, MessageFault>
 }
 
 fn tree_of_value(alloc: Global, value: &Value) -> Result<Option<Node>, MessageFault>
-    ensures { Tells tree_of result (tree_of_value (view value.now)) }
+    ensures { Tells tree_or_null result (tree_of_value (view value.now)) }
 {
     match from_json(alloc, value) {
         Ok(tree) => Ok(tree),
@@ -271,7 +271,7 @@ fn tree_of_value(alloc: Global, value: &Value) -> Result<Option<Node>, MessageFa
 }
 
 fn write_of(path: Path, tree: Option<Node>) -> Result<Event, MessageFault>
-    ensures { Tells (λ event. event) result (write_of path (tree_of tree)) }
+    ensures { Tells (λ event. event) result (write_of path (tree_or_null tree)) }
 {
     match Write::new(path, tree) {
         Ok(write) => Ok(Event::Set(write)),

@@ -1,7 +1,8 @@
 //! Text on its way to a sink, which is kept until there is much of it.
 ghost use Rattle.std.specs.Prelude.{◌≡◌, ◌≤◌, ◌++◌, [], true, false, vec_len, vec_capacity, IfOk, OnOk, OnErr, MatchResult};
 ghost use Rattle.std.specs.Io.KnownBytes.{Appends};
-ghost use Rattle.sessions.specs.Sent.{Passes, Breaks};
+ghost use Rattle.sessions.specs.declared.outgoing.TheConstants.{MAX_KEPT_BYTES};
+ghost use Rattle.sessions.specs.Working.Sent.{Passes, Breaks};
 
 use crate::stream::{Broken, Sink};
 use json_tree::NoMemory;
@@ -15,8 +16,8 @@ pub const MAX_KEPT_BYTES: usize = 65_536;
 #[derive(Drop)]
 pub struct Outgoing {
     bytes: Vec<u8>,
-    ghost room: { 65536 ≤ vec_capacity bytes },
-    ghost fits: { vec_len bytes ≤ 65536 },
+    ghost room: { MAX_KEPT_BYTES ≤ vec_capacity bytes },
+    ghost fits: { vec_len bytes ≤ MAX_KEPT_BYTES },
 }
 
 impl Outgoing {

@@ -1,8 +1,8 @@
 //! What a line is answered: a header by its acceptance or its refusal, a request by a reply.
-ghost use Rattle.std.specs.Prelude.{◌≡◌, IfOk, IsOk};
-ghost use Rattle.sessions.specs.Text.{text, fault_text, rules_fault_text};
-ghost use Rattle.sessions.specs.Said.{unopened, running, as_line};
-ghost use Rattle.sessions.specs.Follow.{phase_of, reached, bytes_of, Adds};
+ghost use Rattle.std.specs.Prelude.{◌≡◌, ◌≢◌, IfOk, IsOk, OnErr};
+ghost use Rattle.sessions.specs.AnswerText.{text, fault_text, rules_fault_text};
+ghost use Rattle.sessions.specs.Said.{unopened, refused, running, as_line};
+ghost use Rattle.sessions.specs.Working.Follow.{phase_of, bytes_of, AnswersAt};
 ghost use Rattle.rtdb_core.specs.declared.reply.Reply.TheVariants as replies;
 ghost use Rattle.rtdb_core.specs.declared.reply.Refusal.TheVariants as refusals;
 ghost use Rattle.rules_reader.specs.declared.fault.RulesFault.TheVariants as rules_faults;
@@ -16,6 +16,17 @@ use json_tree::NoMemory;
 use rtdb_core::{Core, Refusal, Reply};
 use rules_reader::RulesFault;
 use std::alloc::Global;
+
+/// Where a script stands.
+#[derive(Drop)]
+pub enum Stage {
+    /// Before its header.
+    Unopened,
+    /// After a header that was refused: no line is answered any more.
+    Refused,
+    /// With the database that its header has opened.
+    Running(Core),
+}
 
 /// An answer, as a line of the output with its line feed.
 #[derive(Debug, Drop)]
@@ -42,23 +53,27 @@ impl Answer {
     }
 }
 
-/// Answers a line that is not blank: the header, where there is no machine yet, else a request. A
-/// header that is refused leaves no machine. An error is want of memory for the answer's text, and
-/// the request may have been done.
+/// Answers a line that is not blank: the header, where there is no database yet, else a request. An
+/// error is want of memory for the answer's text, and the request may have been done.
 pub fn respond(
     alloc: Global,
-    machine: &mut Option<Core>,
+    stage: &mut Stage,
     arena: &mut Bump,
     line: &[u8],
 ) -> Result<Answer, NoMemory>
-    ensures { IfOk result (λ answer. Adds (phase_of machine.old) line.now (reached machine.new) (bytes_of answer)) }
+    requires { phase_of stage.old ≢ refused }
+    ensures ok { IfOk result (λ answer. AnswersAt (phase_of stage.old) line.now (phase_of stage.new) (bytes_of answer)) }
+    ensures err { OnErr result (phase_of stage.new ≢ refused) }
 {
-    if let Some(core) = machine {
-        return answer_request(alloc, core, arena, line);
+    match stage {
+        Stage::Unopened => {
+            let (opened, answer) = open(alloc, line)?;
+            *stage = opened;
+            Ok(answer)
+        }
+        Stage::Refused => unreachable!(),
+        Stage::Running(core) => answer_request(alloc, core, arena, line),
     }
-    let (opened, answer) = open(alloc, line)?;
-    *machine = opened;
-    Ok(answer)
 }
 
 fn answer_request(
@@ -67,7 +82,7 @@ fn answer_request(
     arena: &mut Bump,
     line: &[u8],
 ) -> Result<Answer, NoMemory>
-    ensures { IfOk result (λ answer. Adds (running core.old) line.now (running core.new) (bytes_of answer)) }
+    ensures { IfOk result (λ answer. AnswersAt (running core.old) line.now (running core.new) (bytes_of answer)) }
 {
     match read_request(alloc, line, Form::Script) {
         Ok(request) => {
@@ -79,17 +94,17 @@ fn answer_request(
     }
 }
 
-// The database that a header opens, None where it is refused, and the answer to it.
-fn open(alloc: Global, line: &[u8]) -> Result<(Option<Core>, Answer), NoMemory>
-    ensures { IfOk result (λ r. Adds unopened line.now (reached r.0) (bytes_of r.1)) }
+// Where a header leads, and the answer to it.
+fn open(alloc: Global, line: &[u8]) -> Result<(Stage, Answer), NoMemory>
+    ensures { IfOk result (λ r. AnswersAt unopened line.now (phase_of r.0) (bytes_of r.1)) }
 {
     match read_header(alloc, line) {
         Ok(rules) => {
             let answer = written(write_accepted(alloc, rules.count())?)?;
-            Ok((Some(Core::new(alloc, rules, None)), answer))
+            Ok((Stage::Running(Core::new(alloc, rules, None)), answer))
         }
-        Err(HeaderFault::Line(fault)) => Ok((None, say_fault(alloc, fault)?)),
-        Err(HeaderFault::Rules(fault)) => Ok((None, say_rules_fault(alloc, &fault)?)),
+        Err(HeaderFault::Line(fault)) => Ok((Stage::Refused, say_fault(alloc, fault)?)),
+        Err(HeaderFault::Rules(fault)) => Ok((Stage::Refused, say_rules_fault(alloc, &fault)?)),
     }
 }
 

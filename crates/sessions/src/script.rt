@@ -1,11 +1,12 @@
 //! A script: a header and then requests, one to a line, each answered by a line.
 ghost use Rattle.std.specs.Prelude.{◌≡◌, ◌≢◌, ℕ, ◌<◌, ◌++◌, ◌∷◌, [], Bool, true, false, List, length, vec_len, IfOk, IfErr, OnOk, MatchResult, IfSome, IfNone, Option};
 ghost use Rattle.std.specs.Io.KnownBytes.{Appends, Consumes};
-ghost use Rattle.sessions.specs.Lines.{told};
-ghost use Rattle.sessions.specs.Said.{Stands};
-ghost use Rattle.sessions.specs.Parts.{Holds, IsPlain};
-ghost use Rattle.sessions.specs.Follow.{phase_of, Goes, LineStops, IsAfter, FeedStops, Halts, Sends};
-ghost use Rattle.sessions.specs.Ends.{Ends};
+ghost use Rattle.sessions.specs.Lines.{non_blank};
+ghost use Rattle.sessions.specs.Said.{refused, IsWritten};
+ghost use Rattle.sessions.specs.Working.Parts.{KeepsFront, IsPlain};
+ghost use Rattle.sessions.specs.Working.Sent.{tells};
+ghost use Rattle.sessions.specs.Working.Follow.{phase_of, HasAnswered, StopsAfter, IsAfter, StopsWithin, Halts, Sends};
+ghost use Rattle.sessions.specs.Ends.{SourceTells, Ends};
 
 use crate::desk::{Desk, Stop};
 use crate::line::{Line, is_blank};
@@ -47,7 +48,8 @@ struct Script {
 
 impl Script {
     fn new(alloc: Global) -> Result<Script, NoMemory>
-        ensures { IfOk result (λ script. IsAfter script [] []) }
+        ensures after { IfOk result (λ script. IsAfter script [] []) }
+        ensures going { IfOk result (λ script. phase_of script.desk.stage ≢ refused) }
     {
         let desk = Desk::new(alloc)?;
         Ok(Script {
@@ -58,17 +60,19 @@ impl Script {
 
     // Answers the line that is held, and begins the next.
     fn end_line<W: Sink>(&mut self, sink: &mut W, arena: &mut Bump) -> Result<(), Stop>
-        requires { W.failed sink.old ≡ false }
+        requires sound { W.failed sink.old ≡ false }
+        requires going { phase_of self.old.desk.stage ≢ refused }
         ensures ok { (lines : List (List ℕ)) (line sent : List ℕ)
-            → Holds self.old.line.kept.items self.old.line.blank line
-            → Stands (told lines) (phase_of self.old.desk.machine) (sent ++ self.old.desk.outgoing.bytes.items)
-            → OnOk result (Goes (lines ++ line ∷ []) (phase_of self.new.desk.machine) (W.written sink.old) (W.written sink.new) sent self.new.desk.outgoing.bytes.items) }
-        ensures next { OnOk result (Holds self.new.line.kept.items self.new.line.blank []) }
+            → KeepsFront self.old.line.kept.items self.old.line.blank line
+            → IsWritten (non_blank lines) (phase_of self.old.desk.stage) (sent ++ self.old.desk.outgoing.bytes.items)
+            → OnOk result (HasAnswered (lines ++ line ∷ []) (phase_of self.new.desk.stage) (W.written sink.old) (W.written sink.new) sent self.new.desk.outgoing.bytes.items) }
+        ensures next { OnOk result (KeepsFront self.new.line.kept.items self.new.line.blank []) }
         ensures err { (lines : List (List ℕ)) (line sent : List ℕ)
-            → Holds self.old.line.kept.items self.old.line.blank line
-            → Stands (told lines) (phase_of self.old.desk.machine) (sent ++ self.old.desk.outgoing.bytes.items)
-            → IfErr result (λ stop. LineStops stop (W.written sink.old) (W.written sink.new) (W.failed sink.new)
+            → KeepsFront self.old.line.kept.items self.old.line.blank line
+            → IsWritten (non_blank lines) (phase_of self.old.desk.stage) (sent ++ self.old.desk.outgoing.bytes.items)
+            → IfErr result (λ stop. StopsAfter stop (tells (W.written sink.old) (W.written sink.new) (W.failed sink.new))
             self.new.desk.outgoing.bytes.items lines line sent) }
+        ensures going { OnOk result (phase_of self.new.desk.stage ≢ refused) }
         ensures sound { MatchResult result (λ _. W.failed sink.new ≡ W.failed sink.old) (λ stop. stop ≢ Stop.WriteFault → W.failed sink.new ≡ W.failed sink.old) }
     {
         match self
@@ -93,14 +97,16 @@ impl Script {
     ) -> Result<(), Stop>
         requires plain { IsPlain part.now }
         requires sound { W.failed sink.old ≡ false }
+        requires going { phase_of self.old.desk.stage ≢ refused }
         ensures ok { (taken sent : List ℕ)
             → IsAfter self.old taken sent
             → OnOk result ((more : List ℕ) × Appends (W.written sink.old) (W.written sink.new) more
             × IsAfter self.new (taken ++ (part.now ++ 10 ∷ [])) (sent ++ more)) }
         ensures err { (taken sent : List ℕ)
             → IsAfter self.old taken sent
-            → IfErr result (λ stop. FeedStops stop (W.written sink.old) (W.written sink.new) (W.failed sink.new)
+            → IfErr result (λ stop. StopsWithin stop (tells (W.written sink.old) (W.written sink.new) (W.failed sink.new))
             self.new.desk.outgoing.bytes.items (taken ++ (part.now ++ 10 ∷ [])) sent) }
+        ensures going { OnOk result (phase_of self.new.desk.stage ≢ refused) }
         ensures sound { MatchResult result (λ _. W.failed sink.new ≡ W.failed sink.old) (λ stop. stop ≢ Stop.WriteFault → W.failed sink.new ≡ W.failed sink.old) }
     {
         if self.line.is_empty() {
@@ -121,15 +127,17 @@ impl Script {
 
     // Takes the next piece of the input, and answers each line that ends in it.
     fn feed<W: Sink>(&mut self, sink: &mut W, arena: &mut Bump, piece: &[u8]) -> Result<(), Stop>
-        requires { W.failed sink.old ≡ false }
+        requires sound { W.failed sink.old ≡ false }
+        requires going { phase_of self.old.desk.stage ≢ refused }
         ensures ok { (taken sent : List ℕ)
             → IsAfter self.old taken sent
             → OnOk result ((more : List ℕ) × Appends (W.written sink.old) (W.written sink.new) more
             × IsAfter self.new (taken ++ piece.now) (sent ++ more)) }
         ensures err { (taken sent : List ℕ)
             → IsAfter self.old taken sent
-            → IfErr result (λ stop. FeedStops stop (W.written sink.old) (W.written sink.new) (W.failed sink.new)
+            → IfErr result (λ stop. StopsWithin stop (tells (W.written sink.old) (W.written sink.new) (W.failed sink.new))
             self.new.desk.outgoing.bytes.items (taken ++ piece.now) sent) }
+        ensures going { OnOk result (phase_of self.new.desk.stage ≢ refused) }
         ensures sound { MatchResult result (λ _. W.failed sink.new ≡ W.failed sink.old) (λ stop. stop ≢ Stop.WriteFault → W.failed sink.new ≡ W.failed sink.old) }
     {
         let mut rest = piece;
@@ -154,7 +162,8 @@ impl Script {
         arena: &mut Bump,
         piece: &[u8],
     ) -> Result<(), Stop>
-        requires { W.failed sink.old ≡ false }
+        requires sound { W.failed sink.old ≡ false }
+        requires going { phase_of self.old.desk.stage ≢ refused }
         ensures ok { (taken sent : List ℕ)
             → IsAfter self.old taken sent
             → OnOk result ((more : List ℕ) × Appends (W.written sink.old) (W.written sink.new) more
@@ -162,8 +171,9 @@ impl Script {
         ensures handed_on { OnOk result ((self.new.desk.outgoing.bytes.items ≡ []) × (W.handed_on sink.new ≡ true)) }
         ensures err { (taken sent : List ℕ)
             → IsAfter self.old taken sent
-            → IfErr result (λ stop. FeedStops stop (W.written sink.old) (W.written sink.new) (W.failed sink.new)
+            → IfErr result (λ stop. StopsWithin stop (tells (W.written sink.old) (W.written sink.new) (W.failed sink.new))
             self.new.desk.outgoing.bytes.items (taken ++ piece.now) sent) }
+        ensures going { OnOk result (phase_of self.new.desk.stage ≢ refused) }
         ensures sound { MatchResult result (λ _. W.failed sink.new ≡ W.failed sink.old) (λ stop. stop ≢ Stop.WriteFault → W.failed sink.new ≡ W.failed sink.old) }
     {
         match self.feed(sink, arena, piece) {
@@ -188,13 +198,15 @@ impl Script {
         requires unread { R.reads source.old ≡ 0 }
         requires room { 0 < length block.old }
         requires begins { IsAfter self.old [] [] }
+        requires going { phase_of self.old.desk.stage ≢ refused }
         requires source { R.failed source.old ≡ false }
         requires sink { W.failed sink.old ≡ false }
         ensures source { result ≢ ScriptEnd.ReadFault → R.failed source.new ≡ R.failed source.old }
         ensures sink { result ≢ ScriptEnd.WriteFault → W.failed sink.new ≡ W.failed sink.old }
+        ensures going { result ≡ ScriptEnd.Finished → phase_of self.new.desk.stage ≢ refused }
         ensures halts { (taken sent : List ℕ) × Consumes (R.left source.old) (R.left source.new) taken
             × Appends (W.written sink.old) (W.written sink.new) sent
-            × Halts result (R.left source.new) (R.failed source.new) (R.reads source.new) (W.failed sink.new) self.new taken sent }
+            × Halts result (record { left = R.left source.new; failed = R.failed source.new; reads = R.reads source.new }) (W.failed sink.new) self.new taken sent }
     {
         for _made in 0..MAX_READS {
             match source.read(block) {
@@ -226,13 +238,14 @@ impl Script {
     // Answers a last line that has no line feed, where the input is at its end, and writes what is
     // kept of the answers.
     fn finish<W: Sink>(&mut self, sink: &mut W, arena: &mut Bump, end: ScriptEnd) -> ScriptEnd
-        requires { end ≢ ScriptEnd.WriteFault → W.failed sink.old ≡ false }
+        requires sound { end ≢ ScriptEnd.WriteFault → W.failed sink.old ≡ false }
+        requires going { end ≡ ScriptEnd.Finished → phase_of self.old.desk.stage ≢ refused }
         ensures sound { result ≢ ScriptEnd.WriteFault → (end ≢ ScriptEnd.WriteFault) × (W.failed sink.new ≡ W.failed sink.old) × (W.handed_on sink.new ≡ true) }
         ensures fault { end ≡ ScriptEnd.ReadFault → result ≢ ScriptEnd.WriteFault → result ≡ ScriptEnd.ReadFault }
-        ensures ends { (taken sent : List ℕ) (left : Option (List ℕ)) (source_failed : Bool) (reads : ℕ)
-            → Halts end left source_failed reads (W.failed sink.old) self.old taken sent
+        ensures ends { (taken sent : List ℕ) (source : SourceTells)
+            → Halts end source (W.failed sink.old) self.old taken sent
             → (more : List ℕ) × Appends (W.written sink.old) (W.written sink.new) more
-            × Ends result taken left source_failed reads (W.failed sink.new) (sent ++ more) }
+            × Ends result taken source (W.failed sink.new) (sent ++ more) }
     {
         match end {
             ScriptEnd::Finished => match self.end_line(sink, arena) {
@@ -251,9 +264,9 @@ impl Script {
 
 /// Runs a script: reads its header and its requests from the source, 64 KiB at a time where so much
 /// is there, and writes their answers to the sink, which has all answers to what was read before the
-/// next read. It takes 128 KiB for what is
-/// read and written, up to about 2 MiB for a line that is cut by the end of a block, and what each
-/// line needs; each step is handed the arena. A sink that has failed is written to no more.
+/// next read. It takes 128 KiB for what is read and written, up to about 2 MiB for a line that is cut
+/// by the end of a block, and what each line needs; each step is handed the arena. A source that has
+/// failed is read no more, and a sink that has failed is written to no more.
 pub fn run_script<R: Source, W: Sink>(
     alloc: Global,
     source: &mut R,
@@ -268,15 +281,13 @@ pub fn run_script<R: Source, W: Sink>(
     ensures flushed { result ≢ ScriptEnd.WriteFault → result ≢ ScriptEnd.NoMemory → W.handed_on sink.new ≡ true }
     ensures ends { (taken out : List ℕ) × Consumes (R.left source.old) (R.left source.new) taken
         × Appends (W.written sink.old) (W.written sink.new) out
-        × Ends result taken (R.left source.new) (R.failed source.new) (R.reads source.new) (W.failed sink.new) out }
+        × Ends result taken (record { left = R.left source.new; failed = R.failed source.new; reads = R.reads source.new }) (W.failed sink.new) out }
 {
-    let mut block = match new_block(alloc) {
-        Ok(block) => block,
-        Err(_) => return ScriptEnd::NoMemory,
+    let Ok(mut block) = new_block(alloc) else {
+        return ScriptEnd::NoMemory;
     };
-    let mut script = match Script::new(alloc) {
-        Ok(script) => script,
-        Err(_) => return ScriptEnd::NoMemory,
+    let Ok(mut script) = Script::new(alloc) else {
+        return ScriptEnd::NoMemory;
     };
     let end = script.read_all(source, sink, arena, &mut block);
     script.finish(sink, arena, end)

@@ -1,7 +1,7 @@
 //! Laws of what a script is answered.
 ghost use Rattle.std.specs.Prelude.{◌≡◌, ◌++◌, ℕ, List};
 ghost use Rattle.rtdb_core.specs.State.{State};
-ghost use Rattle.sessions.specs.Said.{Phase, running, IsAnswered, IsAnsweredInFull, AreAnswered, AreAnsweredByRun, Stands, IsSaidByRun};
+ghost use Rattle.sessions.specs.Said.{Phase, running, IsAnswered, IsAnsweredInFull, AreAnswered, AreAnsweredByRun, IsWritten, IsSaidByRun};
 
 /// The answers to the lines of a script are the texts of a run over what the lines ask: one step
 /// after another, and the faults in their places.
@@ -12,7 +12,7 @@ pub fn lines_are_answered_by_a_run()
 /// What is said to lines whose header is accepted, all of a script or those before a fault, is the
 /// answer to the header, and then the texts of a run from the state in which a database opens.
 pub fn what_is_said_is_a_run_from_the_opening()
-    ensures { (lines : List (List ℕ)) (out : List ℕ) (state : State) → Stands lines (running state) out → IsSaidByRun lines state out }
+    ensures { (lines : List (List ℕ)) (out : List ℕ) (state : State) → IsWritten lines (running state) out → IsSaidByRun lines state out }
 {}
 
 /// Each line has an answer in which nothing wants memory, and one only. Whatever lines come after
@@ -22,5 +22,5 @@ pub fn every_line_has_an_answer()
     ensures some { (old : State) (line : List ℕ) → (text : List ℕ) × (new : State) × IsAnsweredInFull old line text new }
     ensures one { (old new other : State) (line text another : List ℕ) → IsAnsweredInFull old line text new → IsAnsweredInFull old line another other → (text ≡ another) × (new ≡ other) }
     ensures answers { (old new : State) (line text : List ℕ) → IsAnsweredInFull old line text new → IsAnswered old line text new }
-    ensures front { (lines more : List (List ℕ)) (phase : Phase) (out : List ℕ) → Stands lines phase out → (reached : Phase) × (rest : List ℕ) × Stands (lines ++ more) reached (out ++ rest) }
+    ensures front { (lines more : List (List ℕ)) (phase : Phase) (out : List ℕ) → IsWritten lines phase out → (reached : Phase) × (rest : List ℕ) × IsWritten (lines ++ more) reached (out ++ rest) }
 {}

@@ -12,7 +12,7 @@ use Rattle.tree_model.specs.Primitive.{Primitive}
 use Rattle.tree_model.specs.PathMap.{is_null, sub, exists}
 use Rattle.tree_model.specs.Tree.{existing, count, first_key, children, child_keys}
 use Rattle.tree_model.specs.Write.{Write, is_replaced, is_covered, stays, placed, proposed}
-use Rattle.tree_model.specs.Worked.{tree_of}
+use Rattle.tree_model.specs.Worked.{tree_of_pairs}
 use Rattle.tree_model.proofs.Orders.{keys_total, paths_total, path_eq}
 
 abbrev Pairs : Type 0
@@ -31,15 +31,15 @@ entries_of {X = X} {R = R} o [] = nil_of_length _ (sym (map_of.len-entries (map_
     nil_of_length (x ∷ xs) h = cc
 entries_of {R = R} o (e ∷ es) = map_of.entries-insert o (map_of.from_entries es) e.0 e.1 ∙ ap (put R e.0 e.1) (entries_of o es)
 
-pub tree_of-entries : (es : Pairs) → map_of.entries (tree_of es) ≡ in_order path_cmp es
-tree_of-entries es = entries_of paths_total es
+pub tree_of_pairs-entries : (es : Pairs) → map_of.entries (tree_of_pairs es) ≡ in_order path_cmp es
+tree_of_pairs-entries es = entries_of paths_total es
 
-pub same_listed : (es fs : Pairs) → in_order path_cmp es ≡ in_order path_cmp fs → tree_of es ≡ tree_of fs
-same_listed es fs h = map_of.same_entries_map _ _ (tree_of-entries es ∙ h ∙ sym (tree_of-entries fs))
+pub same_listed : (es fs : Pairs) → in_order path_cmp es ≡ in_order path_cmp fs → tree_of_pairs es ≡ tree_of_pairs fs
+same_listed es fs h = map_of.same_entries_map _ _ (tree_of_pairs-entries es ∙ h ∙ sym (tree_of_pairs-entries fs))
 
-pub exists-listed : (es : Pairs) (p : Path) → exists (tree_of es) p ≡ list_any (is_prefix p) (map (λ e. e.0) (in_order path_cmp es))
+pub exists-listed : (es : Pairs) (p : Path) → exists (tree_of_pairs es) p ≡ list_any (is_prefix p) (map (λ e. e.0) (in_order path_cmp es))
 unfolding exists
-exists-listed es p = ap (λ fs. list_any (is_prefix p) (map (λ e. e.0) fs)) (tree_of-entries es)
+exists-listed es p = ap (λ fs. list_any (is_prefix p) (map (λ e. e.0) fs)) (tree_of_pairs-entries es)
 
 -- how many different paths there are, each counted where it stands last
 abbrev pub different : List Path → ℕ
@@ -50,15 +50,15 @@ len-from_list : (ps : List Path) → set_of.len (set_of.from_list {R = path_cmp}
 len-from_list [] = set_of.len-empty path_cmp
 len-from_list (p ∷ ps) = set_of.len-insert paths_total (set_of.from_list ps) p ∙ (λ i. cond (set_of.contains-from_list paths_total ps p i) (len-from_list ps i) (len-from_list ps i + 1))
 
-pub count-listed : (es : Pairs) → count (tree_of es) ≡ different (flat_map prefixes (map (λ e. e.0) (in_order path_cmp es)))
+pub count-listed : (es : Pairs) → count (tree_of_pairs es) ≡ different (flat_map prefixes (map (λ e. e.0) (in_order path_cmp es)))
 unfolding count existing
-count-listed es = len-from_list _ ∙ ap (λ fs. different (flat_map prefixes (map (λ e. e.0) fs))) (tree_of-entries es)
+count-listed es = len-from_list _ ∙ ap (λ fs. different (flat_map prefixes (map (λ e. e.0) fs))) (tree_of_pairs-entries es)
 
-pub child_keys-listed : (es : Pairs) → child_keys (tree_of es) ≡ map (λ e. e.0) (in_order key_cmp (filter_map (λ e. option_map (λ k. (k, sub (tree_of es) (k ∷ []))) (first_key e.0)) (in_order path_cmp es)))
+pub child_keys-listed : (es : Pairs) → child_keys (tree_of_pairs es) ≡ map (λ e. e.0) (in_order key_cmp (filter_map (λ e. option_map (λ k. (k, sub (tree_of_pairs es) (k ∷ []))) (first_key e.0)) (in_order path_cmp es)))
 unfolding child_keys children
 child_keys-listed es =
-    ap (λ fs. map (λ e. e.0) fs) (entries_of keys_total (filter_map (λ e. option_map (λ k. (k, sub (tree_of es) (k ∷ []))) (first_key e.0)) (map_of.entries (tree_of es))))
-    ∙ ap (λ fs. map (λ e. e.0) (in_order key_cmp (filter_map (λ e. option_map (λ k. (k, sub (tree_of es) (k ∷ []))) (first_key e.0)) fs))) (tree_of-entries es)
+    ap (λ fs. map (λ e. e.0) fs) (entries_of keys_total (filter_map (λ e. option_map (λ k. (k, sub (tree_of_pairs es) (k ∷ []))) (first_key e.0)) (map_of.entries (tree_of_pairs es))))
+    ∙ ap (λ fs. map (λ e. e.0) (in_order key_cmp (filter_map (λ e. option_map (λ k. (k, sub (tree_of_pairs es) (k ∷ []))) (first_key e.0)) fs))) (tree_of_pairs-entries es)
 
 -- ---- writes that are written out
 
@@ -66,7 +66,7 @@ abbrev pub Listed : Type 0
 Listed = Path × Pairs
 
 abbrev opened : Listed → Write
-opened w = (w.0, tree_of w.1)
+opened w = (w.0, tree_of_pairs w.1)
 
 abbrev covers : Path → Listed → Bool
 covers q w = is_proper_prefix q w.0 && not (length (in_order path_cmp w.1) == 0)
@@ -77,8 +77,8 @@ remains ws q = not (list_any (λ w. is_prefix w.0 q) ws) && not (list_any (cover
 abbrev puts : Listed → Pairs
 puts w = map (λ e. (w.0 ++ e.0, e.1)) (in_order path_cmp w.1)
 
-null-listed : (es : Pairs) → is_null (tree_of es) ≡ (length (in_order path_cmp es) == 0)
-null-listed es = ap (λ n. n == 0) (map_of.len-entries (tree_of es) ∙ ap length (tree_of-entries es))
+null-listed : (es : Pairs) → is_null (tree_of_pairs es) ≡ (length (in_order path_cmp es) == 0)
+null-listed es = ap (λ n. n == 0) (map_of.len-entries (tree_of_pairs es) ∙ ap length (tree_of_pairs-entries es))
 
 replaced-listed : (q : Path) (ws : List Listed) → list_any (is_replaced q) (map opened ws) ≡ list_any (λ w. is_prefix w.0 q) ws
 replaced-listed q [] = refl
@@ -94,14 +94,14 @@ filter-listed ws (e ∷ es) = λ i. cond (not (replaced-listed e.0 ws i) && not 
 
 placed-listed : (ws : List Listed) → flat_map placed (map opened ws) ≡ flat_map puts ws
 placed-listed [] = refl
-placed-listed (w ∷ ws) = λ i. map (λ e. (w.0 ++ e.0, e.1)) (tree_of-entries w.1 i) ++ placed-listed ws i
+placed-listed (w ∷ ws) = λ i. map (λ e. (w.0 ++ e.0, e.1)) (tree_of_pairs-entries w.1 i) ++ placed-listed ws i
 
 -- what the writes make of the pairs
 abbrev pub made : Pairs → List Listed → Pairs
 made es ws = filter (λ e. remains ws e.0) (in_order path_cmp es) ++ flat_map puts ws
 
-pub proposed-listed : (es : Pairs) (ws : List Listed) (fs : Pairs) → in_order path_cmp (made es ws) ≡ in_order path_cmp fs → proposed (tree_of es) (map opened ws) ≡ tree_of fs
+pub proposed-listed : (es : Pairs) (ws : List Listed) (fs : Pairs) → in_order path_cmp (made es ws) ≡ in_order path_cmp fs → proposed (tree_of_pairs es) (map opened ws) ≡ tree_of_pairs fs
 unfolding proposed
 proposed-listed es ws fs h =
-    ap tree_of ((λ i. filter (λ e. stays (map opened ws) e.0) (tree_of-entries es i) ++ placed-listed ws i) ∙ ap (λ gs. gs ++ flat_map puts ws) (filter-listed ws (in_order path_cmp es)))
+    ap tree_of_pairs ((λ i. filter (λ e. stays (map opened ws) e.0) (tree_of_pairs-entries es i) ++ placed-listed ws i) ∙ ap (λ gs. gs ++ flat_map puts ws) (filter-listed ws (in_order path_cmp es)))
     ∙ same_listed (made es ws) fs h

@@ -6,5 +6,5 @@ use Rattle.tree_model.specs.Primitive.{Primitive}
 use Rattle.tree_model.specs.Tree.{Tree}
 
 -- the tree of these pairs
-abbrev pub tree_of : List (Path × Primitive) → Tree
-tree_of es = map_of.from_entries es
+abbrev pub tree_of_pairs : List (Path × Primitive) → Tree
+tree_of_pairs es = map_of.from_entries es

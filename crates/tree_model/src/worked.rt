@@ -6,68 +6,68 @@ ghost use Rattle.tree_model.specs.Primitive.{truth, whole, words, is_primitive};
 ghost use Rattle.tree_model.specs.PathMap.{exists};
 ghost use Rattle.tree_model.specs.Tree.{null, count, child_keys, IsTree};
 ghost use Rattle.tree_model.specs.Write.{overlaps, proposed};
-ghost use Rattle.tree_model.specs.Worked.{tree_of};
+ghost use Rattle.tree_model.specs.Worked.{tree_of_pairs};
 
 /// In `{"a":{"b":1}}` there are the locations `/`, `/a` and `/a/b`, and no others: `/a/c` is none.
 pub fn a_location_exists_at_or_above_a_primitive()
-    ensures root { let t = tree_of ((codes "a" ∷ codes "b" ∷ [], whole (pos 1)) ∷ []) in exists t [] ≡ true }
-    ensures above { let t = tree_of ((codes "a" ∷ codes "b" ∷ [], whole (pos 1)) ∷ []) in exists t (codes "a" ∷ []) ≡ true }
-    ensures at { let t = tree_of ((codes "a" ∷ codes "b" ∷ [], whole (pos 1)) ∷ []) in exists t (codes "a" ∷ codes "b" ∷ []) ≡ true }
-    ensures nowhere_else { let t = tree_of ((codes "a" ∷ codes "b" ∷ [], whole (pos 1)) ∷ []) in exists t (codes "a" ∷ codes "c" ∷ []) ≡ false }
-    ensures counted { let t = tree_of ((codes "a" ∷ codes "b" ∷ [], whole (pos 1)) ∷ []) in count t ≡ 3 }
+    ensures root { let t = tree_of_pairs ((codes "a" ∷ codes "b" ∷ [], whole (pos 1)) ∷ []) in exists t [] ≡ true }
+    ensures above { let t = tree_of_pairs ((codes "a" ∷ codes "b" ∷ [], whole (pos 1)) ∷ []) in exists t (codes "a" ∷ []) ≡ true }
+    ensures at { let t = tree_of_pairs ((codes "a" ∷ codes "b" ∷ [], whole (pos 1)) ∷ []) in exists t (codes "a" ∷ codes "b" ∷ []) ≡ true }
+    ensures nowhere_else { let t = tree_of_pairs ((codes "a" ∷ codes "b" ∷ [], whole (pos 1)) ∷ []) in exists t (codes "a" ∷ codes "c" ∷ []) ≡ false }
+    ensures counted { let t = tree_of_pairs ((codes "a" ∷ codes "b" ∷ [], whole (pos 1)) ∷ []) in count t ≡ 3 }
 {}
 
 /// A primitive at `/a` and another at `/a/b` are no tree.
 pub fn no_primitive_lies_below_another()
-    ensures { ¬ (IsTree (tree_of ((codes "a" ∷ [], whole (pos 5)) ∷ (codes "a" ∷ codes "b" ∷ [], whole (pos 1)) ∷ []))) }
+    ensures { ¬ (IsTree (tree_of_pairs ((codes "a" ∷ [], whole (pos 5)) ∷ (codes "a" ∷ codes "b" ∷ [], whole (pos 1)) ∷ []))) }
 {}
 
 /// Removing `/a` from `{"a":{"b":1}}` leaves nothing: what is empty is not stored.
 pub fn what_is_empty_is_not_stored()
-    ensures { proposed (tree_of ((codes "a" ∷ codes "b" ∷ [], whole (pos 1)) ∷ [])) ((codes "a" ∷ [], null) ∷ []) ≡ null }
+    ensures { proposed (tree_of_pairs ((codes "a" ∷ codes "b" ∷ [], whole (pos 1)) ∷ [])) ((codes "a" ∷ [], null) ∷ []) ≡ null }
 {}
 
 /// The elements 0, 2 and 10 of an array are children of these keys, in the order of their bytes.
 pub fn an_array_is_an_object()
-    ensures { child_keys (tree_of ((codes "0" ∷ [], truth true) ∷ (codes "2" ∷ [], truth true) ∷ (codes "10" ∷ [], truth true) ∷ []))
+    ensures { child_keys (tree_of_pairs ((codes "0" ∷ [], truth true) ∷ (codes "2" ∷ [], truth true) ∷ (codes "10" ∷ [], truth true) ∷ []))
         ≡ codes "0" ∷ codes "10" ∷ codes "2" ∷ [] }
 {}
 
 /// Setting `/a` to 5 in `{"a":{"b":1,"c":2},"d":3}` gives `{"a":5,"d":3}`.
 pub fn a_write_replaces_what_is_at_its_location()
     ensures { proposed
-        (tree_of ((codes "a" ∷ codes "b" ∷ [], whole (pos 1)) ∷ (codes "a" ∷ codes "c" ∷ [], whole (pos 2)) ∷ (codes "d" ∷ [], whole (pos 3)) ∷ []))
-        ((codes "a" ∷ [], tree_of (([], whole (pos 5)) ∷ [])) ∷ [])
-        ≡ tree_of ((codes "a" ∷ [], whole (pos 5)) ∷ (codes "d" ∷ [], whole (pos 3)) ∷ []) }
+        (tree_of_pairs ((codes "a" ∷ codes "b" ∷ [], whole (pos 1)) ∷ (codes "a" ∷ codes "c" ∷ [], whole (pos 2)) ∷ (codes "d" ∷ [], whole (pos 3)) ∷ []))
+        ((codes "a" ∷ [], tree_of_pairs (([], whole (pos 5)) ∷ [])) ∷ [])
+        ≡ tree_of_pairs ((codes "a" ∷ [], whole (pos 5)) ∷ (codes "d" ∷ [], whole (pos 3)) ∷ []) }
 {}
 
 /// Setting `/a/b` to true in `{"a":5}` gives `{"a":{"b":true}}`.
 pub fn a_write_below_a_primitive_replaces_it()
     ensures { proposed
-        (tree_of ((codes "a" ∷ [], whole (pos 5)) ∷ []))
-        ((codes "a" ∷ codes "b" ∷ [], tree_of (([], truth true) ∷ [])) ∷ [])
-        ≡ tree_of ((codes "a" ∷ codes "b" ∷ [], truth true) ∷ []) }
+        (tree_of_pairs ((codes "a" ∷ [], whole (pos 5)) ∷ []))
+        ((codes "a" ∷ codes "b" ∷ [], tree_of_pairs (([], truth true) ∷ [])) ∷ [])
+        ≡ tree_of_pairs ((codes "a" ∷ codes "b" ∷ [], truth true) ∷ []) }
 {}
 
 /// Removing `/a/b` in `{"a":5}` changes nothing.
 pub fn a_removal_below_a_primitive_changes_nothing()
-    ensures { proposed (tree_of ((codes "a" ∷ [], whole (pos 5)) ∷ [])) ((codes "a" ∷ codes "b" ∷ [], null) ∷ [])
-        ≡ tree_of ((codes "a" ∷ [], whole (pos 5)) ∷ []) }
+    ensures { proposed (tree_of_pairs ((codes "a" ∷ [], whole (pos 5)) ∷ [])) ((codes "a" ∷ codes "b" ∷ [], null) ∷ [])
+        ≡ tree_of_pairs ((codes "a" ∷ [], whole (pos 5)) ∷ []) }
 {}
 
 /// An update of nothing by `/a/n` and `/b/n` makes both.
 pub fn an_update_is_made_in_whole()
     ensures { proposed null
-        ((codes "a" ∷ codes "n" ∷ [], tree_of (([], whole (pos 1)) ∷ [])) ∷ (codes "b" ∷ codes "n" ∷ [], tree_of (([], whole (pos 1)) ∷ [])) ∷ [])
-        ≡ tree_of ((codes "a" ∷ codes "n" ∷ [], whole (pos 1)) ∷ (codes "b" ∷ codes "n" ∷ [], whole (pos 1)) ∷ []) }
+        ((codes "a" ∷ codes "n" ∷ [], tree_of_pairs (([], whole (pos 1)) ∷ [])) ∷ (codes "b" ∷ codes "n" ∷ [], tree_of_pairs (([], whole (pos 1)) ∷ [])) ∷ [])
+        ≡ tree_of_pairs ((codes "a" ∷ codes "n" ∷ [], whole (pos 1)) ∷ (codes "b" ∷ codes "n" ∷ [], whole (pos 1)) ∷ []) }
 {}
 
 /// Removing `/w/1/size` in `{"w":{"1":{"color":"red","size":3}}}` leaves the color alone.
 pub fn removing_a_child_leaves_its_siblings()
     ensures { proposed
-        (tree_of ((codes "w" ∷ codes "1" ∷ codes "color" ∷ [], words (codes "red")) ∷ (codes "w" ∷ codes "1" ∷ codes "size" ∷ [], whole (pos 3)) ∷ []))
+        (tree_of_pairs ((codes "w" ∷ codes "1" ∷ codes "color" ∷ [], words (codes "red")) ∷ (codes "w" ∷ codes "1" ∷ codes "size" ∷ [], whole (pos 3)) ∷ []))
         ((codes "w" ∷ codes "1" ∷ codes "size" ∷ [], null) ∷ [])
-        ≡ tree_of ((codes "w" ∷ codes "1" ∷ codes "color" ∷ [], words (codes "red")) ∷ []) }
+        ≡ tree_of_pairs ((codes "w" ∷ codes "1" ∷ codes "color" ∷ [], words (codes "red")) ∷ []) }
 {}
 
 /// `/a` and `/a/b` overlap, `/a/b` and `/a/c` do not.

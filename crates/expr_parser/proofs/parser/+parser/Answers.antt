@@ -2,7 +2,7 @@ use Rattle.std.proofs.Common.{rules, arith, ◌+◌, length-drop}
 use Rattle.std.proofs.lemmas.Grind.{common_steps}
 use Rattle.std.proofs.lemmas.List.{length-take}
 use Rattle.expr_tokens.specs.declared.token.Token.{Token}
-use Rattle.expr_parser.specs.Reading.{Whole, On, After, Args, Unary}
+use Rattle.expr_parser.specs.Working.Reading.{Whole, On, After, Args, Unary}
 use Rattle.expr_parser.specs.Tree.{none, no_argument}
 use Rattle.expr_parser.specs.View.{view}
 use Rattle.expr_parser.proofs.Turns.{read_step}

@@ -1,5 +1,5 @@
 use Rattle.std.proofs.Common.{◌≡◌, ◌≤◌, length, ◌+◌, ◌*◌}
-use Rattle.expr_parser.specs.Reading.{Climb, On, Items, read, call, postfix, after, items_on, args_on}
+use Rattle.expr_parser.specs.Working.Reading.{Climb, On, Items, read, call, postfix, after, items_on, args_on}
 use Rattle.expr_parser.specs.Tree.{none}
 use Rattle.expr_parser.specs.View.{view, views, arguments}
 use Rattle.expr_parser.proofs.parser.+parser.Given as goal

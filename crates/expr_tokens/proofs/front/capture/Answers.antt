@@ -2,8 +2,8 @@ use Rattle.std.proofs.Common.{◌∙◌, subst, sym, ap, List, ℕ, take, drop}
 use Rattle.std.specs.Str.{IsCharBoundary}
 use Rattle.expr_tokens.specs.declared.token.Token.TheVariants as t
 use Rattle.expr_tokens.specs.Words.{is_name_byte}
-use Rattle.expr_tokens.specs.Scanning.{IsRun, begins_name}
-use Rattle.expr_tokens.specs.Spelling.{Stands}
+use Rattle.expr_tokens.specs.Working.Scanning.{IsRun, begins_name}
+use Rattle.expr_tokens.specs.Spelling.{ComesFirst}
 use Rattle.expr_tokens.proofs.Runs.{run_boundary, byte_ascii}
 use Rattle.expr_tokens.proofs.Fronts.{dollar_boundary, dollar_fails, dollar_stands}
 use Rattle.expr_tokens.proofs.front.capture.Goals as goal
@@ -26,5 +26,5 @@ returns-clause-ok c = λ d.
     let s = dollar_stands c.args.text.now c.name_run.result c.requires r b d in
     let e = c.of_text.ensures ∙ c.split_at-2.ensures.front ∙ ap (take c.name_run.result) c.split_at.ensures.back in
     let f = c.split_at-2.ensures.back ∙ ap (drop c.name_run.result) c.split_at.ensures.back in
-    subst (λ (z : List ℕ). Stands d c.args.text.now (t.Capture c.of_text.result) z) (sym f)
-    (subst (λ (w : List ℕ). Stands d c.args.text.now (t.Capture w) (drop c.name_run.result (drop 1 c.args.text.now))) (sym e) s)
+    subst (λ (z : List ℕ). ComesFirst d c.args.text.now (t.Capture c.of_text.result) z) (sym f)
+    (subst (λ (w : List ℕ). ComesFirst d c.args.text.now (t.Capture w) (drop c.name_run.result (drop 1 c.args.text.now))) (sym e) s)

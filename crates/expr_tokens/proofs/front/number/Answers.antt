@@ -2,8 +2,8 @@ use Rattle.std.proofs.Common.{◌∙◌, subst, sym, ap, List, ℕ, ◌<◌}
 use Rattle.std.specs.Char.{is_ascii_digit}
 use Rattle.expr_tokens.specs.declared.token.Token.TheVariants as t
 use Rattle.expr_tokens.specs.Words.{begins_fraction, numeral, greatest}
-use Rattle.expr_tokens.specs.Scanning.{IsRun}
-use Rattle.expr_tokens.specs.Spelling.{Stands}
+use Rattle.expr_tokens.specs.Working.Scanning.{IsRun}
+use Rattle.expr_tokens.specs.Spelling.{ComesFirst}
 use Rattle.expr_tokens.proofs.Runs.{run_boundary, digit_ascii}
 use Rattle.expr_tokens.proofs.Fronts.{number_stands, number_fraction, number_large}
 use Rattle.expr_tokens.proofs.front.number.Goals as goal
@@ -29,7 +29,7 @@ returns-in_default-clause-err c =
 pub returns-clause-ok : goal.returns-clause-ok
 returns-clause-ok c = λ d.
     let r = subst (λ (bytes : List ℕ). IsRun is_ascii_digit bytes c.digit_run.result) c.as_bytes.ensures.value c.digit_run.ensures in
-    subst (λ (z : List ℕ). Stands d c.args.text.now (t.Number c.in-Some.value) z) (sym c.split_at.ensures.back)
+    subst (λ (z : List ℕ). ComesFirst d c.args.text.now (t.Number c.in-Some.value) z) (sym c.split_at.ensures.back)
     (number_stands c.args.text.now c.digit_run.result c.in-Some.value r c.requires
     (ap begins_fraction (sym (c.as_bytes-2.ensures.value ∙ c.split_at.ensures.back)) ∙ sym c.begins_fraction.ensures ∙ c.if-begins_fraction.false)
     (c.in-Some.ensures.some.0 ∙ ap numeral (c.as_bytes-3.ensures.value ∙ c.split_at.ensures.front)) c.in-Some.ensures.some.1 d)

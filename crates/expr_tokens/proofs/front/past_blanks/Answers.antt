@@ -1,6 +1,6 @@
 use Rattle.std.proofs.Common.{◌∙◌, subst, List, ℕ}
 use Rattle.expr_tokens.specs.Words.{is_blank}
-use Rattle.expr_tokens.specs.Scanning.{IsRun}
+use Rattle.expr_tokens.specs.Working.Scanning.{IsRun}
 use Rattle.expr_tokens.proofs.Runs.{run_boundary, past_run, blank_ascii}
 use Rattle.expr_tokens.proofs.front.past_blanks.Goals as goal
 

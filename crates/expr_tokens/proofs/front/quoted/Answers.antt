@@ -2,8 +2,8 @@ use Rattle.std.proofs.Common.{◌∙◌, ◌-◌, subst, sym, ap, List, ℕ, len
 use Rattle.std.specs.Prelude.{IsSome}
 use Rattle.expr_tokens.specs.declared.token.Token.TheVariants as t
 use Rattle.expr_tokens.specs.Quoted.{meaning}
-use Rattle.expr_tokens.specs.Scanning.{ClosesAt, FailsAt}
-use Rattle.expr_tokens.specs.Spelling.{Stands}
+use Rattle.expr_tokens.specs.Working.Scanning.{ClosesAt, FailsAt}
+use Rattle.expr_tokens.specs.Spelling.{ComesFirst}
 use Rattle.expr_tokens.proofs.Fronts.{quoted_boundary, quoted_means, quoted_stands, quoted_fails}
 use Rattle.expr_tokens.proofs.front.quoted.Goals as goal
 
@@ -20,7 +20,7 @@ of_written-requires c =
 pub returns-in-Ok-clause-ok : goal.returns-in-Ok-clause-ok
 returns-in-Ok-clause-ok c = λ d.
     let k = subst (λ (z : List ℕ). ClosesAt (get_or z 0 0) (take (length z - 1) (drop 1 z)) c.in-Ok.on) c.as_bytes-bytes.ensures.value c.in-Ok.ensures.closes in
-    subst (λ (z : List ℕ). Stands d c.args.text.now (t.Text c.of_written.result) z) (sym c.split_at.ensures.back)
+    subst (λ (z : List ℕ). ComesFirst d c.args.text.now (t.Text c.of_written.result) z) (sym c.split_at.ensures.back)
     (quoted_stands c.args.text.now c.in-Ok.on c.of_written.result c.requires.quote k (ap meaning (sym c.split_at.ensures.front) ∙ c.of_written.ensures) d)
 
 pub returns-in-Err-clause-err : goal.returns-in-Err-clause-err

@@ -1,6 +1,6 @@
 use Rattle.std.proofs.Common.{◌≡◌, ◌≤◌, ◌-◌, true, length, take}
 use Rattle.std.specs.List.{list_all}
-use Rattle.expr_tokens.specs.Scanning.{is_plain}
+use Rattle.expr_tokens.specs.Working.Scanning.{is_plain}
 use Rattle.expr_tokens.proofs.quoted.plain_run.Given as goal
 
 abbrev pub invariant-loop-n : goal.invariant-loop-n

@@ -3,7 +3,7 @@ use Rattle.std.specs.Prelude.{string_bytes, slice_index_or}
 use Rattle.std.specs.Str.{IsUtf8, IsCharBoundary}
 use Rattle.std.proofs.lemmas.Str.{IsUtf8-drop}
 use Rattle.expr_tokens.specs.Quoted.{said}
-use Rattle.expr_tokens.specs.Scanning.{IsRun, is_plain}
+use Rattle.expr_tokens.specs.Working.Scanning.{IsRun, is_plain}
 use Rattle.expr_tokens.proofs.Said.{IsSaid, said_start, said_boundary, arrives, stop_slash, stop_quote, escape_here, found_escape, seen_escape, said_escape, escape_boundary, escape_after}
 use Rattle.expr_tokens.proofs.Texts.{step_smaller}
 use Rattle.expr_tokens.proofs.quoted.resolved.Goals as goal

@@ -13,8 +13,8 @@ use Rattle.tree_model.specs.PathMap.{depth}
 use Rattle.tree_model.specs.Tree.{lone, non_null}
 use Rattle.tree_model.specs.Children.{graft}
 use Rattle.json_tree.specs.Json.{is_lawful, pairs_of, of_json}
-use Rattle.json_tree.specs.Levels.{levels}
-use Rattle.json_tree.specs.Members.{members_at, children_of}
+use Rattle.json_tree.specs.Working.Levels.{levels}
+use Rattle.json_tree.specs.Working.Members.{members_at, children_of}
 use Rattle.json_tree.proofs.Limits.{text_length}
 use Rattle.json_tree.proofs.Lists.{all_from_recursion}
 use Rattle.json_tree.proofs.Values.{view-Null, view-Bool, view-Number, view-String}

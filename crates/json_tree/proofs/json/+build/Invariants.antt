@@ -1,6 +1,6 @@
 use Rattle.std.proofs.Common.{drop}
 use Rattle.serde_json.specs.View.{items_view, members_view}
-use Rattle.json_tree.specs.Members.{members_at, children_of}
+use Rattle.json_tree.specs.Working.Members.{members_at, children_of}
 use Rattle.json_tree.proofs.Building.{ItemsBuilt, MembersBuilt}
 use Rattle.json_tree.proofs.json.+build.Given as goal
 

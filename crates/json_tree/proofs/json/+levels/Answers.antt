@@ -3,7 +3,7 @@ use Rattle.serde_json.specs.View.{view, items_view, members_view}
 use Rattle.tree_model.specs.Key.{is_key}
 use Rattle.tree_model.proofs.Choices.{both_so}
 use Rattle.json_tree.specs.Json.{is_lawful, are_lawful_items, are_lawful_members}
-use Rattle.json_tree.specs.Levels.{levels, levels_of_items, levels_of_members, raised}
+use Rattle.json_tree.specs.Working.Levels.{levels, levels_of_items, levels_of_members, raised}
 use Rattle.json_tree.specs.declared.json.TheConstants.{MANY_LEVELS}
 use Rattle.json_tree.proofs.Lists.{ord_max-nat, drop_next}
 use Rattle.json_tree.proofs.Counting.{ItemsAhead, MembersAhead, ahead_start, ahead_step, ahead_refused, no_items_left, next_member, no_members_left}

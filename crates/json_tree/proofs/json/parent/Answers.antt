@@ -9,4 +9,4 @@ returns-then-is_empty c =
     none-graft c.args.children.items none
 
 pub returns : goal.returns
-returns c = some-graft c.args.children.items c.in_ok-node.node c.in_ok-node.ensures.tree c.is_there.ensures.some
+returns c = some-graft c.args.children.items c.in_ok-node.node c.in_ok-node.ensures.tree c.law.ensures.some

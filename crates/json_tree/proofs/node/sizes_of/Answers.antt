@@ -19,10 +19,10 @@ loop-child-preserved c =
     let at : child ≡ get_or c.args.children.now.items i child = c.child-item.is ∙ ap (λ cs. get_or cs i child) c.deref-child-items.ensures.value in
     let within = ap length c.deref-child-items.ensures.value in
     let room : depth child.1 < MAX_DEPTH = subst (λ (x : Key × Tree). depth x.1 < MAX_DEPTH) (sym at) (c.requires.room i child (omega arith)) in
-    let lawful : IsLawfulChild child = record { key = c.text.ensures.lawful; tree = c.is_there.ensures.lawful; depth = room } in
+    let lawful : IsLawfulChild child = record { key = c.text.ensures.lawful; tree = c.law.ensures.lawful; depth = room } in
     let deeper : c.max-depth.result ≡ max c.loop-child.depth (depth child.1 + 1) = c.max-depth.ensures ∙ ord_max-nat c.loop-child.depth (c.depth.result + 1) ∙ ap (λ m. max c.loop-child.depth (m + 1)) c.depth.ensures in
     rw (take_next all i child (omega arith) c.child-item.is, deeper)
-    (so_far_push (take i all) child c.loop-child.depth c.loop-child.count c.saturating_add-count.result c.is_there.ensures.some lawful (c.saturating_add-count.ensures ∙ ap (λ m. min (c.loop-child.count + m) (2 ^ 64 - 1)) c.count.ensures) c.loop-child.invariant)
+    (so_far_push (take i all) child c.loop-child.depth c.loop-child.count c.saturating_add-count.result c.law.ensures.some lawful (c.saturating_add-count.ensures ∙ ap (λ m. min (c.loop-child.count + m) (2 ^ 64 - 1)) c.count.ensures) c.loop-child.invariant)
 
 pub returns-clause-children : goal.returns-clause-children
 returns-clause-children c =

@@ -46,7 +46,7 @@ insert-returns-in_ok-node-inside-in-Primitive-clause-ok t c =
     c.branch.view_is
     ∙ c.in_ok-node-inside-in-Primitive.ensures
     ∙ ap (λ p. proposed null ((p, value) ∷ [])) path
-    ∙ sym (proposed-lone (primitive_of c.in-Primitive.field-0) c.key-item.result _ value c.is_there.ensures.some)
+    ∙ sym (proposed-lone (primitive_of c.in-Primitive.field-0) c.key-item.result _ value c.law.ensures.some)
     ∙ sym (λ i. proposed (node i) ((path i, value) ∷ []))
 
 -- ---- its children

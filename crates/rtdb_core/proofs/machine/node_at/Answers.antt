@@ -8,7 +8,7 @@ use Rattle.rtdb_core.proofs.Walks.{walked, nothing_there}
 use Rattle.rtdb_core.proofs.machine.node_at.Goals as goal
 
 pub loop-key-init : goal.loop-key-init
-loop-key-init c = sym (non_null-some c.args.root.now c.is_there.ensures.some) ∙ ap non_null (sym (sub-root c.args.root.now))
+loop-key-init c = sym (non_null-some c.args.root.now c.law.ensures.some) ∙ ap non_null (sym (sub-root c.args.root.now))
 
 pub returns-in_default : goal.returns-in_default
 returns-in_default c =

@@ -9,7 +9,7 @@ use Rattle.rules_reader.specs.declared.rule.RuleSet.{RuleSet}
 use Rattle.rules_reader.specs.Part.{PartText, Pattern, texts, is_part}
 use Rattle.rules_reader.specs.Book.{Book}
 use Rattle.rules_reader.specs.File.{is_object, book_of, faulty, IsLeast}
-use Rattle.rules_reader.specs.Inner.{parts_of, faulty_inner}
+use Rattle.rules_reader.specs.Working.Inner.{parts_of, faulty_inner}
 use Rattle.rules_reader.specs.Node.{Point, text_of, books, grown, IsChild}
 use Rattle.rules_reader.specs.Refusal.{Names}
 use Rattle.rules_reader.proofs.Books.{book_of-object}
@@ -71,7 +71,7 @@ build_children-loop-name-preserved t c =
     let text : text_of c.in-Ok-Some.part ≡ name = named.1 ∙ c.as_str.ensures.value in
     let part : is_part name ≡ true = ap is_part (sym c.as_str.ensures.value) ∙ named.0 in
     let longer : texts c.in-Ok.longer ≡ at ++ name ∷ [] = c.in-Ok.ensures ∙ ap (λ (x : PartText). at ++ x ∷ []) text in
-    let child : IsChild at (c.in-Ok-Some.part, c.in-Ok-build.node) = record { at_part = c.in-Ok-build.ensures.at ∙ c.in-Ok.ensures; listed = c.is_node.ensures.listed; one = c.is_node.ensures.one } in
+    let child : IsChild at (c.in-Ok-Some.part, c.in-Ok-build.node) = record { at_part = c.in-Ok-build.ensures.at ∙ c.in-Ok.ensures; listed = c.law.ensures.listed; one = c.law.ensures.one } in
     let pushed = c.push.ensures.items ∙ ap (λ b. cond b (c.loop-name.children.items ++ (c.in-Ok-Some.part, c.in-Ok-build.node) ∷ []) c.loop-name.children.items) (ok_from c.push.result (sym c.is_err.ensures.value ∙ c.if-is_err.false)) in
     subst (λ (done : List (Part × Point)). Built at done (members_view c.next.new.self) (members_view c.args.members.now.entries)) (sym pushed)
     (built_push at c.loop-name.children.items (members_view c.loop-name.name-iterator) (members_view c.next.new.self) (members_view c.args.members.now.entries) name d (c.in-Ok-Some.part, c.in-Ok-build.node)

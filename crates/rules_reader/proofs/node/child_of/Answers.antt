@@ -4,7 +4,7 @@ use Rattle.std.proofs.lemmas.Fn.{always_returns_same}
 use Rattle.tree_model.specs.Key.{Key, key_cmp}
 use Rattle.path_capture.specs.declared.pattern.Part.{Part}
 use Rattle.rules_reader.specs.Node.{Point, books, text_of}
-use Rattle.rules_reader.specs.Stepped.{points, point_at, first_of}
+use Rattle.rules_reader.specs.Working.Stepped.{points, point_at, first_of}
 use Rattle.rules_reader.proofs.Steps.{searched, point_is}
 use Rattle.rules_reader.proofs.node.child_of.Goals as goal
 

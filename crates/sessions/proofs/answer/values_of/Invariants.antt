@@ -1,6 +1,6 @@
 use Rattle.std.proofs.Common.{◌≡◌, map, take}
 use Rattle.serde_json.specs.View.{view}
-use Rattle.sessions.specs.Text.{named_data}
+use Rattle.sessions.specs.AnswerText.{named_data}
 use Rattle.sessions.proofs.answer.values_of.Given as goal
 
 abbrev pub invariant-loop-rule : goal.invariant-loop-rule

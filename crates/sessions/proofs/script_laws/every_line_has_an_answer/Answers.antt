@@ -1,4 +1,4 @@
-use Rattle.sessions.proofs.Going.{Stands-more}
+use Rattle.sessions.proofs.Going.{IsWritten-more}
 use Rattle.sessions.proofs.InFull.{some_full, one_full, full_is_answered}
 use Rattle.sessions.proofs.script_laws.every_line_has_an_answer.Goals as goal
 
@@ -12,4 +12,4 @@ pub returns-clause-answers : goal.returns-clause-answers
 returns-clause-answers c = full_is_answered
 
 pub returns-clause-front : goal.returns-clause-front
-returns-clause-front c = Stands-more
+returns-clause-front c = IsWritten-more

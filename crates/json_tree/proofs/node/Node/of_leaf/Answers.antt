@@ -8,4 +8,4 @@ use Rattle.json_tree.proofs.node.Node.of_leaf.Goals as goal
 pub invariant_of-result : goal.invariant_of-result
 invariant_of-result c =
     let v = primitive_of c.args.leaf in
-    record { parts = tt; lawful = IsLawful-lone v c.is_within_limits.ensures; depth = sym (depth-lone v); count = omega (arith, count-lone v) }
+    record { parts = tt; lawful = IsLawful-lone v c.law.ensures; depth = sym (depth-lone v); count = omega (arith, count-lone v) }

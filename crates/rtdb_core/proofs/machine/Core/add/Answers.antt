@@ -1,5 +1,5 @@
 use Rattle.std.proofs.Common.{◌∙◌, ap}
-use Rattle.path_capture.specs.Write.{tree_of}
+use Rattle.path_capture.specs.Write.{tree_or_null}
 use Rattle.rtdb_core.specs.State.{State, Sessions}
 use Rattle.rtdb_core.specs.Step.{opened}
 use Rattle.rtdb_core.proofs.Sessions.{still_sorted, one_more}
@@ -11,4 +11,4 @@ invariant_of-self-2 c = still_sorted c.self.inside.sessions.entries c.insert.new
 pub returns-clause-ok : goal.returns-clause-ok
 returns-clause-ok c =
     let more = one_more c.self.inside.sessions.entries c.insert.new.self.entries c.args.session (record {}) c.self.invariant c.in-Ok.ensures.entries in
-    ap (λ (sessions : Sessions). record { tree = tree_of c.self.inside.tree; rules = c.self.inside.rules; sessions = sessions }) more ∙ ap (λ (state : State). opened state c.args.session) c.self.view_is
+    ap (λ (sessions : Sessions). record { tree = tree_or_null c.self.inside.tree; rules = c.self.inside.rules; sessions = sessions }) more ∙ ap (λ (state : State). opened state c.args.session) c.self.view_is

@@ -2,7 +2,7 @@ use Rattle.std.proofs.Common.{◌≡◌, sym, ap, subst, ◌∙◌, Some, None}
 use Rattle.tree_model.specs.Key.{Key, is_key}
 use Rattle.rules_reader.specs.Node.{Point, Steps, NoneMatches, IsNode}
 use Rattle.rules_reader.specs.Part.{texts}
-use Rattle.rules_reader.specs.Stepped.{stepped}
+use Rattle.rules_reader.specs.Working.Stepped.{stepped}
 use Rattle.rules_reader.proofs.Steps.{stepped_to, not_stepped, if_some, if_none}
 use Rattle.rules_reader.proofs.node.RuleNode.step.Goals as goal
 

@@ -3,7 +3,7 @@ use Rattle.rules_reader.proofs.node.RuleNode.write.Goals as goal
 use Rattle.tree_model.specs.PathMap.{get}
 use Rattle.rules_reader.specs.declared.rule.RuleSet.{RuleSet}
 use Rattle.rules_reader.specs.Node.{Point, books}
-use Rattle.rules_reader.specs.NodeFalls.{get-grown-root}
+use Rattle.rules_reader.specs.Working.NodeFalls.{get-grown-root}
 
 pub returns : goal.returns
 returns c =

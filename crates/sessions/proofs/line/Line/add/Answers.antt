@@ -1,6 +1,6 @@
 use Rattle.std.proofs.Common.{◌≡◌, ◌&&◌, ◌∙◌, arith}
 use Rattle.sessions.specs.Lines.{is_blank}
-use Rattle.sessions.proofs.Keeping.{Holds-append}
+use Rattle.sessions.proofs.Keeping.{KeepsFront-append}
 use Rattle.sessions.proofs.line.Line.add.Goals as goal
 use Rattle.sessions.proofs.line.Line.add.Goals.{then-self, else-self}
 
@@ -8,5 +8,5 @@ pub returns : goal.returns
 returns c = λ line holds.
     let blank : c.if-self.self ≡ (c.args.self.now.blank && is_blank c.args.piece.now) =
     elim c.if-self.branch [ then-self w ↦ grind arith | else-self w ↦ grind arith ] in
-    let h = Holds-append _ _ line c.args.piece.now _ holds c.in_ok-keep.ensures.ok in
+    let h = KeepsFront-append _ _ line c.args.piece.now _ holds c.in_ok-keep.ensures.ok in
     (h.0, blank ∙ h.1)

@@ -2,8 +2,7 @@ use Rattle.std.proofs.Common.{◌≡◌, [], ◌∷◌, ◌++◌, refl, sym, ap,
 use Rattle.std.proofs.lemmas.List.{append-nil}
 use Rattle.sessions.specs.declared.desk.Stop.TheVariants as stops
 use Rattle.sessions.proofs.Sending.{Appends-refl}
-use Rattle.sessions.proofs.Ending.{phase_of-refused}
-use Rattle.sessions.proofs.Feeding.{piece-append, Follows-at, Follows-after, Follows-part, FeedStops-after, FeedStops-part}
+use Rattle.sessions.proofs.Feeding.{piece-append, Follows-at, Follows-after, Follows-part, StopsWithin-after, StopsWithin-part}
 use Rattle.sessions.proofs.script.Script.feed.Goals as goal
 
 pub loop-part-preserved : goal.loop-part-preserved
@@ -16,6 +15,7 @@ loop-part-preserved g c =
           let r = i.2 taken sent f in
           Follows-after _ _ _ taken i.0 (part ++ 10 ∷ []) sent r.0 r.1 (c.in-Ok.ensures.ok (taken ++ i.0) (sent ++ r.0) r.2),
       c.in-Ok.ensures.sound ∙ i.3,
+      c.in-Ok.ensures.going,
     )
 
 pub returns-in-Err-clause-err : goal.returns-in-Err-clause-err
@@ -27,7 +27,7 @@ returns-in-Err-clause-err g c = λ taken sent f.
     ap (λ x. x ++ c.in-Some.after.now) (append_assoc taken i.0 (part ++ 10 ∷ []))
     ∙ append_assoc taken (i.0 ++ (part ++ 10 ∷ [])) c.in-Some.after.now
     ∙ ap (λ x. taken ++ x) (sym (piece-append _ i.0 _ part _ i.1 c.in-Some.ensures.some.1)) in
-    FeedStops-after c.in-Err.stop _ _ _ _ _ _ c.in-Some.after.now _ sent r.0 whole r.1 (c.in-Err.ensures.err (taken ++ i.0) (sent ++ r.0) r.2)
+    StopsWithin-after c.in-Err.stop _ _ _ _ _ _ c.in-Some.after.now _ sent r.0 whole r.1 (c.in-Err.ensures.err (taken ++ i.0) (sent ++ r.0) r.2)
 
 pub returns-in-Ok-add-clause-ok : goal.returns-in-Ok-add-clause-ok
 returns-in-Ok-add-clause-ok g c = λ taken sent f.
@@ -42,7 +42,7 @@ returns-in-Err-add-clause-err g c = λ taken sent f.
     let r = i.2 taken sent f in
     let whole : ((taken ++ i.0) ++ c.loop-part.rest.now) ++ [] ≡ taken ++ c.args.piece.now =
     append-nil _ ∙ append_assoc taken i.0 c.loop-part.rest.now ∙ ap (λ x. taken ++ x) (sym i.1) in
-    FeedStops-after stops.NoMemory _ _ _ (g.W.Sink.failed c.args.sink.now) _ _ [] _ sent r.0 whole r.1 (FeedStops-part r.2 (phase_of-refused _) _ _ (g.W.Sink.failed c.args.sink.now) c.loop-part.rest.now (Appends-refl _))
+    StopsWithin-after stops.NoMemory _ _ _ (g.W.Sink.failed c.args.sink.now) _ _ [] _ sent r.0 whole r.1 (StopsWithin-part r.2 i.4 _ _ (g.W.Sink.failed c.args.sink.now) c.loop-part.rest.now (Appends-refl _))
 
 pub returns-in-Err-clause-sound : goal.returns-in-Err-clause-sound
 returns-in-Err-clause-sound g c = λ n. c.in-Err.ensures.sound n ∙ c.loop-part.invariant.3

@@ -4,7 +4,7 @@ use Rattle.rules_reader.specs.Part.{texts}
 use Rattle.rules_reader.specs.Place.{HasOneCapture}
 use Rattle.rules_reader.specs.Node.{Point}
 use Rattle.rules_reader.proofs.Nodes.{listed_of_node, one_of_node}
-use Rattle.rules_reader.proofs.node.RuleNode.is_node.Goals as goal
+use Rattle.rules_reader.proofs.node.RuleNode.law.Goals as goal
 
 pub returns-clause-listed : goal.returns-clause-listed
 returns-clause-listed c =

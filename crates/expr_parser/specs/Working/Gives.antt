@@ -1,10 +1,10 @@
--- What the parser answers. `Refuses` and `Gives` are words of private clauses and of proofs alone.
+-- What the parser answers.
 use Rattle.std.specs.Prelude.{◌≡◌, List, Result, Ok, Err}
 use Rattle.expr_parser.specs.declared.expr.Expr.{Expr}
 use Rattle.expr_tokens.specs.declared.token.Token.{Token}
 use Rattle.expr_parser.specs.declared.parser.ParseFault.{ParseFault}
 use Rattle.expr_parser.specs.declared.parser.ParseFault.TheVariants.{NoMemory, Unexpected, Bracket}
-use Rattle.expr_parser.specs.Reading.{Found}
+use Rattle.expr_parser.specs.Working.Reading.{Found}
 use Rattle.expr_parser.specs.Tree.{Tree}
 use Rattle.expr_parser.specs.View.{view}
 
@@ -18,8 +18,3 @@ Refuses (Bracket n) found = found ≡ Err (Bracket n)
 abbrev pub Gives : {X A : Type 0} → (X → A × List Token) → Result X ParseFault → Found A → Type 0
 Gives seen (Ok x) found = found ≡ Ok (seen x)
 Gives seen (Err e) found = Refuses e found
-
--- The answer is this expression, unless memory is refused.
-abbrev pub Reads : Tree → Result Expr ParseFault → Type 0
-Reads x (Ok e) = view e ≡ x
-Reads x (Err fault) = fault ≡ NoMemory

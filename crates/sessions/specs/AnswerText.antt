@@ -6,7 +6,7 @@ use Rattle.tree_model.specs.Path.{Path}
 use Rattle.json_tree.specs.Json.{value_of}
 use Rattle.path_capture.specs.Path.{printed}
 use Rattle.path_capture.specs.Pattern.{printed_pattern}
-use Rattle.path_capture.specs.Write.{tree_of}
+use Rattle.path_capture.specs.Write.{tree_or_null}
 use Rattle.rules_reader.specs.declared.fault.RulesFault.{RulesFault}
 use Rattle.rules_reader.specs.declared.fault.RulesFault.TheVariants as rules_faults
 use Rattle.sessions.specs.declared.code.Code.{Code}
@@ -104,7 +104,7 @@ refusal_data refusals.NoMemory = plain_data code.NoMemory
 
 abbrev pub reply_data : Reply → Data
 reply_data Done = object (member (codes "ok") (boolean true) no_members)
-reply_data (Value tree) = object (member (codes "ok") (boolean true) (member (codes "value") (value_of (tree_of tree)) no_members))
+reply_data (Value tree) = object (member (codes "ok") (boolean true) (member (codes "value") (value_of (tree_or_null tree)) no_members))
 reply_data (Refused refusal) = refusal_data refusal
 
 -- the text of a reply

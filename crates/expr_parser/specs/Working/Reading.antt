@@ -1,5 +1,6 @@
 -- Reading an expression from left to right, as the parser does: what it gives, or where it stops. For the proofs.
 use Rattle.std.specs.Prelude.{ℕ, zero, suc, List, ◌∷◌, length, Result, Ok, Err, nat_lt, nat_le, if◌then◌else◌}
+use Rattle.expr_parser.specs.declared.limits.TheConstants.{MAX_LEVELS}
 use Rattle.expr_tokens.specs.declared.operator.Operator.TheVariants as b
 use Rattle.expr_tokens.specs.declared.token.Token.{Token}
 use Rattle.expr_tokens.specs.declared.token.Token.TheVariants as t
@@ -46,7 +47,7 @@ stop ts = Err (Unexpected (length ts))
 
 -- one more level, which the first of these tokens opens
 abbrev pub deeper : {A : Type 0} → ℕ → List Token → Found A → Found A
-deeper d ts found = if nat_lt d 64 then found else stop ts
+deeper d ts found = if nat_lt d MAX_LEVELS then found else stop ts
 
 abbrev pub snoc_item : Trees → Tree → Trees
 snoc_item none x = more x none

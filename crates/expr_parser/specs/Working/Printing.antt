@@ -1,5 +1,6 @@
 -- The tokens of an expression, as a function of its tree: the grammar's rules once more, for the proofs.
 use Rattle.std.specs.Prelude.{◌≡◌, ℕ, suc, ◌<◌, ◌≤◌, List, [], ◌∷◌}
+use Rattle.expr_parser.specs.declared.limits.TheConstants.{MAX_LEVELS}
 use Rattle.expr_tokens.specs.declared.operator.Operator.TheVariants.{Subtract}
 use Rattle.expr_tokens.specs.declared.token.Token.{Token}
 use Rattle.expr_tokens.specs.declared.token.Token.TheVariants as t
@@ -61,17 +62,17 @@ abbrev mutual
   Fits Null n d = n ≤ 8
   Fits (Variable f) n d = n ≤ 8
   Fits (Capture f) n d = n ≤ 8
-  Fits (Group x) n d = (n ≤ 8) × (d < 64) × Fits x 0 (suc d)
+  Fits (Group x) n d = (n ≤ 8) × (d < MAX_LEVELS) × Fits x 0 (suc d)
   Fits (Member x f) n d = (n ≤ 8) × Fits x 8 d
-  Fits (Call x f xs) n d = (n ≤ 8) × (d < 64) × Fits x 8 d × FitArguments xs (suc d)
-  Fits (Not x) n d = (n ≤ 7) × (d < 64) × Fits x 7 (suc d)
-  Fits (Negate x) n d = (n ≤ 7) × (d < 64) × Fits x 7 (suc d)
+  Fits (Call x f xs) n d = (n ≤ 8) × (d < MAX_LEVELS) × Fits x 8 d × FitArguments xs (suc d)
+  Fits (Not x) n d = (n ≤ 7) × (d < MAX_LEVELS) × Fits x 7 (suc d)
+  Fits (Negate x) n d = (n ≤ 7) × (d < MAX_LEVELS) × Fits x 7 (suc d)
   Fits (Operation op x y) n d = (n ≤ level op) × Fits x (level op) d × Fits y (suc (level op)) d
-  Fits (Choice c x y) n d = (n ≤ 0) × (d < 64) × Fits c 1 d × Fits x 0 (suc d) × Fits y 0 (suc d)
+  Fits (Choice c x y) n d = (n ≤ 0) × (d < MAX_LEVELS) × Fits c 1 d × Fits x 0 (suc d) × Fits y 0 (suc d)
 
   pub FitsArgument : Argument → ℕ → Type 0
   FitsArgument (One x) d = Fits x 0 d
-  FitsArgument (Listed xs) d = (d < 64) × HasOne xs × FitItems xs (suc d)
+  FitsArgument (Listed xs) d = (d < MAX_LEVELS) × HasOne xs × FitItems xs (suc d)
 
   pub FitArguments : Arguments → ℕ → Type 0
   FitArguments no_argument d = Unit {0}

@@ -1,0 +1,5 @@
+-- Words of private contracts. No public clause stands on them.
+pub mod Inner
+pub mod NodeFalls
+pub mod Stepped
+pub mod Rules
