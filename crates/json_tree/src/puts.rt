@@ -1,6 +1,6 @@
 //! Puts in place: one location of a stored tree is written, and memory is taken before anything
 //! changes.
-ghost use Rattle.std.specs.Prelude.{◌≡◌, ◌+◌, ◌<◌, ◌≤◌, ◌∷◌, [], length, unwrap_or, IfOk, IsOk, IsNone, IfSome, OnSome, IfNone, OnOk, OnErr};
+ghost use Rattle.std.specs.Prelude.{◌≡◌, ◌+◌, ◌<◌, ◌≤◌, ◌∷◌, [], length, reverse, unwrap_or, IfOk, IsOk, IsNone, IfSome, OnSome, IfNone, OnOk, OnErr};
 ghost use Rattle.std.specs.Bool.{OnTrue, OnFalse};
 ghost use Rattle.tree_model.specs.PathMap.{depth};
 ghost use Rattle.tree_model.specs.Tree.{null};
@@ -16,27 +16,28 @@ use crate::share::{Exchange, NO_EXCHANGE, NO_SHARE, share_of, sizes_after};
 use std::alloc::Global;
 use tree_model::MAX_DEPTH;
 
-/// Puts a tree at a path of a stored tree, or removes what is there, in place. Memory is taken only
-/// for what is new, and before anything changes: at an `Err` nothing has changed, and to remove takes
-/// none. It takes one step down for each key, log w of w children each, beside what is written, and
-/// where a child is new or goes, those behind it move: d · w at most. The children of a node are
-/// counted anew only where its deepest child became less deep and no other is as deep.
+/// Puts a tree at a path of a stored tree, or removes what is there, in place. The keys of the path
+/// are put where nothing exists yet, and not copied. Memory is taken only for what is new, and before
+/// anything changes: at an `Err` nothing has changed, and to remove takes none. It takes one step down
+/// for each key, log w of w children each, beside what is written, and where a child is new or goes,
+/// those behind it move: d · w at most. The children of a node are counted anew only where its deepest
+/// child became less deep and no other is as deep.
 pub fn put(
     alloc: Global,
     tree: &mut Option<Node>,
-    path: &[Key],
+    path: Vec<Key>,
     value: Option<Node>,
 ) -> Result<(), NoMemory>
-    requires { length path.now + depth (unwrap_or value null) ≤ MAX_DEPTH }
+    requires { length path.items + depth (unwrap_or value null) ≤ MAX_DEPTH }
     ensures ok { OnOk result (unwrap_or tree.new null
-        ≡ proposed (unwrap_or tree.old null) ((path.now, unwrap_or value null) ∷ [])) }
+        ≡ proposed (unwrap_or tree.old null) ((path.items, unwrap_or value null) ∷ [])) }
     ensures err { OnErr result (tree.new ≡ tree.old) }
     ensures removal { IsNone value → IsOk result }
 {
     match value {
         Some(node) => put_node(alloc, tree, path, node),
         None => {
-            remove_from(tree, path);
+            remove_from(tree, &path);
             Ok(())
         }
     }
@@ -47,49 +48,50 @@ pub fn put(
 fn put_node(
     alloc: Global,
     tree: &mut Option<Node>,
-    path: &[Key],
+    path: Vec<Key>,
     value: Node,
 ) -> Result<(), NoMemory>
-    requires { length path.now + depth value ≤ MAX_DEPTH }
+    requires { length path.items + depth value ≤ MAX_DEPTH }
     ensures ok { OnOk result (unwrap_or tree.new null
-        ≡ proposed (unwrap_or tree.old null) ((path.now, value) ∷ [])) }
+        ≡ proposed (unwrap_or tree.old null) ((path.items, value) ∷ [])) }
     ensures err { OnErr result (tree.new ≡ tree.old) }
 {
+    let mut keys = path;
+    keys.reverse();
     match tree {
-        Some(node) => insert(alloc, node, path, value),
+        Some(node) => insert(alloc, node, &mut keys, value),
         None => {
-            *tree = Some(chain(alloc, path, value)?);
+            *tree = Some(chain(alloc, &mut keys, value)?);
             Ok(())
         }
     }
 }
 
-// Puts a tree at a path of a node.
+// Puts a tree at a path of a node. Of the keys of the path the first stands last, from where each is
+// taken.
 #[cycle(insert)]
-fn insert(alloc: Global, node: &mut Node, path: &[Key], value: Node) -> Result<(), NoMemory>
-    requires { length path.now + depth value ≤ MAX_DEPTH }
-    ensures ok { OnOk result (node.new ≡ proposed node.old ((path.now, value) ∷ [])) }
+fn insert(alloc: Global, node: &mut Node, keys: &mut Vec<Key>, value: Node) -> Result<(), NoMemory>
+    requires { length keys.old.items + depth value ≤ MAX_DEPTH }
+    ensures ok { OnOk result (node.new ≡ proposed node.old ((reverse keys.old.items, value) ∷ [])) }
     ensures err { OnErr result (node.new ≡ node.old) }
 {
-    match path {
-        [] => {
-            *node = value;
+    let Some(key) = keys.pop() else {
+        *node = value;
+        return Ok(());
+    };
+    match &mut node.kind {
+        Kind::Primitive(_) => {
+            value.law();
+            *node = only_child(alloc, key, chain(alloc, keys, value)?)?;
             Ok(())
         }
-        [key, rest @ ..] => match &mut node.kind {
-            Kind::Primitive(_) => {
-                value.law();
-                *node = chain(alloc, path, value)?;
-                Ok(())
-            }
-            Kind::Parent(children) => {
-                let exchange = insert_below(alloc, children, key, rest, value)?;
-                let (depth, count) = sizes_after(children, node.depth, node.count, exchange);
-                node.depth = depth;
-                node.count = count;
-                Ok(())
-            }
-        },
+        Kind::Parent(children) => {
+            let exchange = insert_below(alloc, children, key, keys, value)?;
+            let (depth, count) = sizes_after(children, node.depth, node.count, exchange);
+            node.depth = depth;
+            node.count = count;
+            Ok(())
+        }
     }
 }
 
@@ -98,29 +100,29 @@ fn insert(alloc: Global, node: &mut Node, path: &[Key], value: Node) -> Result<(
 fn insert_below(
     alloc: Global,
     children: &mut Vec<(Key, Node)>,
-    key: &Key,
-    rest: &[Key],
+    key: Key,
+    keys: &mut Vec<Key>,
     value: Node,
 ) -> Result<Exchange, NoMemory>
     requires children { AreLawfulChildren children.old.items }
-    requires room { length rest.now + depth value < MAX_DEPTH }
+    requires room { length keys.old.items + depth value < MAX_DEPTH }
     ensures children { AreLawfulChildren children.new.items }
     ensures exchange { IfOk result (λ exchange. Exchanges children.old.items children.new.items exchange) }
     ensures ok { OnOk result (graft children.new.items
-        ≡ proposed (graft children.old.items) ((key.now ∷ rest.now, value) ∷ [])) }
+        ≡ proposed (graft children.old.items) ((key ∷ reverse keys.old.items, value) ∷ [])) }
     ensures err { OnErr result (children.new.items ≡ children.old.items) }
 {
     match place_of(children, key.text()) {
         Ok(place) => {
             let before = share_of(&children[place].1);
-            insert(alloc, &mut children[place].1, rest, value)?;
+            insert(alloc, &mut children[place].1, keys, value)?;
             let after = share_of(&children[place].1);
             Ok(Exchange { before, after })
         }
         Err(place) => {
-            let below = chain(alloc, rest, value)?;
+            let below = chain(alloc, keys, value)?;
             let after = share_of(&below);
-            children.insert(place, (key.copy(alloc)?, below))?;
+            children.insert(place, (key, below))?;
             Ok(Exchange {
                 before: NO_SHARE,
                 after,
@@ -130,19 +132,24 @@ fn insert_below(
 }
 
 // The tree of a tree at a path: one child at each key.
-fn chain(alloc: Global, path: &[Key], value: Node) -> Result<Node, NoMemory>
-    requires { length path.now + depth value ≤ MAX_DEPTH }
-    ensures { IfOk result (λ node. node ≡ proposed null ((path.now, value) ∷ [])) }
+fn chain(alloc: Global, keys: &mut Vec<Key>, value: Node) -> Result<Node, NoMemory>
+    requires { length keys.old.items + depth value ≤ MAX_DEPTH }
+    ensures { IfOk result (λ node. node ≡ proposed null ((reverse keys.old.items, value) ∷ [])) }
 {
-    match path {
-        [] => Ok(value),
-        [key, rest @ ..] => {
-            let below = chain(alloc, rest, value)?;
-            let mut children = Vec::new(alloc);
-            children.push((key.copy(alloc)?, below))?;
-            Node::of_children(children)
-        }
+    match keys.pop() {
+        Some(key) => only_child(alloc, key, chain(alloc, keys, value)?),
+        None => Ok(value),
     }
+}
+
+// The node with this one child.
+fn only_child(alloc: Global, key: Key, child: Node) -> Result<Node, NoMemory>
+    requires { depth child < MAX_DEPTH }
+    ensures { IfOk result (λ node. node ≡ graft ((key, child) ∷ [])) }
+{
+    let mut children = Vec::new(alloc);
+    children.push((key, child))?;
+    Node::of_children(children)
 }
 
 // ---- what is removed

@@ -289,7 +289,7 @@ fn written(alloc: Global, question: &str) -> Result<String, Fail> {
     if keys.len() > 4 || depth_of(&value) > 4 {
         return Err("too deep")?;
     }
-    put(alloc, &mut tree, &keys, value)?;
+    put(alloc, &mut tree, keys, value)?;
     Ok(to_json(alloc, tree.as_ref())?.to_string(alloc)?)
 }
 

@@ -91,6 +91,14 @@ impl Path {
         self.held.as_slice()
     }
 
+    /// The keys themselves, from the root down. It takes no memory.
+    pub fn into_keys(self) -> Vec<Key>
+        ensures { result.items ≡ self }
+    {
+        let Path { held } = self;
+        held
+    }
+
     /// Whether the path is a prefix of the other one, or the same. It takes no memory, and time
     /// linear in the bytes that it compares.
     pub fn is_prefix(&self, other: &Path) -> bool

@@ -90,7 +90,7 @@ impl Write {
         if let Some(node) = &value {
             node.law();
         }
-        put(alloc, tree, path.keys(), value)
+        put(alloc, tree, path.into_keys(), value)
     }
 }
 

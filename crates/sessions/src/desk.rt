@@ -3,13 +3,13 @@ ghost use Rattle.std.specs.Prelude.{◌≡◌, ◌≢◌, ℕ, ◌++◌, ◌∷�
 ghost use Rattle.sessions.specs.Lines.{non_blank};
 ghost use Rattle.sessions.specs.Working.Sent.{tells, Passes};
 ghost use Rattle.sessions.specs.Said.{unopened, refused, IsWritten};
-ghost use Rattle.sessions.specs.declared.desk.Stop.TheVariants.{NoMemory as no_memory};
+ghost use Rattle.sessions.specs.declared.desk.Stop.TheVariants.{NoMemory as no_memory, WriteFault as write_fault};
 ghost use Rattle.sessions.specs.Working.Parts.{ShowsFront};
 ghost use Rattle.sessions.specs.Working.Follow.{phase_of, AnswersAt, StopsAt, HasAnswered, StopsAfter};
 
 use crate::outgoing::Outgoing;
 use crate::respond::{Stage, respond};
-use crate::stream::Sink;
+use crate::stream::{Broken, Sink};
 use bumpalo::Bump;
 use json_tree::NoMemory;
 use std::alloc::Global;
@@ -30,6 +30,14 @@ impl From<NoMemory> for Stop {
 
     fn from(_refused: NoMemory) -> Stop {
         Stop::NoMemory
+    }
+}
+
+impl From<Broken> for Stop {
+    ghost from_gives = { λ _ stop. stop ≡ write_fault };
+
+    fn from(_broken: Broken) -> Stop {
+        Stop::WriteFault
     }
 }
 
@@ -79,10 +87,8 @@ impl Desk {
         if blank {
             return Ok(());
         }
-        match self.answer_text(sink, arena, text) {
-            Ok(()) => Ok(()),
-            Err(stop) => Err(stop),
-        }
+        self.answer_text(sink, arena, text)?;
+        Ok(())
     }
 
     // Answers a line that is not blank.
@@ -101,9 +107,7 @@ impl Desk {
         ensures sound { MatchResult result (λ _. W.failed sink.new ≡ W.failed sink.old) (λ stop. stop ≢ Stop.WriteFault → W.failed sink.new ≡ W.failed sink.old) }
     {
         let answer = respond(self.alloc, &mut self.stage, arena, line)?;
-        if let Err(_) = self.outgoing.put(sink, answer.as_slice()) {
-            return Err(Stop::WriteFault);
-        }
+        self.outgoing.put(sink, answer.as_slice())?;
         match &self.stage {
             Stage::Refused => Err(Stop::BadHeader),
             _ => Ok(()),

@@ -5,6 +5,7 @@ ghost use Rattle.std.specs.Str.{bytes_eq};
 ghost use Rattle.serde_json.specs.View.{view, members_view};
 ghost use Rattle.sessions.specs.Message.{names_of, has_only, header_of};
 ghost use Rattle.sessions.specs.Header.{Opens};
+ghost use Rattle.sessions.specs.declared.header.HeaderFault.TheVariants.{Line as of_line, Rules as of_rules};
 
 use crate::message::{MessageFault, read_value, text_at};
 use path_capture::Pattern;
@@ -19,27 +20,37 @@ pub enum HeaderFault {
     Rules(RulesFault),
 }
 
+impl From<MessageFault> for HeaderFault {
+    ghost from_gives = { λ fault header. header ≡ of_line fault };
+
+    fn from(fault: MessageFault) -> HeaderFault {
+        HeaderFault::Line(fault)
+    }
+}
+
+impl From<RulesFault> for HeaderFault {
+    ghost from_gives = { λ fault header. header ≡ of_rules fault };
+
+    fn from(fault: RulesFault) -> HeaderFault {
+        HeaderFault::Rules(fault)
+    }
+}
+
 /// The rules of a header, or its first fault. While nothing is validated, a file that states a
 /// `.validate` is refused as if its root were at fault, after all other faults.
 #[tactic(auto, unfolding(crate::specs::Message::rules_text))]
 pub fn read_header(alloc: Global, line: &[u8]) -> Result<Rules, HeaderFault>
     ensures { Opens line.now result }
 {
-    let value = match read_value(alloc, line) {
-        Ok(value) => value,
-        Err(fault) => return Err(HeaderFault::Line(fault)),
-    };
+    let value = read_value(alloc, line)?;
     let Some(text) = header_of(&value) else {
         return Err(HeaderFault::Line(MessageFault::BadRequest));
     };
-    match compile(alloc, text.as_bytes()) {
-        Ok(rules) => if rules.states_validate() {
-            Err(HeaderFault::Rules(RulesFault::BadRulesShape(Pattern::new(alloc))))
-        } else {
-            Ok(rules)
-        },
-        Err(fault) => Err(HeaderFault::Rules(fault)),
+    let rules = compile(alloc, text.as_bytes())?;
+    if rules.states_validate() {
+        return Err(HeaderFault::Rules(RulesFault::BadRulesShape(Pattern::new(alloc))));
     }
+    Ok(rules)
 }
 
 // The text of the one member `rules`.

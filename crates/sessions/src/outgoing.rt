@@ -41,14 +41,10 @@ impl Outgoing {
         ensures failed { MatchResult result (λ _. W.failed sink.new ≡ W.failed sink.old) (λ _. W.failed sink.new ≡ true) }
     {
         if MAX_KEPT_BYTES - self.bytes.len() < text.len() {
-            if let Err(broken) = self.send(sink) {
-                return Err(broken);
-            }
+            self.send(sink)?;
             if MAX_KEPT_BYTES < text.len() {
-                return match write_all(sink, text) {
-                    Ok(()) => Ok(()),
-                    Err(broken) => Err(broken),
-                };
+                write_all(sink, text)?;
+                return Ok(());
             }
         }
         match self.bytes.extend_from_slice(text) {
@@ -92,10 +88,7 @@ fn write_all<W: Sink>(sink: &mut W, text: &[u8]) -> Result<(), Broken>
 {
     let mut at = 0;
     while at < text.len() {
-        match sink.write(&text[at..]) {
-            Ok(count) => at += count,
-            Err(broken) => return Err(broken),
-        }
+        at += sink.write(&text[at..])?;
     }
     Ok(())
 }

@@ -75,16 +75,10 @@ impl Script {
         ensures going { OnOk result (phase_of self.new.desk.stage ≢ refused) }
         ensures sound { MatchResult result (λ _. W.failed sink.new ≡ W.failed sink.old) (λ stop. stop ≢ Stop.WriteFault → W.failed sink.new ≡ W.failed sink.old) }
     {
-        match self
-            .desk
-            .answer(sink, arena, &self.line.kept, self.line.blank)
-        {
-            Ok(()) => {
-                self.line.clear();
-                Ok(())
-            }
-            Err(stop) => Err(stop),
-        }
+        self.desk
+            .answer(sink, arena, &self.line.kept, self.line.blank)?;
+        self.line.clear();
+        Ok(())
     }
 
     // Takes the end of a line, without its line feed, and answers the line: from where it lies, if
@@ -110,19 +104,12 @@ impl Script {
         ensures sound { MatchResult result (λ _. W.failed sink.new ≡ W.failed sink.old) (λ stop. stop ≢ Stop.WriteFault → W.failed sink.new ≡ W.failed sink.old) }
     {
         if self.line.is_empty() {
-            return match self.desk.answer(sink, arena, part, is_blank(part)) {
-                Ok(()) => Ok(()),
-                Err(stop) => Err(stop),
-            };
+            self.desk.answer(sink, arena, part, is_blank(part))?;
+            return Ok(());
         }
-        match self.line.add(part) {
-            Ok(()) => {}
-            Err(_) => return Err(Stop::NoMemory),
-        }
-        match self.end_line(sink, arena) {
-            Ok(()) => Ok(()),
-            Err(stop) => Err(stop),
-        }
+        self.line.add(part)?;
+        self.end_line(sink, arena)?;
+        Ok(())
     }
 
     // Takes the next piece of the input, and answers each line that ends in it.
@@ -142,16 +129,11 @@ impl Script {
     {
         let mut rest = piece;
         while let Some((part, after)) = split_line(rest) {
-            match self.take_line(sink, arena, part) {
-                Ok(()) => {}
-                Err(stop) => return Err(stop),
-            }
+            self.take_line(sink, arena, part)?;
             rest = after;
         }
-        match self.line.add(rest) {
-            Ok(()) => Ok(()),
-            Err(_) => Err(Stop::NoMemory),
-        }
+        self.line.add(rest)?;
+        Ok(())
     }
 
     // Takes the next piece of the input, answers each line that ends in it, and hands the answers on,
@@ -176,14 +158,9 @@ impl Script {
         ensures going { OnOk result (phase_of self.new.desk.stage ≢ refused) }
         ensures sound { MatchResult result (λ _. W.failed sink.new ≡ W.failed sink.old) (λ stop. stop ≢ Stop.WriteFault → W.failed sink.new ≡ W.failed sink.old) }
     {
-        match self.feed(sink, arena, piece) {
-            Ok(()) => {}
-            Err(stop) => return Err(stop),
-        }
-        match self.desk.outgoing.hand_on(sink) {
-            Ok(()) => Ok(()),
-            Err(_) => Err(Stop::WriteFault),
-        }
+        self.feed(sink, arena, piece)?;
+        self.desk.outgoing.hand_on(sink)?;
+        Ok(())
     }
 
     // Reads and answers, up to the end of the input, a fault, or 2^40 reads. Before each read the

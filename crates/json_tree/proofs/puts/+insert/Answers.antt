@@ -1,6 +1,6 @@
-use Rattle.std.proofs.Common.{◌≢◌, ◌<◌, ◌∷◌, [], length, sym, ap, ◌∙◌, subst, refl, arith}
+use Rattle.std.proofs.Common.{◌≢◌, ◌<◌, ◌∷◌, [], reverse, sym, ap, ◌∙◌, subst, refl, arith}
 use Rattle.std.specs.List.{insert}
-use Rattle.std.proofs.lemmas.List.{nil_from_length}
+use Rattle.std.proofs.lemmas.List.{nil_from_length, length-reverse}
 use Rattle.tree_model.specs.declared.limits.TheConstants.{MAX_DEPTH}
 use Rattle.tree_model.specs.Key.{Key, is_key}
 use Rattle.tree_model.specs.PathMap.{depth}
@@ -11,8 +11,8 @@ use Rattle.tree_model.proofs.Lawful.{IsLawful-graft}
 use Rattle.json_tree.specs.Leaf.{primitive_of}
 use Rattle.json_tree.specs.Node.{AreLawfulChildren}
 use Rattle.json_tree.proofs.Nodes.{at_primitive, parts_at_parent}
-use Rattle.json_tree.proofs.Edits.{first_and_rest}
-use Rattle.json_tree.proofs.Proposing.{proposed-root, proposed-lone, depth-chain, room_after}
+use Rattle.json_tree.proofs.Edits.{popped, popped_length}
+use Rattle.json_tree.proofs.Proposing.{proposed-root, proposed-lone, proposed-chain, depth-chain, room_after}
 use Rattle.json_tree.proofs.ChildEdits.{StandsAt, depth_there, children-set, graft-set, missing_at, children-insert, graft-insert}
 use Rattle.json_tree.proofs.Shares.{IsShareOf, size_of_node, set_there, exchanges-set, exchanges-insert}
 use Rattle.json_tree.proofs.puts.+insert.Goals as goal
@@ -21,7 +21,7 @@ use Rattle.json_tree.proofs.puts.+insert.Goals as goal
 
 pub insert-insert_below-requires : goal.insert-insert_below-requires
 insert-insert_below-requires t c =
-    let long = ap length (first_and_rest c.args.path.now c.key-item.result (omega arith) c.key-item.is) in
+    let long = popped_length c.args.keys.now.items c.pop.new.self.items c.in-Some.key c.in-Some.ensures.items in
     (omega arith, (parts_at_parent c.node.invariant.parts c.in-Parent.is, omega arith))
 
 pub insert-sizes_after-depth-requires-clause-sizes : goal.insert-sizes_after-depth-requires-clause-sizes
@@ -33,20 +33,30 @@ insert-invariant_of-node-in-Parent t c =
     let sizes = c.sizes_after-depth.ensures in
     record { parts = children; lawful = IsLawful-graft _ children.0.ascending children.1; depth = sizes.depth; count = sizes.count }
 
-pub insert-returns-in-empty-clause-ok : goal.insert-returns-in-empty-clause-ok
-insert-returns-in-empty-clause-ok t c =
-    let none = nil_from_length c.args.path.now (omega arith) in
-    c.value.view_is ∙ sym (ap (λ p. proposed c.args.node.now ((p, c.args.value) ∷ [])) none ∙ proposed-root c.args.node.now c.args.value)
+pub insert-returns-in_default-clause-ok : goal.insert-returns-in_default-clause-ok
+insert-returns-in_default-clause-ok t c =
+    let none = nil_from_length c.args.keys.now.items (omega (arith, c.args.keys.now.ok.0, c.in_default.ensures.cases.0)) in
+    c.value.view_is ∙ sym (ap (λ p. proposed c.args.node.now ((reverse p, c.args.value) ∷ [])) none ∙ proposed-root c.args.node.now c.args.value)
+
+pub insert-only_child-requires : goal.insert-only_child-requires
+insert-only_child-requires t c =
+    let rest = c.pop.new.self.items in
+    let long = popped_length c.args.keys.now.items rest c.in-Some.key c.in-Some.ensures.items in
+    let back = length-reverse rest in
+    let deep = depth-chain c.in_ok-chain-in-Primitive.field-0 (reverse rest) c.args.value c.in_ok-chain-in-Primitive.ensures in
+    let room = c.requires in
+    omega arith
 
 pub insert-returns-in_ok-node-inside-in-Primitive-clause-ok : goal.insert-returns-in_ok-node-inside-in-Primitive-clause-ok
 insert-returns-in_ok-node-inside-in-Primitive-clause-ok t c =
-    let path = first_and_rest c.args.path.now c.key-item.result (omega arith) c.key-item.is in
+    let rest = reverse c.pop.new.self.items in
+    let path = popped c.args.keys.now.items c.pop.new.self.items c.in-Some.key c.in-Some.ensures.items in
     let node = at_primitive c.node.view_is c.in-Primitive.is in
     let value = c.args.value in
     c.branch.view_is
     ∙ c.in_ok-node-inside-in-Primitive.ensures
-    ∙ ap (λ p. proposed null ((p, value) ∷ [])) path
-    ∙ sym (proposed-lone (primitive_of c.in-Primitive.field-0) c.key-item.result _ value c.law.ensures.some)
+    ∙ proposed-chain c.in-Some.key rest c.in_ok-chain-in-Primitive.field-0 value c.in_ok-chain-in-Primitive.ensures
+    ∙ sym (proposed-lone (primitive_of c.in-Primitive.field-0) c.in-Some.key rest value c.law.ensures.some)
     ∙ sym (λ i. proposed (node i) ((path i, value) ∷ []))
 
 -- ---- its children
@@ -56,7 +66,9 @@ insert_below-returns-in_ok-insert-in-Ok-clause-children t c =
     let cs = c.args.children.now.items in
     let d : Key × Tree = c.index_mut.result.now in
     let found : StandsAt cs c.in-Ok.place d c.text.result.now = record { children = c.requires.children; within = c.in-Ok.ensures.bound; at = c.index_mut.ensures.value; tied = c.in-Ok.ensures.position d } in
-    let room = room_after c.insert.result d.1 c.insert.new.node c.args.rest.now c.args.value c.insert.ensures.ok c.insert.ensures.err (depth_there found) c.requires.room in
+    let back = length-reverse c.args.keys.now.items in
+    let within = c.requires.room in
+    let room = room_after c.insert.result d.1 c.insert.new.node (reverse c.args.keys.now.items) c.args.value c.insert.ensures.ok c.insert.ensures.err (depth_there found) (omega arith) in
     let after = set_there cs c.in-Ok.place (d.0, c.insert.new.node) c.index-in-Ok.result.now c.in-Ok.ensures.bound c.index-in-Ok.ensures in
     children-set found c.insert.new.node (subst (λ (x : Key × Tree). x.1 ≢ null) after c.share_of-after.ensures.some) (subst (λ (x : Key × Tree). IsLawful x.1) after c.share_of-after.ensures.lawful) room
 
@@ -76,16 +88,17 @@ insert_below-returns-in_ok-insert-in-Ok-clause-ok t c =
     let cs = c.args.children.now.items in
     let d : Key × Tree = c.index_mut.result.now in
     let found : StandsAt cs c.in-Ok.place d c.text.result.now = record { children = c.requires.children; within = c.in-Ok.ensures.bound; at = c.index_mut.ensures.value; tied = c.in-Ok.ensures.position d } in
-    graft-set found c.args.rest.now c.insert.new.node c.args.value c.in_ok-insert-in-Ok.ensures.ok ∙ ap (λ k. proposed (graft cs) ((k ∷ c.args.rest.now, c.args.value) ∷ [])) c.text.ensures.bytes
+    graft-set found (reverse c.args.keys.now.items) c.insert.new.node c.args.value c.in_ok-insert-in-Ok.ensures.ok ∙ ap (λ k. proposed (graft cs) ((k ∷ (reverse c.args.keys.now.items), c.args.value) ∷ [])) c.text.ensures.bytes
 
 pub insert_below-returns-in_ok-insert-in-Err-clause-children : goal.insert_below-returns-in_ok-insert-in-Err-clause-children
 insert_below-returns-in_ok-insert-in-Err-clause-children t c =
     let cs = c.args.children.now.items in
     let below : Tree = c.in_ok-below-in-Err.below in
     let missing = missing_at cs c.in-Err.place c.text.result.now c.requires.children c.in-Err.ensures.bound c.in-Err.ensures.position in
-    let items = c.in_ok-insert-in-Err.ensures.items ∙ ap (λ k. insert cs c.in-Err.place (k, below)) (c.in_ok-copy-in-Err.ensures ∙ sym c.text.ensures.bytes) in
-    let deep = depth-chain below c.args.rest.now c.args.value c.in_ok-below-in-Err.ensures in
+    let items = c.in_ok-insert-in-Err.ensures.items ∙ ap (λ k. insert cs c.in-Err.place (k, below)) (sym c.text.ensures.bytes) in
+    let deep = depth-chain below (reverse c.args.keys.now.items) c.args.value c.in_ok-below-in-Err.ensures in
     let within = c.requires.room in
+    let back = length-reverse c.args.keys.now.items in
     let room : depth below < MAX_DEPTH = omega arith in
     let share = c.share_of-after-in-Err.ensures in
     subst AreLawfulChildren (sym items) (children-insert missing below (ap is_key c.text.ensures.bytes ∙ c.text.ensures.lawful) share.some share.lawful room)
@@ -94,14 +107,14 @@ pub insert_below-returns-in_ok-insert-in-Err-clause-exchange : goal.insert_below
 insert_below-returns-in_ok-insert-in-Err-clause-exchange t c =
     let cs = c.args.children.now.items in
     let share = c.share_of-after-in-Err.ensures in
-    rw (c.in_ok-insert-in-Err.ensures.items) (exchanges-insert cs c.in-Err.place _ c.in_ok-copy-in-Err.field-0 c.in_ok-below-in-Err.below refl refl (record { depth = share.depth; count = share.count }))
+    rw (c.in_ok-insert-in-Err.ensures.items) (exchanges-insert cs c.in-Err.place _ c.args.key c.in_ok-below-in-Err.below refl refl (record { depth = share.depth; count = share.count }))
 
 pub insert_below-returns-in_ok-insert-in-Err-clause-ok : goal.insert_below-returns-in_ok-insert-in-Err-clause-ok
 insert_below-returns-in_ok-insert-in-Err-clause-ok t c =
     let cs = c.args.children.now.items in
     let below : Tree = c.in_ok-below-in-Err.below in
     let missing = missing_at cs c.in-Err.place c.text.result.now c.requires.children c.in-Err.ensures.bound c.in-Err.ensures.position in
-    let items = c.in_ok-insert-in-Err.ensures.items ∙ ap (λ k. insert cs c.in-Err.place (k, below)) (c.in_ok-copy-in-Err.ensures ∙ sym c.text.ensures.bytes) in
+    let items = c.in_ok-insert-in-Err.ensures.items ∙ ap (λ k. insert cs c.in-Err.place (k, below)) (sym c.text.ensures.bytes) in
     ap graft items
-    ∙ graft-insert missing c.args.rest.now below c.args.value c.in_ok-below-in-Err.ensures
-    ∙ ap (λ k. proposed (graft cs) ((k ∷ c.args.rest.now, c.args.value) ∷ [])) c.text.ensures.bytes
+    ∙ graft-insert missing (reverse c.args.keys.now.items) below c.args.value c.in_ok-below-in-Err.ensures
+    ∙ ap (λ k. proposed (graft cs) ((k ∷ (reverse c.args.keys.now.items), c.args.value) ∷ [])) c.text.ensures.bytes

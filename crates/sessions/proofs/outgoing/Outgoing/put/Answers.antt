@@ -1,13 +1,17 @@
+use Rattle.std.proofs.lemmas.Result.{err_from_is_err_and}
 use Rattle.sessions.proofs.Sending.{Passes-then-Appends, Passes-then-Breaks, Breaks-before}
 use Rattle.sessions.proofs.outgoing.Outgoing.put.Goals as goal
 
-pub returns-in-Err-clause-err : goal.returns-in-Err-clause-err
-returns-in-Err-clause-err g c = Breaks-before _ _ _ _ c.in-Err.ensures.err
+pub returns-in_err-send-clause-err : goal.returns-in_err-send-clause-err
+returns-in_err-send-clause-err g c =
+    let p = err_from_is_err_and c.from_residual.result c.from_residual.ensures.1 in
+    rw p.1 (Breaks-before _ _ _ _ c.in_err-send.ensures.err)
 
-pub returns-in-Ok-clause-ok : goal.returns-in-Ok-clause-ok
-returns-in-Ok-clause-ok g c =
-    Passes-then-Appends _ _ _ _ _ _ c.in_default.ensures.ok.0 c.in-Ok.ensures.ok c.in_default.ensures.ok.1
+pub returns-then-text-gt-MAX_KEPT_BYTES-clause-ok : goal.returns-then-text-gt-MAX_KEPT_BYTES-clause-ok
+returns-then-text-gt-MAX_KEPT_BYTES-clause-ok g c =
+    Passes-then-Appends _ _ _ _ _ _ c.in_ok-send.ensures.ok.0 c.in_ok-write_all.ensures.ok c.in_ok-send.ensures.ok.1
 
-pub returns-in-Err-write_all-clause-err : goal.returns-in-Err-write_all-clause-err
-returns-in-Err-write_all-clause-err g c =
-    Passes-then-Breaks _ _ _ _ _ c.in_default.ensures.ok.0 c.in-Err-write_all.ensures.err
+pub returns-in_err-write_all-clause-err : goal.returns-in_err-write_all-clause-err
+returns-in_err-write_all-clause-err g c =
+    let p = err_from_is_err_and c.from_residual-in_err-write_all.result c.from_residual-in_err-write_all.ensures.1 in
+    rw p.1 (Passes-then-Breaks _ _ _ _ _ c.in_ok-send.ensures.ok.0 c.in_err-write_all.ensures.err)
