@@ -4,3 +4,4 @@ pub mod Grammar
 pub mod Stopping
 pub mod Text
 pub mod Working
+pub mod TreeCode

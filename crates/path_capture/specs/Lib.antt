@@ -1,4 +1,5 @@
 pub mod Path
 pub mod Name
 pub mod Pattern
+pub mod Captures
 pub mod Write

@@ -5,11 +5,13 @@
 //! it leaves the tree that the write proposes, or at an `Err` the tree that there was.
 #![tactic(auto)]
 
+mod captures;
 mod name;
 mod path;
 mod pattern;
 mod write;
 
+pub use captures::{Binding, Captures};
 pub use name::{CaptureName, NameFault, is_name};
 pub use path::{Path, PathFault, what_is_printed_is_read_back};
 pub use pattern::{Part, Pattern};

@@ -1,0 +1,24 @@
+use Rattle.std.proofs.Common.{inr, sym, ◌∙◌}
+use Rattle.expr_parser.specs.View.{view}
+use Rattle.path_capture.specs.Captures.{names}
+use Rattle.expr_types.proofs.Answered.{only_memory, first_fault, has_value, no_value, refused_sort}
+use Rattle.expr_types.proofs.Wider.{own_captures}
+use Rattle.expr_types.proofs.checker.check.Goals as goal
+
+pub of_expr-requires : goal.of_expr-requires
+of_expr-requires c = own_captures (has_value c.args.place (names c.args.captures.now) (view c.args.expr) c.in-Ok.sort c.in-Ok.ensures (sym c.is_value.ensures ∙ c.if-is_value.true))
+
+pub returns-then-is_value-clause-sorted : goal.returns-then-is_value-clause-sorted
+returns-then-is_value-clause-sorted c = has_value c.args.place (names c.args.captures.now) (view c.args.expr) c.in-Ok.sort c.in-Ok.ensures (sym c.is_value.ensures ∙ c.if-is_value.true)
+
+pub returns-else-is_value-clause-only : goal.returns-else-is_value-clause-only
+returns-else-is_value-clause-only c = no_value c.args.place (names c.args.captures.now) (view c.args.expr) c.in-Ok.sort c.in-Ok.ensures (sym c.is_value.ensures ∙ c.if-is_value.false)
+
+pub returns-else-is_value-clause-refused : goal.returns-else-is_value-clause-refused
+returns-else-is_value-clause-refused c = inr (refused_sort c.args.place (names c.args.captures.now) (view c.args.expr) c.in-Ok.sort c.in-Ok.ensures (sym c.is_value.ensures ∙ c.if-is_value.false))
+
+pub returns-in-Err-clause-only : goal.returns-in-Err-clause-only
+returns-in-Err-clause-only c = only_memory c.args.place (names c.args.captures.now) (view c.args.expr) c.in-Err.fault c.in-Err.ensures
+
+pub returns-in-Err-clause-refused : goal.returns-in-Err-clause-refused
+returns-in-Err-clause-refused c = first_fault c.args.place (names c.args.captures.now) (view c.args.expr) c.in-Err.fault c.in-Err.ensures

@@ -1,0 +1,199 @@
+//! The checker: the sort of an expression, or its first fault.
+ghost use Rattle.std.specs.Prelude.{◌≡◌, ◌⊎◌, true, IfOk, IfErr, OnOk, Ok, Err};
+ghost use Rattle.expr_parser.specs.Tree as tree;
+ghost use Rattle.expr_parser.specs.View.{view, view_argument, views, arguments as arguments_of};
+ghost use Rattle.path_capture.specs.Captures.{names};
+ghost use Rattle.expr_types.specs.HasSort.{HasValue};
+ghost use Rattle.expr_types.specs.Faults.{IsRefused};
+ghost use Rattle.expr_types.specs.Working.SortOf.{sort_of, given_of, with_argument, are_values, with_value, with_list, value_if};
+ghost use Rattle.expr_types.specs.Working.Gives.{Gives};
+ghost use Rattle.expr_types.specs.declared.fault.TypeFault.TheVariants.{NoMemory as no_memory};
+
+use crate::checked::Checked;
+use crate::fault::{FaultyName, TypeFault};
+use crate::place::Place;
+use crate::rows::{call, member, variable};
+use crate::sort::{Given, Sort};
+use expr_parser::{Argument, Expr};
+use path_capture::Captures;
+use std::alloc::Global;
+
+/// The expression as one that may stand in a rule for this place, below captures of these names; the
+/// keys that they stand for are not looked at. A refused expression is spent. Time linear in the
+/// expression, and memory only for the name of a fault. The recursion goes as deep as the expression
+/// does. (Reference, variables, operators and methods; the sorts are this project's profile.)
+pub fn check(
+    alloc: Global,
+    expr: Expr,
+    place: Place,
+    captures: &Captures,
+) -> Result<Checked, TypeFault>
+    // What is answered is the same expression, and may stand where a value is wanted.
+    ensures same { IfOk result (λ checked. checked ≡ record { tree = view expr; place = place }) }
+    ensures sorted { OnOk result (HasValue place (names captures.now) (view expr)) }
+    // An expression that may is refused for want of memory alone.
+    ensures only { HasValue place (names captures.now) (view expr) → IfErr result (λ fault. fault ≡ no_memory) }
+    // A fault is the first one, unless memory is refused.
+    ensures refused { IfErr result (λ fault. (fault ≡ no_memory) ⊎ IsRefused place (names captures.now) (view expr) fault) }
+{
+    let checker = Checker {
+        alloc,
+        place,
+        captures,
+    };
+    match checker.sort(&expr) {
+        Ok(sort) => if sort.is_value() {
+            Ok(Checked::of_expr(expr, place))
+        } else {
+            Err(TypeFault::TypeError)
+        },
+        Err(fault) => Err(fault),
+    }
+}
+
+// What stays the same through an expression.
+#[derive(Drop)]
+struct Checker<'a> {
+    alloc: Global,
+    place: Place,
+    captures: &'a Captures<'a>,
+}
+
+impl<'a> Checker<'a> {
+    // The sort of an expression, or its first fault.
+    #[cycle(sorts)]
+    fn sort(&self, expr: &Expr) -> Result<Sort, TypeFault>
+        ensures { Gives result (sort_of self.now.place (names self.now.captures.now) (view expr.now)) }
+    {
+        match expr {
+            Expr::Number(_) | Expr::Text(_) | Expr::True | Expr::False | Expr::Null => {
+                Ok(Sort::Value)
+            }
+            Expr::Variable(name) => self.variable(name.as_str()),
+            Expr::Capture(name) => self.capture(name.as_str()),
+            Expr::Group(inner) => self.sort(inner),
+            Expr::Member(receiver, name) => {
+                let receiver = self.sort(receiver)?;
+                member(self.alloc, receiver, name.as_str())
+            }
+            Expr::Call(receiver, name, arguments) => {
+                let receiver = self.sort(receiver)?;
+                let given = self.given(arguments)?;
+                call(self.alloc, receiver, name.as_str(), given)
+            }
+            Expr::Not(operand) | Expr::Negate(operand) => {
+                let operand = self.sort(operand)?;
+                value_if(operand.is_value())
+            }
+            Expr::Operation(_, left, right) => {
+                let left = self.sort(left)?;
+                let right = self.sort(right)?;
+                value_if(left.is_value() && right.is_value())
+            }
+            Expr::Choice(condition, yes, no) => {
+                let condition = self.sort(condition)?;
+                let yes = self.sort(yes)?;
+                let no = self.sort(no)?;
+                value_if(condition.is_value() && yes.is_value() && no.is_value())
+            }
+        }
+    }
+
+    // What a call is given.
+    #[cycle(sorts)]
+    fn given(&self, arguments: &Vec<Argument>) -> Result<Given, TypeFault>
+        ensures { Gives result (given_of self.now.place (names self.now.captures.now) Given.Nothing (arguments_of arguments.now.items)) }
+    {
+        let mut found = Given::Nothing;
+        for argument in arguments {
+            found = self.with_argument(found, argument)?;
+        }
+        Ok(found)
+    }
+
+    // What a call is given, with one argument more.
+    #[cycle(sorts)]
+    fn with_argument(&self, before: Given, argument: &Argument) -> Result<Given, TypeFault>
+        ensures { Gives result (with_argument self.now.place (names self.now.captures.now) before (view_argument argument.now)) }
+    {
+        match argument {
+            Argument::One(value) => {
+                let sort = self.sort(value)?;
+                Ok(if sort.is_value() {
+                    with_value(before)
+                } else {
+                    Given::Other
+                })
+            }
+            Argument::List(values) => Ok(if self.are_values(values)? {
+                with_list(before)
+            } else {
+                Given::Other
+            }),
+        }
+    }
+
+    // Whether the elements of a list are all values.
+    #[cycle(sorts)]
+    fn are_values(&self, elements: &Vec<Expr>) -> Result<bool, TypeFault>
+        ensures { Gives result (are_values self.now.place (names self.now.captures.now) true (views elements.now.items)) }
+    {
+        let mut all = true;
+        for element in elements {
+            let sort = self.sort(element)?;
+            all = all && sort.is_value();
+        }
+        Ok(all)
+    }
+
+    // The sort of a variable of this name.
+    fn variable(&self, name: &str) -> Result<Sort, TypeFault>
+        ensures { Gives result (sort_of self.now.place (names self.now.captures.now) (tree.Variable name.now)) }
+    {
+        match variable(self.place, name) {
+            Some(found) => Ok(found),
+            None => Err(TypeFault::UnknownName(FaultyName::of_text(self.alloc, name)?)),
+        }
+    }
+
+    // The sort of a capture of this name.
+    fn capture(&self, name: &str) -> Result<Sort, TypeFault>
+        ensures { Gives result (sort_of self.now.place (names self.now.captures.now) (tree.Capture name.now)) }
+    {
+        if self.captures.key_of(name).is_some() {
+            Ok(Sort::Value)
+        } else {
+            Err(TypeFault::UnknownName(FaultyName::of_capture(self.alloc, name)?))
+        }
+    }
+}
+
+// A value, where all that it is made of are values.
+fn value_if(are_values: bool) -> Result<Sort, TypeFault>
+    ensures { result ≡ value_if are_values }
+{
+    if are_values {
+        Ok(Sort::Value)
+    } else {
+        Err(TypeFault::TypeError)
+    }
+}
+
+fn with_value(before: Given) -> Given
+    ensures { result ≡ with_value before }
+{
+    match before {
+        Given::Nothing => Given::OneValue,
+        Given::OneValue => Given::TwoValues,
+        Given::TwoValues | Given::OneList | Given::Other => Given::Other,
+    }
+}
+
+fn with_list(before: Given) -> Given
+    ensures { result ≡ with_list before }
+{
+    match before {
+        Given::Nothing => Given::OneList,
+        Given::OneValue | Given::TwoValues | Given::OneList | Given::Other => Given::Other,
+    }
+}

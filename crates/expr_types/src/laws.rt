@@ -1,0 +1,49 @@
+//! The laws of sorts and faults.
+ghost use Rattle.std.specs.Prelude.{◌≡◌, ◌⊎◌, ℕ, List, true};
+ghost use Rattle.expr_tokens.specs.Words as words;
+ghost use Rattle.path_capture.specs.Name as captures;
+ghost use Rattle.expr_parser.specs.Tree.{Tree};
+ghost use Rattle.expr_types.specs.Names.{is_among};
+ghost use Rattle.expr_types.specs.HasSort.{HasSort, IsSorted};
+ghost use Rattle.expr_types.specs.Faults.{FirstFault, Names};
+ghost use Rattle.expr_types.specs.declared.place.Place.{Place};
+ghost use Rattle.expr_types.specs.declared.sort.Sort.{Sort};
+ghost use Rattle.expr_types.specs.declared.fault.TypeFault.{TypeFault};
+ghost use Rattle.expr_types.specs.declared.fault.TypeFault.TheVariants.{NotInProfile, UnknownName};
+
+/// An expression has at most one sort. It does nothing.
+pub fn one_sort()
+    ensures { (place : Place) (names : List (List ℕ)) (x : Tree) (r s : Sort) → HasSort place names x r → HasSort place names x s → r ≡ s }
+{}
+
+/// An expression has at most one first fault. It does nothing.
+pub fn one_first_fault()
+    ensures { (place : Place) (names : List (List ℕ)) (x : Tree) (d e : TypeFault) → FirstFault place names x d → FirstFault place names x e → d ≡ e }
+{}
+
+/// Every expression has a sort or a first fault. It does nothing.
+pub fn each_has_a_sort_or_a_first_fault()
+    ensures { (place : Place) (names : List (List ℕ)) (x : Tree) → IsSorted place names x ⊎ ((e : TypeFault) × FirstFault place names x e) }
+{}
+
+/// No expression has both a sort and a first fault. It does nothing.
+pub fn never_both()
+    ensures { (place : Place) (names : List (List ℕ)) (x : Tree) (s : Sort) (e : TypeFault) → HasSort place names x s → FirstFault place names x e → ⊥ }
+{}
+
+/// The name that a fault is about stands in the expression. It does nothing.
+pub fn a_named_fault_stands_in_the_expression()
+    ensures unknown { (place : Place) (names : List (List ℕ)) (x : Tree) (f : List ℕ) → FirstFault place names x (UnknownName f) → Names f x }
+    ensures excluded { (place : Place) (names : List (List ℕ)) (x : Tree) (f : List ℕ) → FirstFault place names x (NotInProfile f) → Names f x }
+{}
+
+/// An expression keeps its sort below more captures. It does nothing.
+pub fn more_captures_change_no_sort()
+    ensures { (place : Place) (names more : List (List ℕ)) (x : Tree) (s : Sort) → ((f : List ℕ) → is_among f names ≡ true → is_among f more ≡ true) → HasSort place names x s → HasSort place more x s }
+{}
+
+/// What an expression takes for a name, and what a rules file takes for the name of a capture, is the
+/// same. It does nothing.
+pub fn captures_have_names_of_expressions()
+    ensures { (text : List ℕ) → captures.is_name text ≡ words.is_name text }
+{}

@@ -1,0 +1,27 @@
+//! Sorts of expressions: which expression may stand in a rule, and the first fault of one that may
+//! not.
+//!
+//! Contracts state sorts by `specs/HasSort`, with a case for each row of the language's table, and
+//! faults by `specs/Faults`. What the layers above need is [`check`]: it hands the expression on as a
+//! [`Checked`], whose sort is that of a value, or names its first fault.
+#![tactic(auto)]
+
+mod checked;
+mod checker;
+mod fault;
+mod laws;
+mod names;
+mod place;
+mod rows;
+mod sort;
+
+pub use checked::Checked;
+pub use checker::check;
+pub use fault::{FaultyName, TypeFault};
+pub use laws::{
+    a_named_fault_stands_in_the_expression, captures_have_names_of_expressions,
+    each_has_a_sort_or_a_first_fault, more_captures_change_no_sort, never_both, one_first_fault,
+    one_sort,
+};
+pub use place::Place;
+pub use sort::Sort;
