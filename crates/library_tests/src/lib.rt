@@ -10,6 +10,8 @@ mod paths;
 #[cfg(test)]
 mod rules_files;
 #[cfg(test)]
+mod sorts;
+#[cfg(test)]
 mod tables;
 #[cfg(test)]
 mod token_texts;

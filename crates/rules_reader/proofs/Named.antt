@@ -16,7 +16,7 @@ use Rattle.tree_model.specs.PathMap.{under}
 use Rattle.tree_model.proofs.Choices.{true_is_not_false, or_right}
 use Rattle.tree_model.proofs.Orders.{paths_total, same_path, bytes_eq-self}
 use Rattle.path_capture.specs.Name.{is_name}
-use Rattle.rules_reader.specs.Part.{PartText, Pattern, is_capture, is_part}
+use Rattle.rules_reader.specs.Part.{PartText, Pattern, is_capture, bare_name, is_part}
 use Rattle.rules_reader.specs.File.{listed, is_object, objects, inner_objects, rule_set, book_of, is_sound, is_sound_member, faulty}
 use Rattle.rules_reader.specs.Working.Inner.{faulty_inner}
 use Rattle.rules_reader.specs.Place.{captures, IsCaptureOf, NamesOnce, HasNamesOnce}
@@ -129,31 +129,41 @@ names_once d h = record { once = λ p g. stated_once p (objects d) (each_once []
 
 -- ---- the captures of a place
 
+-- a capture is its name behind a $
+signed : (part : PartText) → is_capture part ≡ true → part ≡ 36 ∷ bare_name part
+signed [] h = absurd (false≢true h)
+signed (sign ∷ name) h = ap (λ x. x ∷ name) (eqb-true sign 36 (first_so (sign == 36) (is_name name) h))
+
 -- a capture of the pattern is given with the key at its place
-pub captures_given : (p : Pattern) (path : Path) (i : ℕ) → length p ≡ length path → i < length p → is_capture (get_or p i []) ≡ true → Contains (captures p path) (get_or p i [], get_or path i [])
+captures_given : (p : Pattern) (path : Path) (i : ℕ) → length p ≡ length path → i < length p → is_capture (get_or p i []) ≡ true → Contains (captures p path) (bare_name (get_or p i []), get_or path i [])
 captures_given [] path i e l h = absurd (omega arith)
 captures_given (part ∷ p) [] i e l h = absurd (omega arith)
-captures_given (part ∷ p) (k ∷ path) zero e l h = subst (λ b. Contains (cons_option (cond b (Some (part, k)) None) (captures p path)) (part, k)) (sym h) (zero, omega arith, refl)
-captures_given (part ∷ p) (k ∷ path) (suc i) e l h = one_more (cond (is_capture part) (Some (part, k)) None) (captures p path) (get_or p i [], get_or path i []) (captures_given p path i (omega arith) (omega arith) h)
+captures_given (part ∷ p) (k ∷ path) zero e l h = subst (λ b. Contains (cons_option (cond b (Some (bare_name part, k)) None) (captures p path)) (bare_name part, k)) (sym h) (zero, omega arith, refl)
+captures_given (part ∷ p) (k ∷ path) (suc i) e l h = one_more (cond (is_capture part) (Some (bare_name part, k)) None) (captures p path) (bare_name (get_or p i []), get_or path i []) (captures_given p path i (omega arith) (omega arith) h)
   where
     one_more : {A : Type 0} (o : Option A) (xs : List A) (x : A) → Contains xs x → Contains (cons_option o xs) x
     one_more None xs x g = g
     one_more (Some y) xs x g = let within = g.1 in (suc g.0, omega arith, g.2)
 
-later : (part : PartText) (p : Pattern) (l : Key) (path : Path) (name : PartText) (k : Key) → IsCaptureOf p path name k → IsCaptureOf (part ∷ p) (l ∷ path) name k
+pub name_given : (p : Pattern) (path : Path) (i : ℕ) (name : List ℕ) → length p ≡ length path → i < length p → get_or p i [] ≡ 36 ∷ name → is_name name ≡ true → Contains (captures p path) (name, get_or path i [])
+name_given p path i name e l part named = subst (λ n. Contains (captures p path) (n, get_or path i [])) (ap bare_name part) (captures_given p path i e l (ap is_capture part ∙ named))
+
+later : (part : PartText) (p : Pattern) (l : Key) (path : Path) (name : List ℕ) (k : Key) → IsCaptureOf p path name k → IsCaptureOf (part ∷ p) (l ∷ path) name k
 later part p l path name k r = let within = r.1 in (suc r.0, omega arith, r.2, r.3, r.4)
 
-first_captured : (part : PartText) (p : Pattern) (l : Key) (path : Path) (name : PartText) (k : Key) → (Contains (captures p path) (name, k) → IsCaptureOf p path name k) → is_capture part ≡ true
-    → (i : ℕ) → i < length ((part, l) ∷ captures p path) → get_or ((part, l) ∷ captures p path) i (name, k) ≡ (name, k) → IsCaptureOf (part ∷ p) (l ∷ path) name k
-first_captured part p l path name k rest c zero below e = (zero, omega arith, ap (λ x. x.0) e, ap (λ x. x.1) e, ap (λ x. is_capture x.0) (sym e) ∙ c)
+first_captured : (part : PartText) (p : Pattern) (l : Key) (path : Path) (name : List ℕ) (k : Key) → (Contains (captures p path) (name, k) → IsCaptureOf p path name k) → is_capture part ≡ true
+    → (i : ℕ) → i < length ((bare_name part, l) ∷ captures p path) → get_or ((bare_name part, l) ∷ captures p path) i (name, k) ≡ (name, k) → IsCaptureOf (part ∷ p) (l ∷ path) name k
+first_captured part p l path name k rest c zero below e =
+    let signed_name = signed part c ∙ ap (λ x. 36 ∷ x.0) e in
+    (zero, omega arith, signed_name, ap (λ x. x.1) e, ap is_capture (sym signed_name) ∙ c)
 first_captured part p l path name k rest c (suc i) below e = later part p l path name k (rest (i, omega arith, e))
 
 -- what is among the captures is one of the pattern, with the key at its place
-pub captured_at : (p : Pattern) (path : Path) (name : PartText) (k : Key) → Contains (captures p path) (name, k) → IsCaptureOf p path name k
+pub captured_at : (p : Pattern) (path : Path) (name : List ℕ) (k : Key) → Contains (captures p path) (name, k) → IsCaptureOf p path name k
 captured_at [] path name k h = let none = h.1 in absurd (omega arith)
 captured_at (part ∷ p) [] name k h = let none = h.1 in absurd (omega arith)
 captured_at (part ∷ p) (l ∷ path) name k h =
-    elim (is_capture part) as (λ b. is_capture part ≡ b → Contains (cons_option (cond b (Some (part, l)) None) (captures p path)) (name, k) → IsCaptureOf (part ∷ p) (l ∷ path) name k) [
+    elim (is_capture part) as (λ b. is_capture part ≡ b → Contains (cons_option (cond b (Some (bare_name part, l)) None) (captures p path)) (name, k) → IsCaptureOf (part ∷ p) (l ∷ path) name k) [
       | true ↦ λ c g. first_captured part p l path name k (captured_at p path name k) c g.0 g.1 g.2
       | false ↦ λ _ g. later part p l path name k (captured_at p path name k g)
     ] refl h
@@ -169,7 +179,7 @@ three_ways (suc a) (suc b) = elim (three_ways a b) [
 ]
 
 -- a name has one key
-pub one_key : (p : Pattern) (path : Path) (name : PartText) (k l : Key) → NamesOnce p → Contains (captures p path) (name, k) → Contains (captures p path) (name, l) → k ≡ l
+pub one_key : (p : Pattern) (path : Path) (name : List ℕ) (k l : Key) → NamesOnce p → Contains (captures p path) (name, k) → Contains (captures p path) (name, l) → k ≡ l
 one_key p path name k l once g h = same_place (captured_at p path name k g) (captured_at p path name l h)
   where
     same_place : IsCaptureOf p path name k → IsCaptureOf p path name l → k ≡ l

@@ -1,11 +1,12 @@
 -- Rule place: which pattern of a book stands at a path.
-use Rattle.std.specs.Prelude.{◌≡◌, ◌≢◌, ℕ, ◌<◌, ◌++◌, List, [], ◌∷◌, length, take, zip, filter_map, Bool, true, not, if◌then◌else◌, Option, Some, None, slice_index_or, nat_le, filter}
+use Rattle.std.specs.Prelude.{◌≡◌, ◌≢◌, ℕ, ◌<◌, ◌++◌, List, [], ◌∷◌, length, take, zip, filter_map, codes, Bool, true, not, if◌then◌else◌, Option, Some, None, slice_index_or, nat_le, filter}
 use Rattle.std.specs.FinMap as map_of
 use Rattle.std.specs.Str.{bytes_eq}
 use Rattle.tree_model.specs.Key.{Key}
 use Rattle.tree_model.specs.Path.{Path}
 use Rattle.tree_model.specs.PathMap.{get, exists, sub}
-use Rattle.rules_reader.specs.Part.{PartText, Pattern, is_capture}
+use Rattle.path_capture.specs.Name.{is_name}
+use Rattle.rules_reader.specs.Part.{PartText, Pattern, is_capture, bare_name}
 use Rattle.rules_reader.specs.Book.{Book}
 
 -- the part after these matches the key: a key matches itself; a capture matches a key only if no pattern of the book has the same parts before it and then that key. (Guide "Core syntax", using $ variables to capture path segments.)
@@ -18,13 +19,13 @@ pub record StandsAt (book : Book) (p : Pattern) (path : Path) : Type 0 where
   pub long : length p ≡ length path
   pub matched : (i : ℕ) → i < length p → matches book (take i p) (slice_index_or p i []) (slice_index_or path i []) ≡ true
 
--- the captures of a pattern that stands at a path: the name and the key of each capture
-abbrev pub captures : Pattern → Path → List (PartText × Key)
-captures p path = filter_map (λ pair. if is_capture pair.0 then Some pair else None) (zip p path)
+-- the captures of a pattern that stands at a path: the name of each, without its $, and the key at its place
+abbrev pub captures : Pattern → Path → List (List ℕ × Key)
+captures p path = filter_map (λ pair. if is_capture pair.0 then Some (bare_name pair.0, pair.1) else None) (zip p path)
 
--- at one place the pattern has this capture, and the path this key
-abbrev pub IsCaptureOf : Pattern → Path → PartText → Key → Type 0
-IsCaptureOf p path name k = (i : ℕ) × (i < length p) × (slice_index_or p i [] ≡ name) × (slice_index_or path i [] ≡ k) × (is_capture name ≡ true)
+-- at one place the pattern has a capture of this name, and the path this key
+abbrev pub IsCaptureOf : Pattern → Path → List ℕ → Key → Type 0
+IsCaptureOf p path name k = (i : ℕ) × (i < length p) × (slice_index_or p i [] ≡ codes "$" ++ name) × (slice_index_or path i [] ≡ k) × (is_name name ≡ true)
 
 -- a capture stands once in the pattern, so that its name has one key. (Guide "Core syntax", using $ variables to capture path segments.)
 abbrev pub NamesOnce : Pattern → Type 0

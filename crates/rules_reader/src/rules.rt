@@ -1,10 +1,11 @@
 //! A rules file, read.
-ghost use Rattle.std.specs.Prelude.{◌≡◌, ◌<◌, ℕ, [], true, length, slice_index_or, Contains, IfSome, IfNone};
+ghost use Rattle.std.specs.Prelude.{◌≡◌, ◌<◌, ◌++◌, ℕ, List, [], codes, true, length, slice_index_or, Contains, IfSome, IfNone};
 ghost use Rattle.std.specs.FinMap as map_of;
 ghost use Rattle.tree_model.specs.Key.{Key as KeyBytes};
 ghost use Rattle.tree_model.specs.Path.{Path};
 ghost use Rattle.tree_model.specs.PathMap.{sub};
-ghost use Rattle.rules_reader.specs.Part.{PartText, Pattern, is_capture};
+ghost use Rattle.path_capture.specs.Name.{is_name};
+ghost use Rattle.rules_reader.specs.Part.{Pattern};
 ghost use Rattle.rules_reader.specs.Book.{rules, has_validate};
 ghost use Rattle.rules_reader.specs.Place.{StandsAt, IsCaptureOf, HasOneCapture, HasNamesOnce, captures};
 
@@ -89,13 +90,13 @@ impl Rules {
         let _root = &self.root;
     }
 
-    /// The captures of a place: each capture of the pattern that stands at a path is given with the
-    /// key at its place, nothing else is given, and no name with two keys. (Guide "Core syntax", using
-    /// $ variables to capture path segments.)
+    /// The captures of a place: each capture of the pattern that stands at a path is given, by its name
+    /// without the `$`, with the key at its place, nothing else is given, and no name with two keys.
+    /// (Guide "Core syntax", using $ variables to capture path segments.)
     pub fn the_captures_of_a_place(&self)
-        ensures given { (p : Pattern) (path : Path) (i : ℕ) → StandsAt self.now p path → i < length p → is_capture (slice_index_or p i []) ≡ true → Contains (captures p path) (slice_index_or p i [], slice_index_or path i []) }
-        ensures alone { (p : Pattern) (path : Path) (name : PartText) (k : KeyBytes) → Contains (captures p path) (name, k) → IsCaptureOf p path name k }
-        ensures once { (p : Pattern) (path : Path) (name : PartText) (k l : KeyBytes) → StandsAt self.now p path → Contains (captures p path) (name, k) → Contains (captures p path) (name, l) → k ≡ l }
+        ensures given { (p : Pattern) (path : Path) (i : ℕ) (name : List ℕ) → StandsAt self.now p path → i < length p → slice_index_or p i [] ≡ codes "$" ++ name → is_name name ≡ true → Contains (captures p path) (name, slice_index_or path i []) }
+        ensures alone { (p : Pattern) (path : Path) (name : List ℕ) (k : KeyBytes) → Contains (captures p path) (name, k) → IsCaptureOf p path name k }
+        ensures once { (p : Pattern) (path : Path) (name : List ℕ) (k l : KeyBytes) → StandsAt self.now p path → Contains (captures p path) (name, k) → Contains (captures p path) (name, l) → k ≡ l }
     {
         let _root = &self.root;
     }
