@@ -1,33 +1,44 @@
 //! Which expressions may stand in a rule, and the faults of others.
 use crate::tables::{Row, first_other};
 use expr_parser::parse;
-use expr_types::{Place, TypeFault, check};
+use expr_types::{Place, check};
 use json_tree::Key;
 use path_capture::{CaptureName, Captures};
 use std::alloc::Global;
 use std::test::*;
 
+const OTHER: &str = "a value of another sort is wanted";
+
 // What an expression is answered in a rule for a place, below a capture `$room`.
 fn answer(alloc: Global, place: Place, text: &str) -> Result<String, Fail> {
     let name = CaptureName::new(alloc, "room")?;
     let key = Key::new(alloc, "lobby")?;
-    let mut captures = Captures::new(alloc);
-    captures.push(&name, &key)?;
-    let said = match check(alloc, parse(alloc, text)?, place, &captures) {
-        Ok(_) => String::from_str(alloc, "ok")?,
-        Err(fault) => in_words(alloc, &fault)?,
-    };
-    Ok(said)
+    answer_below(alloc, &name, &key, place, text)
 }
 
-fn in_words(alloc: Global, fault: &TypeFault) -> Result<String, Fail> {
-    let said = match fault {
-        TypeFault::NotInProfile(name) => format!(in alloc; "left out: {}", name.as_str())?,
-        TypeFault::TypeError => String::from_str(alloc, "other sort")?,
-        TypeFault::UnknownName(name) => format!(in alloc; "unknown: {}", name.as_str())?,
-        TypeFault::NoMemory => String::from_str(alloc, "out of memory")?,
-    };
-    Ok(said)
+fn answer_below(
+    alloc: Global,
+    name: &CaptureName,
+    key: &Key,
+    place: Place,
+    text: &str,
+) -> Result<String, Fail> {
+    let mut captures = Captures::new(alloc);
+    captures.push(name, key)?;
+    answer_among(alloc, &captures, place, text)
+}
+
+fn answer_among(
+    alloc: Global,
+    captures: &Captures,
+    place: Place,
+    text: &str,
+) -> Result<String, Fail> {
+    let expr = parse(alloc, text)?;
+    match check(alloc, expr, place, captures) {
+        Ok(_) => Ok(String::from_str(alloc, "ok")?),
+        Err(fault) => Ok(format!(in alloc; "{fault}")?),
+    }
 }
 
 fn in_a_read(alloc: Global, text: &str) -> Result<String, Fail> {
@@ -45,9 +56,13 @@ fn in_a_validate(alloc: Global, text: &str) -> Result<String, Fail> {
 // ---- each row of the table, with a receiver of each sort
 
 const VALUE: &str = "'a'";
+
 const SNAPSHOT: &str = "data";
+
 const AUTH: &str = "auth";
+
 const TOKEN: &str = "auth.token";
+
 const QUERY: &str = "query";
 
 const RECEIVERS: [&str; 5] = [VALUE, SNAPSHOT, AUTH, TOKEN, QUERY];
@@ -90,7 +105,7 @@ fn first_other_receiver(alloc: Global, behind: &str, fitting: &[&str]) -> Result
         let want = if fitting.contains(&receiver) {
             "ok"
         } else {
-            "other sort"
+            OTHER
         };
         let found = in_a_read(alloc, text.as_str())?;
         if found.as_str() != want {
@@ -119,73 +134,79 @@ const READS: [Row; 69] = [
     ("auth", "ok"),
     ("auth.token", "ok"),
     ("$room", "ok"),
-    ("data", "other sort"),
-    ("root", "other sort"),
-    ("query", "other sort"),
-    ("data.child('a')", "other sort"),
-    ("data.parent()", "other sort"),
+    ("data", OTHER),
+    ("root", OTHER),
+    ("query", OTHER),
+    ("data.child('a')", OTHER),
+    ("data.parent()", OTHER),
     ("auth.token.level.length > 1", "ok"),
-    ("auth.length == 1", "other sort"),
-    ("auth.foo == 1", "unknown: foo"),
-    ("data.val == 1", "other sort"),
-    ("data.getPriority() == null", "left out: getPriority"),
-    ("'a'.toLowerCase()", "left out: toLowerCase"),
-    ("'a'.toUpperCase()", "left out: toUpperCase"),
-    ("query.orderByPriority", "left out: orderByPriority"),
-    ("newData.exists()", "unknown: newData"),
-    ("now.exists()", "other sort"),
-    ("nothing", "unknown: nothing"),
-    ("$other == 1", "unknown: $other"),
+    ("auth.length == 1", OTHER),
+    ("auth.foo == 1", "`foo` is no name here"),
+    ("data.val == 1", OTHER),
+    (
+        "data.getPriority() == null",
+        "`getPriority` is not in the profile",
+    ),
+    ("'a'.toLowerCase()", "`toLowerCase` is not in the profile"),
+    ("'a'.toUpperCase()", "`toUpperCase` is not in the profile"),
+    (
+        "query.orderByPriority",
+        "`orderByPriority` is not in the profile",
+    ),
+    ("newData.exists()", "`newData` is no name here"),
+    ("now.exists()", OTHER),
+    ("nothing", "`nothing` is no name here"),
+    ("$other == 1", "`$other` is no name here"),
     ("$room == auth.uid", "ok"),
     ("root.child('rooms/' + $room).exists()", "ok"),
     // A variable may be called like a method; the use of a claim is no call.
-    ("matches", "unknown: matches"),
+    ("matches", "`matches` is no name here"),
     ("auth.token.matches", "ok"),
-    ("auth.token.matches('x')", "left out: matches"),
-    ("auth.token.x()", "unknown: x"),
-    ("auth.token.contains('x')", "other sort"),
-    ("auth.contains('x')", "other sort"),
-    ("null.uid", "other sort"),
+    ("auth.token.matches('x')", "`matches` is not in the profile"),
+    ("auth.token.x()", "`x` is no name here"),
+    ("auth.token.contains('x')", OTHER),
+    ("auth.contains('x')", OTHER),
+    ("null.uid", OTHER),
     ("auth.token.length", "ok"),
     // A parenthesis passes the sort through, a choice gives a value.
     ("(auth).uid", "ok"),
     ("((data)).val()", "ok"),
-    ("(true ? auth : auth).uid", "other sort"),
-    ("(true ? data : 'b').foo", "other sort"),
-    ("(data)", "other sort"),
+    ("(true ? auth : auth).uid", OTHER),
+    ("(true ? data : 'b').foo", OTHER),
+    ("(data)", OTHER),
     // The receiver and the arguments come before the name, and elements before their list.
-    ("data.foo(nosuch)", "unknown: nosuch"),
-    ("data.foo([data])", "unknown: foo"),
-    ("data.foo([data, nosuch])", "unknown: nosuch"),
-    ("nosuch.foo(other)", "unknown: nosuch"),
-    ("auth.foo.bar(other)", "unknown: foo"),
-    ("'a'.contains(['b'])", "other sort"),
-    ("'a'.matches(foo)", "unknown: foo"),
-    ("'a'.size", "unknown: size"),
+    ("data.foo(nosuch)", "`nosuch` is no name here"),
+    ("data.foo([data])", "`foo` is no name here"),
+    ("data.foo([data, nosuch])", "`nosuch` is no name here"),
+    ("nosuch.foo(other)", "`nosuch` is no name here"),
+    ("auth.foo.bar(other)", "`foo` is no name here"),
+    ("'a'.contains(['b'])", OTHER),
+    ("'a'.matches(foo)", "`foo` is no name here"),
+    ("'a'.size", "`size` is no name here"),
     // Left before right, and all operands before the sort of any.
-    ("one + two", "unknown: one"),
-    ("data == $other", "unknown: $other"),
-    ("data + 1 == nosuch", "other sort"),
-    ("data ? one : two", "unknown: one"),
-    ("true ? data : two", "unknown: two"),
-    ("data == 1", "other sort"),
-    ("1 == data", "other sort"),
-    ("!data", "other sort"),
-    ("-query", "other sort"),
+    ("one + two", "`one` is no name here"),
+    ("data == $other", "`$other` is no name here"),
+    ("data + 1 == nosuch", OTHER),
+    ("data ? one : two", "`one` is no name here"),
+    ("true ? data : two", "`two` is no name here"),
+    ("data == 1", OTHER),
+    ("1 == data", OTHER),
+    ("!data", OTHER),
+    ("-query", OTHER),
     ("!auth", "ok"),
-    ("data && nosuch", "unknown: nosuch"),
+    ("data && nosuch", "`nosuch` is no name here"),
     // What a call is given.
-    ("data.child()", "other sort"),
-    ("data.child('a', 'b')", "other sort"),
-    ("data.child(['a'])", "other sort"),
-    ("data.child(data)", "other sort"),
-    ("data.hasChild()", "other sort"),
-    ("data.hasChildren(['a', data])", "other sort"),
-    ("data.hasChildren(['a'], 'b')", "other sort"),
-    ("data.hasChildren(['a'], ['b'])", "other sort"),
-    ("data.val('a')", "other sort"),
-    ("'abc'.replace('a')", "other sort"),
-    ("'abc'.replace('a', 'b', 'c')", "other sort"),
+    ("data.child()", OTHER),
+    ("data.child('a', 'b')", OTHER),
+    ("data.child(['a'])", OTHER),
+    ("data.child(data)", OTHER),
+    ("data.hasChild()", OTHER),
+    ("data.hasChildren(['a', data])", OTHER),
+    ("data.hasChildren(['a'], 'b')", OTHER),
+    ("data.hasChildren(['a'], ['b'])", OTHER),
+    ("data.val('a')", OTHER),
+    ("'abc'.replace('a')", OTHER),
+    ("'abc'.replace('a', 'b', 'c')", OTHER),
 ];
 
 #[test]
@@ -198,8 +219,8 @@ fn in_reads(rt: HostRuntime) -> Result<(), Fail> {
 const WRITES: [Row; 5] = [
     ("newData.exists()", "ok"),
     ("newData.child($room).val() == data.val()", "ok"),
-    ("newData", "other sort"),
-    ("query.limitToFirst == 1", "unknown: query"),
+    ("newData", OTHER),
+    ("query.limitToFirst == 1", "`query` is no name here"),
     ("auth.uid == $room", "ok"),
 ];
 
@@ -209,49 +230,5 @@ fn in_writes(rt: HostRuntime) -> Result<(), Fail> {
     assert_eq!(rt; other.as_str(), "");
     let other = first_other(rt.alloc(), &WRITES, in_a_validate)?;
     assert_eq!(rt; other.as_str(), "");
-    Ok(())
-}
-
-#[test]
-fn faults_in_words(rt: HostRuntime) -> Result<(), Fail> {
-    let other = first_other(
-        rt.alloc(),
-        &[
-            ("'a'.matches('b')", "`matches` is not in the profile"),
-            ("$other", "`$other` is no name here"),
-            ("data", "a value of another sort is wanted"),
-            ("true", "no fault"),
-        ],
-        printed,
-    )?;
-    assert_eq!(rt; other.as_str(), "");
-    Ok(())
-}
-
-// What the fault of an expression prints.
-fn printed(alloc: Global, text: &str) -> Result<String, Fail> {
-    let captures = Captures::new(alloc);
-    let said = match check(alloc, parse(alloc, text)?, Place::ReadRule, &captures) {
-        Ok(_) => String::from_str(alloc, "no fault")?,
-        Err(fault) => format!(in alloc; "{fault}")?,
-    };
-    Ok(said)
-}
-
-// ---- captures
-
-#[test]
-fn captures_in_order(rt: HostRuntime) -> Result<(), Fail> {
-    let alloc = rt.alloc();
-    let (room, user) = (CaptureName::new(alloc, "room")?, CaptureName::new(alloc, "user")?);
-    let (lobby, ann) = (Key::new(alloc, "lobby")?, Key::new(alloc, "ann")?);
-    let mut captures = Captures::new(alloc);
-    captures.push(&room, &lobby)?;
-    captures.push(&user, &ann)?;
-    assert_eq!(rt; captures.len(), 2);
-    assert_eq!(rt; captures.key_of("user").map(|key| key.text()), Some("ann"));
-    assert_eq!(rt; captures.pop().map(|last| last.name.text()), Some("user"));
-    assert_eq!(rt; captures.key_of("user").is_none(), true);
-    assert_eq!(rt; captures.part(0).map(|first| first.key.text()), Some("lobby"));
     Ok(())
 }
