@@ -8,6 +8,8 @@
 #![tactic(auto)]
 
 mod command;
+#[cfg(test)]
+mod commands;
 mod files;
 mod line;
 #[cfg(test)]
