@@ -8,6 +8,8 @@ mod expressions;
 #[cfg(test)]
 mod paths;
 #[cfg(test)]
+mod plain_texts;
+#[cfg(test)]
 mod rules_files;
 #[cfg(test)]
 mod sorts;

@@ -19,7 +19,7 @@ fn answer(alloc: Global, file: &str) -> Result<String, Fail> {
     }
 }
 
-const FILES: [Row; 24] = [
+const FILES: [Row; 31] = [
     ("{\"rules\":{}}", "0 rules"),
     ("{\"rules\":{\".read\":true,\".write\":true}}", "2 rules"),
     (
@@ -62,7 +62,25 @@ const FILES: [Row; 24] = [
     ),
     ("{", "BadRulesJson"),
     ("", "BadRulesJson"),
+    (
+        "// who reads\n{/* all of\nit */\"rules\":{\".read\"/**/:true}}//",
+        "1 rules",
+    ),
+    ("{\"rules\":{\"a\tb\n\":{}}}", "0 rules"),
+    ("{\"rules\":{\"a//b\":{}}}", "BadRulesShape /"),
+    ("{\"rules\":{}}/*", "BadRulesJson"),
+    ("{\"rules\":{}}/*/", "BadRulesJson"),
+    ("{\"rules\":{}}/", "BadRulesJson"),
+    ("{\"rules\":{}/*}*/", "BadRulesJson"),
 ];
+
+#[test]
+fn bad_bytes_stand_in_comments_alone(rt: HostRuntime) {
+    assert!(rt; compile(rt.alloc(), b"{\"rules\":{}}//\xff").is_ok());
+    assert!(rt; compile(rt.alloc(), b"{\"rules\":{}}/*\xff*/").is_ok());
+    assert!(rt; compile(rt.alloc(), b"{\"rules\":{}}/*\xff").is_err());
+    assert!(rt; compile(rt.alloc(), b"{\"rules\":{}}\xff").is_err());
+}
 
 #[test]
 fn files_and_their_faults(rt: HostRuntime) -> Result<(), Fail> {
@@ -71,9 +89,11 @@ fn files_and_their_faults(rt: HostRuntime) -> Result<(), Fail> {
     Ok(())
 }
 
-const LONG_FILES: [LongRow; 2] = [
+const LONG_FILES: [LongRow; 4] = [
     ("{\"rules\":{}}", " ", 1_048_564, "", "0 rules"),
     ("{\"rules\":{}}", " ", 1_048_565, "", "BadRulesJson"),
+    ("{\"rules\":{}}//", "x", 1_048_562, "", "0 rules"),
+    ("{\"rules\":{}}//", "x", 1_048_563, "", "BadRulesJson"),
 ];
 
 // So many objects, one in another, by an opening brace each.

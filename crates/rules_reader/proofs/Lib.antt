@@ -11,3 +11,6 @@ pub mod Reached
 pub mod JsonTexts
 pub mod Builds
 pub mod Named
+pub mod Firsts
+pub mod Fronts
+pub mod Cuts

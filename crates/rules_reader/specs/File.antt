@@ -16,6 +16,7 @@ use Rattle.rules_reader.specs.Part.{PartText, Pattern, is_capture, is_part}
 use Rattle.rules_reader.specs.declared.limits.TheConstants.{MAX_FILE_BYTES, MAX_RULES}
 use Rattle.rules_reader.specs.declared.rule.RuleSet.{RuleSet}
 use Rattle.rules_reader.specs.Book.{Book, rules}
+use Rattle.rules_reader.specs.Plain.{IsPlain}
 
 -- ---- the objects of a file
 
@@ -106,9 +107,15 @@ only_rules (member name d (member other e ms)) = None
 abbrev pub top : Data → Option Data
 top d = option_and_then only_rules (as_object d)
 
--- the JSON value of a file that is not too long. (This project's profile.)
+-- the JSON value of a text that is not too long. (This project's profile.)
 unfoldable pub json_of : List ℕ → Option Data
 json_of bytes = if nat_le (length bytes) MAX_FILE_BYTES && is_utf8 bytes then read bytes else None
+
+-- what a file is as JSON: the value of its plain text, which is as long as the file, or none. (This project's profile.)
+pub record ReadsAs (bytes : List ℕ) (json : Option Data) : Type 0 where
+  pub text : List ℕ
+  pub plain : IsPlain bytes text
+  pub json_is : json_of text ≡ json
 
 -- p is the least of these patterns: by the list of parts, each by the bytes of its text, a prefix first
 pub record IsLeast (p : Pattern) (ps : List Pattern) : Type 0 where
@@ -118,7 +125,7 @@ pub record IsLeast (p : Pattern) (ps : List Pattern) : Type 0 where
 -- a lawful rules file, and what it states
 pub record States (bytes : List ℕ) (book : Book) : Type 0 where
   pub json : Data
-  pub reads : json_of bytes ≡ Some json
+  pub reads : ReadsAs bytes (Some json)
   pub under_rules : Data
   pub is_top : top json ≡ Some under_rules
   pub sound : faulty [] under_rules ≡ []
@@ -127,7 +134,7 @@ pub record States (bytes : List ℕ) (book : Book) : Type 0 where
 
 -- no JSON value
 abbrev pub IsBadJson : List ℕ → Type 0
-IsBadJson bytes = json_of bytes ≡ None
+IsBadJson bytes = ReadsAs bytes None
 
 -- the faulty places of a file: where the top is not as it should be, that counts as a fault of the root
 abbrev pub faults : Data → List Pattern
@@ -136,13 +143,13 @@ faults json = option_map_or (faulty []) (top json) ([] ∷ [])
 -- JSON, but no rules file, and p is the least of its faulty places
 pub record IsBadShape (bytes : List ℕ) (p : Pattern) : Type 0 where
   pub json : Data
-  pub reads : json_of bytes ≡ Some json
+  pub reads : ReadsAs bytes (Some json)
   pub least : IsLeast p (faults json)
 
 -- a rules file, but for the number of its rules
 pub record HasTooManyRules (bytes : List ℕ) : Type 0 where
   pub json : Data
-  pub reads : json_of bytes ≡ Some json
+  pub reads : ReadsAs bytes (Some json)
   pub under_rules : Data
   pub is_top : top json ≡ Some under_rules
   pub sound : faulty [] under_rules ≡ []

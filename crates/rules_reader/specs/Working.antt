@@ -3,3 +3,4 @@ pub mod Inner
 pub mod NodeFalls
 pub mod Stepped
 pub mod Rules
+pub mod Front

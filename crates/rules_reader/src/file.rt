@@ -1,12 +1,12 @@
 //! From the bytes of a rules file to its rules.
-ghost use Rattle.std.specs.Prelude.{◌≡◌, ◌<◌, ◌++◌, [], ◌∷◌, ◌⊎◌, true, length, Some, None, option_map, option_and_then, codes, IfOk, OnOk, IfErr, IfSome, IsErrOf};
+ghost use Rattle.std.specs.Prelude.{◌≡◌, ◌<◌, ◌≤◌, ◌++◌, [], ◌∷◌, ◌⊎◌, true, length, Some, None, option_map, option_and_then, codes, IfOk, OnOk, IfErr, IfSome, IsErrOf};
 ghost use Rattle.std.specs.List.{AllByRecursion};
 ghost use Rattle.std.specs.FinMap.{is_sorted};
 ghost use Rattle.serde_json.specs.View.{view, members_view};
 ghost use Rattle.serde_json.specs.Find.{get, as_bool};
 ghost use Rattle.tree_model.specs.Key.{key_cmp};
 ghost use Rattle.rules_reader.specs.Part.{texts};
-ghost use Rattle.rules_reader.specs.File.{is_object, json_of, top, book_of, faulty, States};
+ghost use Rattle.rules_reader.specs.File.{is_object, json_of, ReadsAs, top, book_of, faulty, States};
 ghost use Rattle.rules_reader.specs.Working.Inner.{parts_of, faulty_inner};
 ghost use Rattle.rules_reader.specs.Node.{text_of, books, IsChild};
 ghost use Rattle.rules_reader.specs.Refusal.{Names, Refuses};
@@ -14,6 +14,7 @@ ghost use Rattle.rules_reader.specs.Refusal.{Names, Refuses};
 use crate::fault::RulesFault;
 use crate::limits::{MAX_FILE_BYTES, MAX_RULES};
 use crate::node::RuleNode;
+use crate::plain_text::plain;
 use crate::rule::RuleSet;
 use crate::rules::Rules;
 use crate::shape::{is_sound, part};
@@ -22,16 +23,26 @@ use path_capture::{Part, Pattern};
 use serde_json::{Map, Value};
 use std::alloc::Global;
 
-// The JSON value of a file that is not too long.
+// What the plain text of a file is as JSON, if the file is not too long.
 fn read(alloc: Global, bytes: &[u8]) -> Result<Value, RulesFault>
-    ensures ok { IfOk result (λ value. json_of bytes.now ≡ Some (view value)) }
-    ensures err { IfErr result (λ fault. (fault ≡ RulesFault.NoMemory) ⊎ ((fault ≡ RulesFault.BadRulesJson) × (json_of bytes.now ≡ None))) }
+    ensures ok { IfOk result (λ value. ReadsAs bytes.now (Some (view value))) }
+    ensures err { IfErr result (λ fault. (fault ≡ RulesFault.NoMemory) ⊎ ((fault ≡ RulesFault.BadRulesJson) × ReadsAs bytes.now None)) }
     ensures too_long { MAX_FILE_BYTES < length bytes.now → IsErrOf result RulesFault.BadRulesJson }
 {
     if bytes.len() > MAX_FILE_BYTES {
         return Err(RulesFault::BadRulesJson);
     }
-    match Value::from_slice(alloc, bytes) {
+    let text = plain(alloc, bytes)?;
+    read_text(alloc, &text)
+}
+
+// The JSON value of a text.
+fn read_text(alloc: Global, text: &[u8]) -> Result<Value, RulesFault>
+    requires { length text.now ≤ MAX_FILE_BYTES }
+    ensures ok { IfOk result (λ value. json_of text.now ≡ Some (view value)) }
+    ensures err { IfErr result (λ fault. (fault ≡ RulesFault.NoMemory) ⊎ ((fault ≡ RulesFault.BadRulesJson) × (json_of text.now ≡ None))) }
+{
+    match Value::from_slice(alloc, text) {
         Ok(value) => Ok(value),
         Err(error) => if error.is_memory() {
             Err(RulesFault::NoMemory)
@@ -99,10 +110,8 @@ fn build(alloc: Global, value: &Value, pattern: Pattern) -> Result<RuleNode, Rul
     if !is_sound(members, &pattern) {
         return Err(RulesFault::BadRulesShape(pattern));
     }
-    match build_children(alloc, members, &pattern) {
-        Ok(children) => Ok(RuleNode::new(pattern, rule_set_of(value), children)),
-        Err(fault) => Err(fault),
-    }
+    let children = build_children(alloc, members, &pattern)?;
+    Ok(RuleNode::new(pattern, rule_set_of(value), children))
 }
 
 // The nodes of the keys and captures of an object, in the order of their names.
@@ -131,38 +140,29 @@ fn build_children(
         let Ok(longer) = below(alloc, pattern, &part) else {
             return Err(RulesFault::NoMemory);
         };
-        match build(alloc, member, longer) {
-            Ok(node) => {
-                node.law();
-                if children.push((part, node)).is_err() {
-                    return Err(RulesFault::NoMemory);
-                }
-            }
-            Err(fault) => return Err(fault),
+        let node = build(alloc, member, longer)?;
+        node.law();
+        if children.push((part, node)).is_err() {
+            return Err(RulesFault::NoMemory);
         }
     }
     Ok(children)
 }
 
-/// The rules of a rules file, in one pass over its bytes and a few over each object, with a copy of
-/// the pattern of each; the rules do not borrow the bytes. (Guide "Core syntax"; the limits and what
-/// counts as one fault of many are this project's profile.)
+/// The rules of a rules file: of its plain text, which takes as much memory as the file has bytes
+/// until it is read. It makes a few passes over the bytes and over each object, with a copy of the
+/// pattern of each; the rules do not borrow the bytes. (Guide "Core syntax"; comments, the limits and
+/// what counts as one fault of many are this project's profile.)
 pub fn compile(alloc: Global, bytes: &[u8]) -> Result<Rules, RulesFault>
     ensures accepted { IfOk result (States bytes.now) }
     ensures refused { IfErr result (Refuses bytes.now) }
     ensures too_long { MAX_FILE_BYTES < length bytes.now → IsErrOf result RulesFault.BadRulesJson }
 {
-    let value = match read(alloc, bytes) {
-        Ok(value) => value,
-        Err(fault) => return Err(fault),
-    };
+    let value = read(alloc, bytes)?;
     let Some(rules) = top(&value) else {
         return Err(RulesFault::BadRulesShape(Pattern::new(alloc)));
     };
-    let root = match build(alloc, rules, Pattern::new(alloc)) {
-        Ok(root) => root,
-        Err(fault) => return Err(fault),
-    };
+    let root = build(alloc, rules, Pattern::new(alloc))?;
     let count = root.rule_count();
     if count > MAX_RULES {
         return Err(RulesFault::TooManyRules);

@@ -23,6 +23,7 @@ pub use code::Code;
 pub use header::{HeaderFault, read_header};
 pub use limits::{MAX_MESSAGE_BYTES, the_limit_of_messages};
 pub use message::{Form, MessageFault, Request, Stamp, Verb, read_request};
+pub use outgoing::send_text;
 pub use script::{ScriptEnd, run_script};
 pub use script_laws::{
     every_line_has_an_answer, lines_are_answered_by_a_run, what_is_said_is_a_run_from_the_opening,

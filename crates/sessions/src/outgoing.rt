@@ -1,5 +1,5 @@
 //! Text on its way to a sink, which is kept until there is much of it.
-ghost use Rattle.std.specs.Prelude.{◌≡◌, ◌≤◌, ◌++◌, [], true, false, vec_len, vec_capacity, IfOk, OnOk, OnErr, MatchResult};
+ghost use Rattle.std.specs.Prelude.{◌≡◌, ℕ, List, ◌≤◌, ◌++◌, [], true, false, vec_len, vec_capacity, IfOk, OnOk, OnErr, MatchResult};
 ghost use Rattle.std.specs.Io.KnownBytes.{Appends};
 ghost use Rattle.sessions.specs.declared.outgoing.TheConstants.{MAX_KEPT_BYTES};
 ghost use Rattle.sessions.specs.Working.Sent.{Passes, Breaks};
@@ -77,6 +77,18 @@ impl Outgoing {
         self.bytes.clear();
         result
     }
+}
+
+/// Writes a whole text, by as many writes as the sink wants, and flushes it. After an error a front of
+/// the text may have been written.
+pub fn send_text<W: Sink>(sink: &mut W, text: &[u8]) -> Result<(), Broken>
+    requires { W.failed sink.old ≡ false }
+    ensures ok { OnOk result (Appends (W.written sink.old) (W.written sink.new) text.now × (W.handed_on sink.new ≡ true)) }
+    ensures err { OnErr result ((sent lost : List ℕ) × Appends (W.written sink.old) (W.written sink.new) sent × (text.now ≡ sent ++ lost)) }
+    ensures failed { MatchResult result (λ _. W.failed sink.new ≡ W.failed sink.old) (λ _. W.failed sink.new ≡ true) }
+{
+    write_all(sink, text)?;
+    sink.flush()
 }
 
 // Writes a whole text, by as many writes as the sink wants.

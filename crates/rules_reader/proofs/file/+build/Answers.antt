@@ -1,16 +1,15 @@
-use Rattle.std.proofs.Common.{◌≡◌, true, cond, List, [], ◌∷◌, ◌++◌, Some, None, string_bytes, sym, ap, subst, ◌∙◌, arith, is_ok}
+use Rattle.std.proofs.Common.{◌≡◌, true, cond, List, [], ◌∷◌, ◌++◌, string_bytes, sym, ap, subst, ◌∙◌}
+use Rattle.std.proofs.lemmas.Result.{err_from_is_err_and}
 use Rattle.std.specs.FinMap.{is_sorted}
-use Rattle.serde_json.specs.Data.{Data, object, member}
 use Rattle.serde_json.specs.View.{view, members_view}
 use Rattle.serde_json.proofs.Views.{view-Object}
 use Rattle.tree_model.specs.Key.{key_cmp}
 use Rattle.path_capture.specs.declared.pattern.Part.{Part}
 use Rattle.rules_reader.specs.declared.rule.RuleSet.{RuleSet}
 use Rattle.rules_reader.specs.Part.{PartText, Pattern, texts, is_part}
-use Rattle.rules_reader.specs.Book.{Book}
-use Rattle.rules_reader.specs.File.{is_object, book_of, faulty, IsLeast}
-use Rattle.rules_reader.specs.Working.Inner.{parts_of, faulty_inner}
-use Rattle.rules_reader.specs.Node.{Point, text_of, books, grown, IsChild}
+use Rattle.rules_reader.specs.File.{book_of, faulty, IsLeast}
+use Rattle.rules_reader.specs.Working.Inner.{parts_of}
+use Rattle.rules_reader.specs.Node.{Point, text_of, grown, IsChild}
 use Rattle.rules_reader.specs.Refusal.{Names}
 use Rattle.rules_reader.proofs.Books.{book_of-object}
 use Rattle.rules_reader.proofs.Faulty.{faulty-sound, least_here}
@@ -27,30 +26,31 @@ build-returns-then-not-is_sound-clause-fault t c =
 
 pub build-new-requires-clause-few : goal.build-new-requires-clause-few
 build-new-requires-clause-few t c =
-    few_names (texts c.args.pattern) (members_view c.in-Object.members.entries) c.in-Ok.children.items (sym c.is_sound.ensures ∙ c.if-not-is_sound.false) c.in-Ok.ensures.books
+    few_names (texts c.args.pattern) (members_view c.in-Object.members.entries) c.in_ok-children.children.items (sym c.is_sound.ensures ∙ c.if-not-is_sound.false) c.in_ok-children.ensures.books
 
-pub build-returns-in-Ok-clause-book : goal.build-returns-in-Ok-clause-book
-build-returns-in-Ok-clause-book t c =
+pub build-returns-clause-book : goal.build-returns-clause-book
+build-returns-clause-book t c =
     let ms = members_view c.in-Object.members.entries in
     let is = ap view c.in-Object.is ∙ view-Object c.in-Object.members in
     let states = stated_is c.rule_set_of.result (view c.args.value.now) ms c.rule_set_of.ensures.read c.rule_set_of.ensures.write c.rule_set_of.ensures.validate is in
     c.new.ensures.book
-    ∙ ap (grown c.rule_set_of.result) c.in-Ok.ensures.books
+    ∙ ap (grown c.rule_set_of.result) c.in_ok-children.ensures.books
     ∙ ap (λ (s : RuleSet). grown s (parts_of ms)) states
-    ∙ sym (book_of-object ms (ap (is_sorted key_cmp) (sym c.in-Ok.ensures.books) ∙ c.in-Ok.ensures.ascending))
+    ∙ sym (book_of-object ms (ap (is_sorted key_cmp) (sym c.in_ok-children.ensures.books) ∙ c.in_ok-children.ensures.ascending))
     ∙ ap book_of (sym is)
 
-pub build-returns-in-Ok-clause-sound : goal.build-returns-in-Ok-clause-sound
-build-returns-in-Ok-clause-sound t c =
+pub build-returns-clause-sound : goal.build-returns-clause-sound
+build-returns-clause-sound t c =
     let at = texts c.args.pattern in
     let is = ap view c.in-Object.is ∙ view-Object c.in-Object.members in
-    ap (faulty at) is ∙ faulty-sound at (members_view c.in-Object.members.entries) (sym c.is_sound.ensures ∙ c.if-not-is_sound.false) ∙ c.in-Ok.ensures.sound
+    ap (faulty at) is ∙ faulty-sound at (members_view c.in-Object.members.entries) (sym c.is_sound.ensures ∙ c.if-not-is_sound.false) ∙ c.in_ok-children.ensures.sound
 
-pub build-returns-in-Err-clause-fault : goal.build-returns-in-Err-clause-fault
-build-returns-in-Err-clause-fault t c =
+pub build-returns-in_err-children-clause-fault : goal.build-returns-in_err-children-clause-fault
+build-returns-in_err-children-clause-fault t c =
     let at = texts c.args.pattern in
     let is = ap view c.in-Object.is ∙ view-Object c.in-Object.members in
-    subst (λ ps. Names ps c.in-Err.fault) (sym (ap (faulty at) is ∙ faulty-sound at (members_view c.in-Object.members.entries) (sym c.is_sound.ensures ∙ c.if-not-is_sound.false))) c.in-Err.ensures.fault
+    let p = err_from_is_err_and c.from_residual.result c.from_residual.ensures.1 in
+    rw (p.1, p.2) (subst (λ ps. Names ps c.in_err-children.field-0.0) (sym (ap (faulty at) is ∙ faulty-sound at (members_view c.in-Object.members.entries) (sym c.is_sound.ensures ∙ c.if-not-is_sound.false))) c.in_err-children.ensures.fault)
 
 -- ---- its keys and captures
 
@@ -71,14 +71,14 @@ build_children-loop-name-preserved t c =
     let text : text_of c.in-Ok-Some.part ≡ name = named.1 ∙ c.as_str.ensures.value in
     let part : is_part name ≡ true = ap is_part (sym c.as_str.ensures.value) ∙ named.0 in
     let longer : texts c.in-Ok.longer ≡ at ++ name ∷ [] = c.in-Ok.ensures ∙ ap (λ (x : PartText). at ++ x ∷ []) text in
-    let child : IsChild at (c.in-Ok-Some.part, c.in-Ok-build.node) = record { at_part = c.in-Ok-build.ensures.at ∙ c.in-Ok.ensures; listed = c.law.ensures.listed; one = c.law.ensures.one } in
-    let pushed = c.push.ensures.items ∙ ap (λ b. cond b (c.loop-name.children.items ++ (c.in-Ok-Some.part, c.in-Ok-build.node) ∷ []) c.loop-name.children.items) (ok_from c.push.result (sym c.is_err.ensures.value ∙ c.if-is_err.false)) in
+    let child : IsChild at (c.in-Ok-Some.part, c.in_ok-node.node) = record { at_part = c.in_ok-node.ensures.at ∙ c.in-Ok.ensures; listed = c.law.ensures.listed; one = c.law.ensures.one } in
+    let pushed = c.push.ensures.items ∙ ap (λ b. cond b (c.loop-name.children.items ++ (c.in-Ok-Some.part, c.in_ok-node.node) ∷ []) c.loop-name.children.items) (ok_from c.push.result (sym c.is_err.ensures.value ∙ c.if-is_err.false)) in
     subst (λ (done : List (Part × Point)). Built at done (members_view c.next.new.self) (members_view c.args.members.now.entries)) (sym pushed)
-    (built_push at c.loop-name.children.items (members_view c.loop-name.name-iterator) (members_view c.next.new.self) (members_view c.args.members.now.entries) name d (c.in-Ok-Some.part, c.in-Ok-build.node)
-    (ap members_view c.in-Some.ensures.steps) part (sym c.is_object.ensures ∙ c.if-not-is_object.false) text c.in-Ok-build.ensures.book child (ap (λ (p : Pattern). faulty p d) (sym longer) ∙ c.in-Ok-build.ensures.sound) c.loop-name.invariant)
+    (built_push at c.loop-name.children.items (members_view c.loop-name.name-iterator) (members_view c.next.new.self) (members_view c.args.members.now.entries) name d (c.in-Ok-Some.part, c.in_ok-node.node)
+    (ap members_view c.in-Some.ensures.steps) part (sym c.is_object.ensures ∙ c.if-not-is_object.false) text c.in_ok-node.ensures.book child (ap (λ (p : Pattern). faulty p d) (sym longer) ∙ c.in_ok-node.ensures.sound) c.loop-name.invariant)
 
-pub build_children-returns-in-Err-build-clause-fault : goal.build_children-returns-in-Err-build-clause-fault
-build_children-returns-in-Err-build-clause-fault t c =
+pub build_children-returns-in_err-node-clause-fault : goal.build_children-returns-in_err-node-clause-fault
+build_children-returns-in_err-node-clause-fault t c =
     let at = texts c.args.pattern.now in
     let name = string_bytes c.in-Some.name.now in
     let d = view c.in-Some.member.now in
@@ -86,8 +86,9 @@ build_children-returns-in-Err-build-clause-fault t c =
     let text : text_of c.in-Ok-Some.part ≡ name = named.1 ∙ c.as_str.ensures.value in
     let part : is_part name ≡ true = ap is_part (sym c.as_str.ensures.value) ∙ named.0 in
     let longer : texts c.in-Ok.longer ≡ at ++ name ∷ [] = c.in-Ok.ensures ∙ ap (λ (x : PartText). at ++ x ∷ []) text in
-    built_refused at c.loop-name.children.items (members_view c.loop-name.name-iterator) (members_view c.next.new.self) (members_view c.args.members.now.entries) name d c.in-Err-build.fault
-    (ap members_view c.in-Some.ensures.steps) part c.loop-name.invariant (subst (λ (p : Pattern). Names (faulty p d) c.in-Err-build.fault) longer c.in-Err-build.ensures.fault)
+    let p = err_from_is_err_and c.from_residual.result c.from_residual.ensures.1 in
+    rw (p.1, p.2) (built_refused at c.loop-name.children.items (members_view c.loop-name.name-iterator) (members_view c.next.new.self) (members_view c.args.members.now.entries) name d c.in_err-node.field-0.0
+    (ap members_view c.in-Some.ensures.steps) part c.loop-name.invariant (subst (λ (p : Pattern). Names (faulty p d) c.in_err-node.field-0.0) longer c.in_err-node.ensures.fault))
 
 pub build_children-returns-clause-ascending : goal.build_children-returns-clause-ascending
 build_children-returns-clause-ascending t c =

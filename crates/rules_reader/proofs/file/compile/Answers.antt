@@ -10,5 +10,5 @@ use Rattle.rules_reader.proofs.file.compile.Goals as goal
 
 pub of_root-requires-clause-once : goal.of_root-requires-clause-once
 of_root-requires-clause-once c =
-    let no_fault : faulty [] (view c.in-Some.rules.now) ≡ [] = ap (λ (p : parts.Pattern). faulty (texts p) (view c.in-Some.rules.now)) (sym c.new-2.ensures) ∙ c.in-Ok-build.ensures.sound in
-    subst (λ (b : Book). HasNamesOnce b) (sym c.in-Ok-build.ensures.book) (names_once (view c.in-Some.rules.now) no_fault)
+    let no_fault : faulty [] (view c.in-Some.rules.now) ≡ [] = ap (λ (p : parts.Pattern). faulty (texts p) (view c.in-Some.rules.now)) (sym c.new-2.ensures) ∙ c.in_ok-root.ensures.sound in
+    subst (λ (b : Book). HasNamesOnce b) (sym c.in_ok-root.ensures.book) (names_once (view c.in-Some.rules.now) no_fault)

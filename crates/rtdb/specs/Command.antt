@@ -1,0 +1,63 @@
+-- What a command prints, and the status that it ends with. (This project's profile.)
+use Rattle.std.specs.Prelude.{◌≡◌, ℕ, ◌⊎◌, Bool, List, [], length, Option, Result, Ok, Err, IfSome}
+use Rattle.std.specs.Io.KnownBytes.{Appends, Consumes}
+use Rattle.rules_reader.specs.declared.fault.RulesFault.{RulesFault}
+use Rattle.rules_reader.specs.Book.{Book, rules}
+use Rattle.rules_reader.specs.File.{States}
+use Rattle.rules_reader.specs.Refusal.{Refuses}
+use Rattle.sessions.specs.declared.script.ScriptEnd.{ScriptEnd}
+use Rattle.sessions.specs.AnswerText.{accepted_text, rules_fault_text}
+use Rattle.sessions.specs.Ends.{SourceTells, Ends}
+use Rattle.sessions.specs.Said.{as_line}
+use Rattle.rtdb.specs.Order.{Wanted, checks, runs}
+use Rattle.rtdb.specs.Status.{done, refused, failed, no_memory, status_of}
+
+-- ---- to check a file
+
+-- what a rules file is: its book, or its first fault; want of memory may come in the place of any
+abbrev pub Compiles : List ℕ → Result Book RulesFault → Type 0
+Compiles bytes (Ok book) = States bytes book
+Compiles bytes (Err fault) = Refuses bytes fault
+
+-- its text, which is that of a header's answer
+abbrev pub answer_text : Result Book RulesFault → List ℕ
+answer_text (Ok book) = accepted_text (length (rules book))
+answer_text (Err fault) = rules_fault_text fault
+
+abbrev pub answer_status : Result Book RulesFault → ℕ
+answer_status (Ok book) = done
+answer_status (Err fault) = refused
+
+-- a file of these bytes is checked: its answer is a line of the output, and the status says whether it is accepted
+pub record IsChecked (bytes out : List ℕ) (status : ℕ) : Type 0 where
+  pub answer : Result Book RulesFault
+  pub compiles : Compiles bytes answer
+  pub printed : out ≡ as_line (answer_text answer)
+  pub status_is : status ≡ answer_status answer
+
+-- ---- what is told of the streams
+
+-- the input that was left before the command, what its source tells after it, what was written before it and after it, and whether the output has failed
+pub record Streams : Type 0 where
+  pub left : Option (List ℕ)
+  pub source : SourceTells
+  pub before : Option (List ℕ)
+  pub after : Option (List ℕ)
+  pub has_failed : Bool
+
+-- a file was checked, whose bytes are these where they are known; or it could not be read, the output or memory failed
+abbrev pub HasChecked : Option (List ℕ) → Option (List ℕ) → Option (List ℕ) → ℕ → Type 0
+HasChecked known before after status =
+    ((bytes out : List ℕ) × IfSome known (λ it. bytes ≡ it) × Appends before after out × IsChecked bytes out status)
+    ⊎ ((status ≡ failed) ⊎ ((status ≡ no_memory) × Appends before after []))
+
+-- a script was run, to an end that the status names
+abbrev pub HasRun : Streams → ℕ → Type 0
+HasRun streams status =
+    (end : ScriptEnd) × (status ≡ status_of end) × (taken out : List ℕ) × Consumes streams.left streams.source.left taken
+    × Appends streams.before streams.after out × Ends end taken streams.source streams.has_failed out
+
+-- what was wanted is done
+abbrev pub HasDone : (List ℕ → Option (List ℕ)) → Wanted → Streams → ℕ → Type 0
+HasDone known (checks name) streams status = HasChecked (known name) streams.before streams.after status
+HasDone known runs streams status = HasRun streams status

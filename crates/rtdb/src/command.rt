@@ -1,0 +1,167 @@
+//! What the program does for the words of its command line.
+ghost use Rattle.std.specs.Prelude.{◌≡◌, ◌≢◌, ℕ, ◌⊎◌, List, [], map, string_bytes, true, false, IfOk};
+ghost use Rattle.std.specs.Io.KnownBytes.{Appends};
+ghost use Rattle.clap.specs.Words.{fault_of};
+ghost use Rattle.sessions.specs.Said.{as_line};
+ghost use Rattle.rtdb.specs.Order.{the_program, Wanted, AreOrder};
+ghost use Rattle.rtdb.specs.Status.{bad_line, failed, no_memory, status_of};
+ghost use Rattle.rtdb.specs.Command.{IsChecked, HasChecked, HasRun, HasDone};
+
+use crate::files::{Files, ReadFault};
+use crate::line::order;
+use crate::wanted::{LineFault, Order};
+use bumpalo::Bump;
+use json_tree::NoMemory;
+use rules_reader::compile;
+use sessions::{ScriptEnd, Sink, Source, run_script, send_text, write_accepted, write_rules_fault};
+use std::alloc::Global;
+use std::io;
+
+// The statuses that the program ends with.
+const DONE: u8 = 0;
+
+const REFUSED: u8 = 1;
+
+/// A fault of the command line.
+pub const BAD_LINE: u8 = 2;
+
+const FAILED: u8 = 3;
+
+/// Want of memory.
+pub const NO_MEMORY: u8 = 4;
+
+/// Does what the words want, of which the first is the program's name, and answers the status to end
+/// with. What is wrong with the words, a file or a stream is told to `faults`; that telling it may
+/// fail changes nothing. A check holds the whole file in memory, and its plain text.
+pub fn command<F: Files, R: Source, W: Sink, E: io::Write>(
+    alloc: Global,
+    words: &[String],
+    files: &F,
+    input: &mut R,
+    output: &mut W,
+    faults: &mut E,
+) -> u8
+    requires unread { R.reads input.old ≡ 0 }
+    requires input { R.failed input.old ≡ false }
+    requires output { W.failed output.old ≡ false }
+    // An order is obeyed, where memory suffices to find it.
+    ensures order { (wanted : Wanted) → AreOrder (map string_bytes words.now) wanted
+        → HasDone (F.bytes files.now) wanted (record { left = R.left input.old; source = record { left = R.left input.new; failed = R.failed input.new; reads = R.reads input.new }; before = W.written output.old; after = W.written output.new; has_failed = W.failed output.new }) result
+        ⊎ ((result ≡ no_memory) × Appends (W.written output.old) (W.written output.new) []) }
+    // An output that failed is told.
+    ensures broken { W.failed output.new ≡ true → result ≡ failed }
+    // Words that are none are refused, and nothing is printed.
+    ensures fault { fault_of the_program (map string_bytes words.now) ≢ []
+        → ((result ≡ bad_line) ⊎ (result ≡ no_memory)) × Appends (W.written output.old) (W.written output.new) [] }
+{
+    match order(alloc, words) {
+        Ok(Order::Check(name)) => check(alloc, files, name, output, faults),
+        Ok(Order::Run) => run(alloc, input, output, faults),
+        Err(LineFault::Line(error)) => {
+            let _told = write!(faults, "{error}");
+            BAD_LINE
+        }
+        Err(LineFault::NoMemory) => NO_MEMORY,
+    }
+}
+
+// Runs a script.
+fn run<R: Source, W: Sink, E: io::Write>(
+    alloc: Global,
+    input: &mut R,
+    output: &mut W,
+    faults: &mut E,
+) -> u8
+    requires unread { R.reads input.old ≡ 0 }
+    requires input { R.failed input.old ≡ false }
+    requires output { W.failed output.old ≡ false }
+    ensures ran { HasRun (record { left = R.left input.old; source = record { left = R.left input.new; failed = R.failed input.new; reads = R.reads input.new }; before = W.written output.old; after = W.written output.new; has_failed = W.failed output.new }) result }
+    ensures broken { W.failed output.new ≡ true → result ≡ failed }
+{
+    let mut arena = Bump::new(alloc);
+    let end = run_script(alloc, input, output, &mut arena);
+    if end == ScriptEnd::ReadFault || end == ScriptEnd::WriteFault {
+        let _told = writeln!(faults, "rtdb: input or output failed");
+    }
+    status_of(end)
+}
+
+fn status_of(end: ScriptEnd) -> u8
+    ensures { result ≡ status_of end }
+{
+    match end {
+        ScriptEnd::Finished => DONE,
+        ScriptEnd::BadHeader => REFUSED,
+        ScriptEnd::ReadFault | ScriptEnd::WriteFault => FAILED,
+        ScriptEnd::NoMemory => NO_MEMORY,
+    }
+}
+
+// Checks a rules file, and prints whether it is accepted.
+fn check<F: Files, W: Sink, E: io::Write>(
+    alloc: Global,
+    files: &F,
+    name: &str,
+    output: &mut W,
+    faults: &mut E,
+) -> u8
+    requires { W.failed output.old ≡ false }
+    ensures checked { HasChecked (F.bytes files.now name.now) (W.written output.old) (W.written output.new) result }
+    ensures broken { W.failed output.new ≡ true → result ≡ failed }
+{
+    match files.read(alloc, name) {
+        Ok(bytes) => match answer(alloc, &bytes) {
+            Ok(answer) => print(&answer, output, faults),
+            Err(_) => NO_MEMORY,
+        },
+        Err(ReadFault::Unreadable) => {
+            let _told = writeln!(faults, "rtdb: can't read {name}");
+            FAILED
+        }
+        Err(ReadFault::NoMemory) => NO_MEMORY,
+    }
+}
+
+// The line that answers a rules file, and the status that goes with it.
+#[derive(Drop)]
+struct Checked {
+    line: Vec<u8>,
+    status: u8,
+}
+
+fn answer(alloc: Global, bytes: &[u8]) -> Result<Checked, NoMemory>
+    ensures { IfOk result (λ answer. IsChecked bytes.now answer.line.items answer.status) }
+{
+    match compile(alloc, bytes) {
+        Ok(rules) => Ok(Checked {
+            line: as_line(write_accepted(alloc, rules.count())?)?,
+            status: DONE,
+        }),
+        Err(fault) => Ok(Checked {
+            line: as_line(write_rules_fault(alloc, &fault)?)?,
+            status: REFUSED,
+        }),
+    }
+}
+
+fn as_line(mut text: Vec<u8>) -> Result<Vec<u8>, NoMemory>
+    ensures { IfOk result (λ line. line.items ≡ as_line text.items) }
+{
+    text.push(b'\n')?;
+    Ok(text)
+}
+
+// Prints an answer, and says the status.
+fn print<W: Sink, E: io::Write>(answer: &Checked, output: &mut W, faults: &mut E) -> u8
+    requires { W.failed output.old ≡ false }
+    ensures printed { ((result ≡ answer.now.status) × Appends (W.written output.old) (W.written output.new) answer.now.line.items) ⊎ (result ≡ failed) }
+    ensures broken { W.failed output.new ≡ true → result ≡ failed }
+{
+    match send_text(output, &answer.line) {
+        Ok(()) => answer.status,
+        Err(_) => {
+            let _told = writeln!(faults, "rtdb: input or output failed");
+            FAILED
+        }
+    }
+}

@@ -1,0 +1,50 @@
+//! Where the program's files are read from.
+ghost use Rattle.std.specs.Prelude.{◌≡◌, ℕ, List, Option, None, IfOk, IfSome};
+
+use std::alloc::Global;
+use std::{fs, io};
+
+/// Why a file is not read.
+#[derive(Clone, Copy, Debug, PartialEq, Eq)]
+pub enum ReadFault {
+    /// There is none, or a read of it failed.
+    Unreadable,
+    NoMemory,
+}
+
+/// What files are read from, by their names.
+pub trait Files {
+    // The bytes of the file of a name, where they are known.
+    ghost bytes: { Self → List ℕ → Option (List ℕ) };
+
+    /// All bytes of a file.
+    fn read(&self, alloc: Global, name: &str) -> Result<Vec<u8>, ReadFault>
+        ensures { IfOk result (λ found. IfSome (bytes self.now name.now) (λ known. found.items ≡ known)) };
+}
+
+/// The files of the system, whose bytes no contract knows.
+#[derive(Clone, Copy)]
+pub struct SystemFiles<'a> {
+    rt: &'a HostRuntime,
+}
+
+impl<'a> SystemFiles<'a> {
+    pub fn new(rt: &'a HostRuntime) -> SystemFiles<'a> {
+        SystemFiles { rt }
+    }
+}
+
+impl<'a> Files for SystemFiles<'a> {
+    ghost bytes = { λ _ _. None };
+
+    fn read(&self, _alloc: Global, name: &str) -> Result<Vec<u8>, ReadFault> {
+        match fs::read(self.rt, name) {
+            Ok(bytes) => Ok(bytes),
+            Err(error) => if error.kind() == io::ErrorKind::OutOfMemory {
+                Err(ReadFault::NoMemory)
+            } else {
+                Err(ReadFault::Unreadable)
+            },
+        }
+    }
+}
