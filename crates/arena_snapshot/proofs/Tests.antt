@@ -1,0 +1,11 @@
+-- What a test says.
+use Rattle.std.proofs.Common.{◌≡◌, Bool, true, false, refl}
+use Rattle.std.specs.Bool.{OnTrue, OnFalse}
+
+pub on_true : (b : Bool) (P : Type 0) → (b ≡ true → P) → OnTrue b P
+on_true true P h = h refl
+on_true false P h = tt
+
+pub on_false : (b : Bool) (P : Type 0) → (b ≡ false → P) → OnFalse b P
+on_false true P h = tt
+on_false false P h = h refl

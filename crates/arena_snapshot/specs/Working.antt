@@ -1,0 +1,6 @@
+-- Words of private contracts. No public clause stands on them.
+pub mod Change
+pub mod Changing
+pub mod Patches
+pub mod Left
+pub mod ViewFalls

@@ -1,0 +1,11 @@
+//! Trees as a rule sees them: a [`View`] borrows from the stored tree and from what is written, and
+//! takes arena memory only along the written locations.
+//!
+//! Contracts see a view as a tree of `tree_model`. What the layers above need most is [`overlay`]: it
+//! gives the tree that writes propose, which is `newData` of a rule.
+#![tactic(auto)]
+
+mod patches;
+mod view;
+
+pub use view::View;
