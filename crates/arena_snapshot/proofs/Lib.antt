@@ -4,3 +4,7 @@ pub mod Ranks
 pub mod Behind
 pub mod Tests
 pub mod Walks
+pub mod Laying
+pub mod Overlaying
+pub mod Runs
+pub mod Ascending

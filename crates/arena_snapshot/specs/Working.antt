@@ -2,5 +2,6 @@
 pub mod Change
 pub mod Changing
 pub mod Patches
+pub mod Layer
 pub mod Left
 pub mod ViewFalls

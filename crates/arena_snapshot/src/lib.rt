@@ -5,7 +5,11 @@
 //! gives the tree that writes propose, which is `newData` of a rule.
 #![tactic(auto)]
 
+mod layer;
 mod patches;
+mod proposal;
+mod sizes;
 mod view;
 
+pub use proposal::overlay;
 pub use view::View;

@@ -3,6 +3,7 @@ use Rattle.std.specs.Prelude.{◌≡◌, ◌≢◌, ℕ, ◌∷◌, [], List, ma
 use Rattle.std.specs.List.{AllByRecursion, sum_by}
 use Rattle.std.specs.Option.{option_map_or}
 use Rattle.std.specs.Ordering.{is_lt}
+use Rattle.std.specs.declared.cmp.Ordering.TheVariants.{Less}
 use Rattle.std.specs.FinMap as map_of
 use Rattle.std.specs.FinMap.{is_sorted}
 use Rattle.tree_model.specs.Key.{Key, key_cmp}
@@ -68,3 +69,7 @@ below k l t = one_if (is_before l k)
 -- how many children stand before a key
 abbrev pub before : Key → Tree → ℕ
 before k t = total (below k) t
+
+-- each of these keys stands before k
+abbrev pub AllBefore : Key → List Change → Type 0
+AllBefore k cs = AllByRecursion (λ c. key_cmp c.0 k ≡ Less) cs
