@@ -1,5 +1,5 @@
 -- One child more, laid over a tree behind all others.
-use Rattle.std.proofs.Common.{◌≡◌, ◌≢◌, ℕ, ◌+◌, ◌-◌, ◌^◌, ◌<◌, ◌≤◌, min, ◌⊎◌, true, false, cond, List, [], ◌∷◌, ◌++◌, map, length, Some, None, Option, inl, sym, ap, ◌∙◌, subst, refl, arith}
+use Rattle.std.proofs.Common.{◌≡◌, ◌≢◌, ℕ, ◌+◌, ◌-◌, ◌^◌, ◌≤◌, min, ◌⊎◌, true, false, cond, List, [], ◌∷◌, ◌++◌, map, length, Some, None, Option, inl, sym, ap, ◌∙◌, subst, refl, arith}
 use Rattle.std.specs.declared.cmp.Ordering.TheVariants.{Less}
 use Rattle.std.specs.Ordering.{is_lt, is_eq, ordering_reverse}
 use Rattle.std.specs.Cmp.{first_so, second_so}
@@ -14,11 +14,11 @@ use Rattle.tree_model.proofs.Choices.{both_so}
 use Rattle.tree_model.proofs.Orders.{keys_total}
 use Rattle.tree_model.proofs.Existence.{non_null-null}
 use Rattle.tree_model.proofs.Writes.{proposed-none}
-use Rattle.json_tree.proofs.Lists.{all_push, weaker}
+use Rattle.json_tree.proofs.Lists.{all_push}
 use Rattle.arena_snapshot.specs.Working.Change.{Change, changed, AreChanges, AllBefore, shared, share, total, one, locations, one_if, is_before, below, before}
 use Rattle.arena_snapshot.specs.Working.Changing.{child_kept, get-changed-root}
 use Rattle.arena_snapshot.specs.Working.Layer.{IsLayer}
-use Rattle.arena_snapshot.specs.Working.Patches.{change_of, IsPlaced, ArePatches}
+use Rattle.arena_snapshot.specs.Working.Patches.{change_of, IsPlaced}
 use Rattle.arena_snapshot.specs.declared.sizes.Sizes.{Sizes}
 use Rattle.arena_snapshot.specs.declared.view.Patch.{Patch}
 use Rattle.arena_snapshot.proofs.Sums.{total-push, total-null, width-total, count-total, null_from_width, share-le}

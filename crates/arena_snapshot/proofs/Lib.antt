@@ -8,3 +8,4 @@ pub mod Laying
 pub mod Overlaying
 pub mod Runs
 pub mod Ascending
+pub mod Lefts

@@ -1,26 +1,21 @@
 -- The proposed tree of writes as changes of a tree: one for each key that a write begins with.
 use Rattle.std.proofs.Common.{◌≡◌, ◌≢◌, Bool, true, false, cond, List, [], ◌∷◌, Some, None, Option, option_map, unwrap_or, sym, ap, ◌∙◌, refl}
 use Rattle.std.specs.Borrow.{Bor}
-use Rattle.std.specs.List.{list_any, cons_option}
-use Rattle.std.specs.Option.{option_map_or}
+use Rattle.std.specs.List.{list_any}
 use Rattle.std.specs.FinMap.{find, is_sorted}
-use Rattle.std.specs.Str.{bytes_eq}
 use Rattle.std.proofs.lemmas.Bool.{false≢true}
-use Rattle.std.proofs.lemmas.Map.Text.{is_eq-slice_cmp}
 use Rattle.tree_model.specs.Key.{Key, key_cmp}
-use Rattle.tree_model.specs.Path.{Path}
 use Rattle.tree_model.specs.Primitive.{Primitive}
 use Rattle.tree_model.specs.PathMap.{get, sub}
-use Rattle.tree_model.specs.Tree.{Tree, null, non_null, count}
+use Rattle.tree_model.specs.Tree.{Tree, null, non_null}
 use Rattle.tree_model.specs.Write.{Write, stays, proposed, writes_below}
 use Rattle.tree_model.proofs.Choices.{or_else}
-use Rattle.tree_model.proofs.Orders.{same_key}
 use Rattle.tree_model.proofs.Lookups.{same_below}
-use Rattle.tree_model.proofs.Existence.{by_null, non_null-some}
+use Rattle.tree_model.proofs.Existence.{by_null}
 use Rattle.tree_model.proofs.Writes.{placed_at, get-proposed, proposed-none}
 use Rattle.tree_model.proofs.Below.{is_at_root, sub-proposed}
 use Rattle.json_tree.proofs.Building.{tree_from_some, null_from_none}
-use Rattle.arena_snapshot.specs.Working.Change.{Change, changed, AreChanges}
+use Rattle.arena_snapshot.specs.Working.Change.{Change, changed}
 use Rattle.arena_snapshot.specs.Working.Changing.{child_after, sub-changed, get-changed-root}
 use Rattle.arena_snapshot.specs.View.{node_or_null}
 

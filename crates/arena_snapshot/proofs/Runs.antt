@@ -1,15 +1,14 @@
 -- Writes in order, of which those below one key stand together, and the patches of the keys so far.
-use Rattle.std.proofs.Common.{◌≡◌, ◌≢◌, ℕ, zero, suc, ◌+◌, ◌-◌, ◌≤◌, ◌<◌, ◌==◌, Bool, true, false, cond, not, ◌&&◌, ◌||◌, List, [], ◌∷◌, ◌++◌, map, length, take, drop, get_or, Some, None, Option, option_map, option_and_then, is_some, sym, ap, ◌∙◌, subst, refl, arith}
+use Rattle.std.proofs.Common.{◌≡◌, ◌≢◌, ℕ, zero, suc, ◌+◌, ◌≤◌, ◌<◌, ◌==◌, Bool, true, false, cond, not, ◌&&◌, ◌||◌, List, [], ◌∷◌, ◌++◌, length, take, drop, get_or, Some, None, Option, option_map, option_and_then, is_some, sym, ap, ◌∙◌, subst, refl, arith}
 use Rattle.std.specs.declared.cmp.Ordering.TheVariants.{Less, Equal, Greater}
-use Rattle.std.specs.Ordering.{is_lt, is_eq, eq_by_cmp, ordering_reverse, ordering_then}
-use Rattle.std.specs.Cmp.{first_so, second_so, tied_itself}
+use Rattle.std.specs.Ordering.{is_lt, eq_by_cmp, ordering_reverse, ordering_then}
+use Rattle.std.specs.Cmp.{tied_itself}
 use Rattle.std.specs.List.{AllByRecursion, list_any, cons_option, sum_by}
 use Rattle.std.specs.FinMap.{find, is_sorted}
-use Rattle.std.specs.FinMap.Entries.{below_all}
 use Rattle.std.specs.Str.{bytes_eq}
 use Rattle.std.proofs.lemmas.Bool.{false≢true}
 use Rattle.std.proofs.lemmas.Map.Text.{is_eq-slice_cmp}
-use Rattle.std.proofs.lemmas.List.{length-map, length-drop, get_or-take, get_or-drop, take-take, take-append-drop, drop-take}
+use Rattle.std.proofs.lemmas.List.{get_or-take, get_or-drop, take-take, take-append-drop, drop-take}
 use Rattle.std.proofs.lemmas.List.Folds.{list_any-append}
 use Rattle.std.proofs.lemmas.List.Elements.{filter_map-append}
 use Rattle.std.proofs.lemmas.List.Sums.{sum_by-cons, sum_by-take-drop}
@@ -25,11 +24,10 @@ use Rattle.tree_model.proofs.Grafts.{get-lone-below}
 use Rattle.tree_model.proofs.Writes.{placed_at, get-proposed}
 use Rattle.tree_model.proofs.Below.{is_at_root}
 use Rattle.tree_model.specs.Write.{Write, location, written, do_overlap, overlaps, is_replaced, is_covered, stays, proposed, write_below, writes_below}
-use Rattle.tree_model.proofs.Choices.{both_so, or_right, neither, or_else, or_else-None}
+use Rattle.tree_model.proofs.Choices.{or_right, neither, or_else, or_else-None}
 use Rattle.tree_model.proofs.Orders.{keys_total, exact_keys, same_key, bytes_eq-self}
 use Rattle.json_tree.proofs.Lists.{all_push, weaker}
 use Rattle.arena_snapshot.specs.Working.Change.{Change, AllBefore}
-use Rattle.tree_model.proofs.Proposals.{prefix_is}
 use Rattle.json_tree.proofs.Proposing.{proposed-root}
 use Rattle.arena_snapshot.specs.Working.Left.{raised, Ascend}
 use Rattle.arena_snapshot.proofs.Laying.{none_of, sorted_push}

@@ -39,10 +39,7 @@ pub fn overlay<'a>(
 }
 
 // Each of the writes, borrowed.
-fn borrowed<'a>(
-    bump: &'a Bump,
-    writes: &'a [Write],
-) -> Result<Vec<&'a Write, &'a Bump>, NoMemory>
+fn borrowed<'a>(bump: &'a Bump, writes: &'a [Write]) -> Result<Vec<&'a Write, &'a Bump>, NoMemory>
     ensures same { IfOk result (λ borrowed. map (left 0) borrowed.items ≡ writes.now) }
     ensures lawful { IfOk result (λ borrowed. AllByRecursion IsLawfulWrite (map (left 0) borrowed.items)) }
 {
@@ -183,7 +180,8 @@ fn ends_at(write: &Write, depth: usize) -> bool
 // The key that the location goes on with.
 fn key_of<'a>(write: &'a Write, depth: usize) -> &'a Key
     requires { is_root (drop depth (location write.now)) ≡ false }
-    ensures { is_prefix (result.now ∷ []) (drop depth (location write.now)) ≡ true }
+    ensures key { is_prefix (result.now ∷ []) (drop depth (location write.now)) ≡ true }
+    ensures room { depth < usize.MAX }
 {
     &write.at().keys()[depth]
 }

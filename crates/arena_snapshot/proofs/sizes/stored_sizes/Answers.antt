@@ -1,4 +1,4 @@
-use Rattle.std.proofs.Common.{◌≡◌, ◌+◌, [], sym, ap, ◌∙◌, arith}
+use Rattle.std.proofs.Common.{[], sym, ap, ◌∙◌, arith}
 use Rattle.tree_model.specs.PathMap.{get}
 use Rattle.arena_snapshot.specs.View.{node_or_null}
 use Rattle.arena_snapshot.specs.Working.Change.{total, one, locations}

@@ -1,5 +1,5 @@
-use Rattle.std.proofs.Common.{◌≡◌, ◌≢◌, ◌-◌, ◌^◌, min, Some, map, length, sym, ap, ◌∙◌, subst, arith}
-use Rattle.tree_model.specs.Tree.{Tree, null, non_null, count, IsLawful}
+use Rattle.std.proofs.Common.{◌-◌, ◌^◌, min, Some, map, sym, ap, ◌∙◌, subst}
+use Rattle.tree_model.specs.Tree.{count, IsLawful}
 use Rattle.tree_model.proofs.Existence.{non_null-some}
 use Rattle.arena_snapshot.specs.View.{node_or_null}
 use Rattle.arena_snapshot.specs.Working.Change.{changed}

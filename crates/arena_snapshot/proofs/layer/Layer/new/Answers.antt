@@ -1,4 +1,3 @@
-use Rattle.std.proofs.Common.{◌≡◌}
 use Rattle.arena_snapshot.specs.View.{node_or_null}
 use Rattle.arena_snapshot.proofs.Laying.{no_layer}
 use Rattle.arena_snapshot.proofs.layer.Layer.new.Goals as goal

@@ -1,6 +1,5 @@
-use Rattle.std.proofs.Common.{◌≡◌, ◌-◌, ◌∙◌, sym, ap, refl, arith}
+use Rattle.std.proofs.Common.{◌-◌, ◌∙◌, refl, arith}
 use Rattle.arena_snapshot.specs.View.{node_or_null}
-use Rattle.arena_snapshot.specs.Working.Change.{before}
 use Rattle.arena_snapshot.proofs.Ranks.{before_within}
 use Rattle.arena_snapshot.proofs.Laying.{count_room, width_room, place_is, layer_is}
 use Rattle.arena_snapshot.proofs.layer.Layer.push.Goals as goal
