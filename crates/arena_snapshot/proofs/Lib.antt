@@ -9,3 +9,6 @@ pub mod Overlaying
 pub mod Runs
 pub mod Ascending
 pub mod Lefts
+pub mod Entries
+pub mod Views
+pub mod Apart

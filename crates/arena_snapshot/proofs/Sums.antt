@@ -204,7 +204,7 @@ total-push g t cs c s h s' h' = omega (arith, balance g t cs s h, balance g t (c
 each_entry : (t : Tree) → AllByRecursion (λ c. c.1 ≢ null) (entries_of t)
 each_entry t = each_subtree (λ c. c.1 ≢ null) t (λ k some. some)
 
-null_from_entries : (t : Tree) → get t [] ≡ None → entries_of t ≡ [] → t ≡ null
+pub null_from_entries : (t : Tree) → get t [] ≡ None → entries_of t ≡ [] → t ≡ null
 null_from_entries t root none = sym (graft-children t root) ∙ ap graft none ∙ empty_graft
 
 -- of a tree that no primitive is

@@ -5,11 +5,15 @@
 //! gives the tree that writes propose, which is `newData` of a rule.
 #![tactic(auto)]
 
+mod copies;
 mod layer;
+mod overlapping;
 mod patches;
 mod proposal;
 mod sizes;
 mod view;
 
+pub use copies::copy_out;
+pub use overlapping::overlaps;
 pub use proposal::overlay;
 pub use view::View;

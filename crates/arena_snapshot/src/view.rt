@@ -3,6 +3,7 @@ ghost use Rattle.std.specs.Prelude.{◌≡◌, ◌≢◌, ◌↔◌, ◌≤◌, 
 ghost use Rattle.tree_model.specs.PathMap.{get, sub, depth};
 ghost use Rattle.tree_model.specs.Tree.{null, non_null, count, child_keys, IsLawful};
 ghost use Rattle.json_tree.specs.Leaf.{primitive_of};
+ghost use Rattle.arena_snapshot.specs.Working.Change.{entries_of};
 
 use crate::patches::{child_of, key_of, stored_view};
 use json_tree::{Key, Leaf, Node};
@@ -167,6 +168,16 @@ impl<'a> View<'a> {
             Kind::Stored(node) => node.key_at(i),
             Kind::Patched(node) => key_of(node.base, node.patches, node.width, i),
         }
+    }
+
+    // The child at a place, with its key.
+    pub(crate) fn entry_at(&self, i: usize) -> Option<(&'a Key, View<'a>)>
+        ensures { option_map (λ entry. (entry.0.now, entry.1)) result
+            ≡ slice_get (entries_of self.now) i }
+    {
+        let key = self.key_at(i)?;
+        let child = self.child(key.text())?;
+        Some((key, child))
     }
 
     /// What holds of every view: something stands there, and all of it is lawful.
