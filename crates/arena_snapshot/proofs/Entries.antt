@@ -1,17 +1,15 @@
 -- The children of a tree with their keys, one by one.
-use Rattle.std.proofs.Common.{◌≡◌, ◌≢◌, ℕ, zero, suc, ◌+◌, ◌*◌, ◌≤◌, ◌<◌, true, List, [], ◌∷◌, ◌++◌, map, length, take, get_or, Some, None, inl, inr, sym, ap, ◌∙◌, subst, refl, arith}
+use Rattle.std.proofs.Common.{◌≡◌, ℕ, zero, suc, ◌+◌, ◌≤◌, ◌<◌, [], ◌∷◌, ◌++◌, length, take, get_or, Some, None, inl, inr, sym, ap, ◌∙◌, subst, refl, arith}
 use Rattle.std.specs.List.{slice_get, All}
-use Rattle.std.proofs.lemmas.List.{get_or_default}
 use Rattle.std.proofs.lemmas.Bool.{cases_lt}
 use Rattle.std.proofs.lemmas.Option.{slice_get_past}
 use Rattle.tree_model.specs.declared.limits.TheConstants.{MAX_DEPTH}
 use Rattle.tree_model.specs.Key.{Key, key_cmp}
-use Rattle.tree_model.specs.PathMap.{get, sub, depth}
+use Rattle.tree_model.specs.PathMap.{sub, depth}
 use Rattle.tree_model.specs.Tree.{Tree, null, non_null, child_keys}
 use Rattle.tree_model.proofs.Orders.{keys_total}
 use Rattle.std.specs.Cmp.{tied_itself}
-use Rattle.json_tree.proofs.Building.{tree_from_some}
-use Rattle.json_tree.proofs.Children.{children_depth, depth-sub}
+use Rattle.json_tree.proofs.Children.{children_depth}
 use Rattle.json_tree.proofs.Lists.{take_next, all_from_recursion}
 use Rattle.json_tree.proofs.Places.{find_at}
 use Rattle.arena_snapshot.specs.Working.Change.{entries_of}
@@ -81,3 +79,12 @@ children_room t deep k d within =
     let F : Key × Tree → Type 0 = λ c. depth c.1 + 1 ≤ depth t in
     let le = all_from_recursion F (entries_of t) (children_depth t) k d within in
     omega arith
+
+-- lists of one length that have the same at each place are one
+pub same_entries_at : (es fs : Entries) → length es ≡ length fs → ((i : ℕ) → i < length es → slice_get es i ≡ slice_get fs i) → es ≡ fs
+same_entries_at [] [] long h = refl
+same_entries_at [] (f ∷ fs) long h = absurd (omega arith)
+same_entries_at (e ∷ es) [] long h = absurd (omega arith)
+same_entries_at (e ∷ es) (f ∷ fs) long h =
+    let first : e ≡ f = (let both = h 0 (omega arith) in cc) in
+    (λ j. first j ∷ same_entries_at es fs (omega arith) (λ i low. h (suc i) (omega arith)) j)

@@ -12,3 +12,4 @@ pub mod Lefts
 pub mod Entries
 pub mod Views
 pub mod Apart
+pub mod Keeping

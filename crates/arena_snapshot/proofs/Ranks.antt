@@ -26,7 +26,7 @@ Entries = List (Key × Tree)
 abbrev pub count_before : Key → Entries → ℕ
 count_before b es = sum_by (number (below b)) es
 
-less_of : (o : Ordering) → is_lt o ≡ true → o ≡ Less
+pub less_of : (o : Ordering) → is_lt o ≡ true → o ≡ Less
 less_of Less h = refl
 less_of Equal h = absurd (false≢true h)
 less_of Greater h = absurd (false≢true h)
@@ -83,7 +83,7 @@ rank_high b (e ∷ es) (suc i) d s low h =
       | inr none ↦ omega (arith, counts_none b e es s none)
     ]
 
-above_first : (e : Key × Tree) (es : Entries) (i : ℕ) (d : Key × Tree) → below_all key_cmp e.0 es ≡ true → i < length es → is_before e.0 (get_or es i d).0 ≡ true
+pub above_first : (e : Key × Tree) (es : Entries) (i : ℕ) (d : Key × Tree) → below_all key_cmp e.0 es ≡ true → i < length es → is_before e.0 (get_or es i d).0 ≡ true
 above_first e [] i d h low = absurd (omega arith)
 above_first e (f ∷ es) zero d h low = first_so _ _ h
 above_first e (f ∷ es) (suc i) d h low = above_first e es i d (second_so _ _ h) (omega arith)

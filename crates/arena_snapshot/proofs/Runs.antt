@@ -54,7 +54,7 @@ below_other l k (x ∷ xs) h =
     ap (λ b. cons_option (option_map (λ (rest : Path). (rest, written x)) (cond b (Some (location x)) None)) (writes_below l (raised k xs))) h
     ∙ below_other l k xs h
 
-append_nil : {X : Type 0} (xs : List X) → xs ++ [] ≡ xs
+pub append_nil : {X : Type 0} (xs : List X) → xs ++ [] ≡ xs
 append_nil [] = refl
 append_nil (x ∷ xs) = ap (λ ys. x ∷ ys) (append_nil xs)
 

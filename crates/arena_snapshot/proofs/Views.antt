@@ -1,11 +1,9 @@
 -- What holds of the tree that a view is seen as.
-use Rattle.std.proofs.Common.{◌≡◌, [], map, sym, ap, ◌∙◌, None}
+use Rattle.std.proofs.Common.{◌≡◌, [], map, None}
 use Rattle.tree_model.specs.PathMap.{get}
-use Rattle.tree_model.specs.Tree.{Tree}
 use Rattle.arena_snapshot.specs.View.{node_or_null, tree_of, IsKind}
 use Rattle.arena_snapshot.specs.Working.Changing.{get-changed-root}
 use Rattle.arena_snapshot.specs.Working.Patches.{change_of}
-use Rattle.arena_snapshot.specs.declared.view.Kind.{Kind}
 use Rattle.arena_snapshot.specs.declared.view.Kind.TheVariants.{Patched}
 use Rattle.arena_snapshot.specs.declared.view.Patched.{Patched as PatchedNode}
 

@@ -10,10 +10,14 @@ mod layer;
 mod overlapping;
 mod patches;
 mod proposal;
+mod sameness;
+mod selection;
 mod sizes;
 mod view;
 
 pub use copies::copy_out;
 pub use overlapping::overlaps;
 pub use proposal::overlay;
+pub use sameness::same;
+pub use selection::kept;
 pub use view::View;

@@ -1,4 +1,4 @@
-use Rattle.std.proofs.Common.{◌≡◌, ◌≢◌, ◌+◌, ◌<◌, ◌≤◌, ◌++◌, ◌∷◌, [], Some, None, true, List, map, length, take, sym, ap, ◌∙◌, subst, arith}
+use Rattle.std.proofs.Common.{◌<◌, ◌++◌, ◌∷◌, [], sym, ap, ◌∙◌, subst, arith}
 use Rattle.std.specs.List.{All}
 use Rattle.std.specs.FinMap.{is_sorted}
 use Rattle.std.proofs.lemmas.Result.{IfOk-weaker}
@@ -9,7 +9,7 @@ use Rattle.tree_model.specs.Tree.{Tree, null, IsLawful}
 use Rattle.tree_model.specs.Children.{graft}
 use Rattle.json_tree.proofs.Children.{graft-children}
 use Rattle.json_tree.proofs.Nodes.{depth_within}
-use Rattle.arena_snapshot.specs.View.{node_or_null, tree_of, IsKind}
+use Rattle.arena_snapshot.specs.View.{tree_of, IsKind}
 use Rattle.arena_snapshot.specs.Working.Change.{entries_of}
 use Rattle.arena_snapshot.proofs.Entries.{entry_at, entry_depth, entry_next, children_room}
 use Rattle.arena_snapshot.proofs.Ranks.{width-entries}

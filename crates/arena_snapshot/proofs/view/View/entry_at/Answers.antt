@@ -1,4 +1,4 @@
-use Rattle.std.proofs.Common.{◌≡◌, ◌∷◌, [], Some, None, map, option_map, sym, ap, ◌∙◌}
+use Rattle.std.proofs.Common.{◌∷◌, [], option_map, sym, ap, ◌∙◌}
 use Rattle.std.specs.Borrow.{Bor}
 use Rattle.tree_model.specs.Key.{Key}
 use Rattle.tree_model.specs.PathMap.{sub}
