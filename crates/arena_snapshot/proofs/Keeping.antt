@@ -17,7 +17,7 @@ use Rattle.tree_model.proofs.Lawful.{IsLawful-graft}
 use Rattle.json_tree.proofs.Children.{each_subtree, IsLawful-sub, child_key, depth-sub}
 use Rattle.json_tree.proofs.Lists.{take_next, all_from_recursion}
 use Rattle.json_tree.proofs.Nodes.{depth_within}
-use Rattle.arena_snapshot.specs.Kept.{kept, Ascend}
+use Rattle.arena_snapshot.specs.Kept.{kept, StrictlyAscend}
 use Rattle.arena_snapshot.specs.Working.Change.{Change, changed, AllBefore, entries_of}
 use Rattle.arena_snapshot.specs.Working.Changing.{child_after, sub-changed, get-changed-root}
 use Rattle.arena_snapshot.proofs.Entries.{entry_low}
@@ -75,7 +75,7 @@ behind_all t (p ∷ places) q e less is =
       | (Some f) ↦ λ at. (entry_before (entries_of t) p q f e (entries_sorted t) less.0 (sym at) is, behind_all t places q e less.1 is)
     ] refl
 
-pub earlier : (places : List ℕ) (i : ℕ) (d : ℕ) → Ascend places → i < length places → AllByRecursion (λ p. p < get_or places i d) (take i places)
+pub earlier : (places : List ℕ) (i : ℕ) (d : ℕ) → StrictlyAscend places → i < length places → AllByRecursion (λ p. p < get_or places i d) (take i places)
 earlier places i d h low = go i places (λ j less. h j i d less low) (omega arith)
   where
     go : (n : ℕ) (ps : List ℕ) → ((j : ℕ) → j < n → get_or ps j d < get_or places i d) → n ≤ length ps → AllByRecursion (λ p. p < get_or places i d) (take n ps)

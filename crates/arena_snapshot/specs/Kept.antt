@@ -10,5 +10,5 @@ unfoldable pub kept : Tree → List ℕ → Tree
 kept t places = graft (filter_map (slice_get (map_of.entries (children t))) places)
 
 -- each place is before the later ones
-abbrev pub Ascend : List ℕ → Type 0
-Ascend places = (i j d : ℕ) → i < j → j < length places → slice_index_or places i d < slice_index_or places j d
+abbrev pub StrictlyAscend : List ℕ → Type 0
+StrictlyAscend places = (i j d : ℕ) → i < j → j < length places → slice_index_or places i d < slice_index_or places j d

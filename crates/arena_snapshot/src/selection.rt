@@ -1,7 +1,7 @@
 //! Views of some children of a view.
 ghost use Rattle.std.specs.Prelude.{◌≡◌, IfOk};
 ghost use Rattle.tree_model.specs.Tree.{non_null};
-ghost use Rattle.arena_snapshot.specs.Kept.{kept, Ascend};
+ghost use Rattle.arena_snapshot.specs.Kept.{kept, StrictlyAscend};
 
 use crate::layer::Layer;
 use crate::view::View;
@@ -15,7 +15,7 @@ pub fn kept<'a>(
     view: &View<'a>,
     places: &[usize],
 ) -> Result<Option<View<'a>>, NoMemory>
-    requires { Ascend places.now }
+    requires { StrictlyAscend places.now }
     ensures { IfOk result (λ view_of_kept. view_of_kept ≡ non_null (kept view.now places.now)) }
 {
     view.law();
