@@ -1,0 +1,15 @@
+pub mod Sums
+pub mod Places
+pub mod Ranks
+pub mod Behind
+pub mod Tests
+pub mod Walks
+pub mod Laying
+pub mod Overlaying
+pub mod Runs
+pub mod Ascending
+pub mod Lefts
+pub mod Entries
+pub mod Views
+pub mod Apart
+pub mod Keeping

@@ -1,0 +1,7 @@
+-- Words of private contracts. No public clause stands on them.
+pub mod Change
+pub mod Changing
+pub mod Patches
+pub mod Layer
+pub mod Left
+pub mod ViewFalls

@@ -1,0 +1,87 @@
+//! A layer: the children that are laid over a node, or over nothing, in the order of their keys, with
+//! the sizes of what they make. It costs nothing for the other children of the node.
+ghost use Rattle.std.specs.Prelude.{◌≡◌, ◌≢◌, ◌++◌, ◌∷◌, [], Some, None, map, IfOk, OnOk};
+ghost use Rattle.tree_model.specs.PathMap.{get};
+ghost use Rattle.tree_model.specs.Tree.{null, non_null, IsLawful};
+ghost use Rattle.arena_snapshot.specs.View.{node_or_null};
+ghost use Rattle.arena_snapshot.specs.Working.Change.{changed, AllBefore};
+ghost use Rattle.arena_snapshot.specs.Working.Layer.{IsLayer};
+ghost use Rattle.arena_snapshot.specs.Working.Patches.{change_of};
+
+use crate::patches::{stored_before, stored_width};
+use crate::sizes::{Sizes, exchanged, stored_sizes};
+use crate::view::{Kind, Patch, Patched, View};
+use bumpalo::Bump;
+use bumpalo::collections::into_bump_slice;
+use json_tree::{Key, NoMemory, Node};
+
+#[derive(Drop)]
+pub(crate) struct Layer<'a> {
+    base: Option<&'a Node>,
+    patches: Vec<Patch<'a>, &'a Bump>,
+    sizes: Sizes,
+}
+
+impl<'a> Layer<'a> {
+    // A layer without children. It takes no memory.
+    pub(crate) fn new(bump: &'a Bump, base: Option<&'a Node>) -> Result<Layer<'a>, NoMemory>
+        requires { get (node_or_null base) [] ≡ None }
+        ensures base { IfOk result (λ layer. layer.base ≡ base.entry) }
+        ensures empty { IfOk result (λ layer. map change_of layer.patches.items ≡ []) }
+        ensures layer { IfOk result (λ layer. IsLayer (node_or_null layer.base) layer.patches.items layer.sizes) }
+    {
+        Ok(Layer {
+            base,
+            patches: Vec::new(bump),
+            sizes: stored_sizes(base)?,
+        })
+    }
+
+    // Lays a child at a key behind all others, or removes the stored one.
+    pub(crate) fn push(&mut self, key: &'a Key, child: Option<View<'a>>) -> Result<(), NoMemory>
+        requires layer { IsLayer (node_or_null self.old.base) self.old.patches.items self.old.sizes }
+        requires behind { AllBefore key.now (map change_of self.old.patches.items) }
+        requires some { child ≢ Some null }
+        ensures base { self.new.base ≡ self.old.base }
+        ensures changes { OnOk result (map change_of self.new.patches.items
+            ≡ map change_of self.old.patches.items ++ (key.now, child.entry) ∷ []) }
+        ensures layer { OnOk result (IsLayer (node_or_null self.new.base) self.new.patches.items self.new.sizes) }
+    {
+        let stored_before = stored_before(self.base, key);
+        let before = self.sizes.width - (stored_width(self.base) - stored_before);
+        let sizes = exchanged(self.base, self.sizes, key, &child)?;
+        self.patches.push(Patch {
+            key,
+            child,
+            stored_before,
+            before,
+        })?;
+        self.sizes = sizes;
+        Ok(())
+    }
+
+    // The tree of these children over the node, if any child is left.
+    pub(crate) fn finish(self) -> Option<View<'a>>
+        requires layer { IsLayer (node_or_null self.base) self.patches.items self.sizes }
+        requires lawful { IsLawful (changed (node_or_null self.base) (map change_of self.patches.items)) }
+        ensures { result ≡ non_null
+            (changed (node_or_null self.entry.base) (map change_of self.entry.patches.items)) }
+    {
+        let Layer {
+            base,
+            patches,
+            sizes,
+        } = self;
+        if sizes.width == 0 {
+            return None;
+        }
+        Some(View {
+            kind: Kind::Patched(Patched {
+                base,
+                patches: into_bump_slice(patches),
+                count: sizes.count,
+                width: sizes.width,
+            }),
+        })
+    }
+}

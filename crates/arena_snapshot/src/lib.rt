@@ -1,0 +1,23 @@
+//! Trees as a rule sees them: a [`View`] borrows from the stored tree and from what is written, and
+//! takes arena memory only along the written locations.
+//!
+//! Contracts see a view as a tree of `tree_model`. What the layers above need most is [`overlay`]: it
+//! gives the tree that writes propose, which is `newData` of a rule.
+#![tactic(auto)]
+
+mod copies;
+mod layer;
+mod overlapping;
+mod patches;
+mod proposal;
+mod sameness;
+mod selection;
+mod sizes;
+mod view;
+
+pub use copies::copy_out;
+pub use overlapping::overlaps;
+pub use proposal::overlay;
+pub use sameness::same;
+pub use selection::kept;
+pub use view::View;

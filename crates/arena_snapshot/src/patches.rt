@@ -1,0 +1,154 @@
+//! Patches in the order of their keys: which child stands at a key, and which key at a place.
+ghost use Rattle.std.specs.Prelude.{◌≡◌, ◌<◌, ◌≤◌, ◌∷◌, [], true, false, length, map, option_map, slice_get};
+ghost use Rattle.std.specs.Bool.{OnTrue, OnFalse};
+ghost use Rattle.std.specs.List.Sorted.{IsSearchInRange, IsBinarySearchResult, IsPartitionedBy, IsPartitionPoint};
+ghost use Rattle.tree_model.specs.Key.{key_cmp};
+ghost use Rattle.tree_model.specs.PathMap.{sub};
+ghost use Rattle.tree_model.specs.Tree.{non_null, child_keys};
+ghost use Rattle.arena_snapshot.specs.View.{node_or_null};
+ghost use Rattle.arena_snapshot.specs.Working.Change.{changed, AreChanges, before};
+ghost use Rattle.arena_snapshot.specs.Working.Patches.{change_of, ArePatches, is_behind};
+
+use crate::view::{Patch, View};
+use json_tree::{Key, Node};
+
+// ---- stored children
+
+pub(crate) fn stored_child<'a>(base: Option<&'a Node>, name: &str) -> Option<&'a Node>
+    ensures { option_map (λ node. node.now) result
+        ≡ non_null (sub (node_or_null base.entry) (name.now ∷ [])) }
+{
+    match base {
+        Some(node) => node.child(name),
+        None => None,
+    }
+}
+
+pub(crate) fn stored_view<'a>(base: Option<&'a Node>, name: &str) -> Option<View<'a>>
+    ensures { result ≡ non_null (sub (node_or_null base.entry) (name.now ∷ [])) }
+{
+    match stored_child(base, name) {
+        Some(child) => Some(View::stored(child)),
+        None => None,
+    }
+}
+
+fn stored_key<'a>(base: Option<&'a Node>, i: usize) -> Option<&'a Key>
+    ensures { option_map (λ key. key.now) result
+        ≡ slice_get (child_keys (node_or_null base.entry)) i }
+{
+    match base {
+        Some(node) => node.key_at(i),
+        None => None,
+    }
+}
+
+pub(crate) fn stored_width(base: Option<&Node>) -> usize
+    ensures { result ≡ length (child_keys (node_or_null base.entry)) }
+{
+    match base {
+        Some(node) => node.width(),
+        None => 0,
+    }
+}
+
+// How many stored children stand before a key, by a binary search.
+pub(crate) fn stored_before(base: Option<&Node>, key: &Key) -> usize
+    ensures { result ≡ before key.now (node_or_null base.entry) }
+{
+    let mut low = 0;
+    let mut high = stored_width(base);
+    while low < high {
+        let middle = low + (high - low) / 2;
+        if is_before(base, middle, key) {
+            low = middle + 1;
+        } else {
+            high = middle;
+        }
+    }
+    low
+}
+
+// Whether the child at a place stands before a key.
+fn is_before(base: Option<&Node>, i: usize, key: &Key) -> bool
+    requires { i < length (child_keys (node_or_null base)) }
+    ensures lower { OnTrue result (i < before key.now (node_or_null base.entry)) }
+    ensures higher { OnFalse result (before key.now (node_or_null base.entry) ≤ i) }
+{
+    match stored_key(base, i) {
+        Some(found) => found.text().cmp(key.text()).is_lt(),
+        None => false,
+    }
+}
+
+// ---- patches over them
+
+pub(crate) fn child_of<'a>(
+    base: Option<&'a Node>,
+    patches: &'a [Patch<'a>],
+    name: &str,
+) -> Option<View<'a>>
+    requires { AreChanges (node_or_null base) (map change_of patches.now) }
+    ensures { result ≡ non_null (sub
+        (changed (node_or_null base.entry) (map change_of patches.now)) (name.now ∷ [])) }
+{
+    match place_of(patches, name) {
+        Ok(place) => match &patches[place].child {
+            Some(child) => Some(child.share()),
+            None => None,
+        },
+        Err(_) => stored_view(base, name),
+    }
+}
+
+// Where the patch of this key is, or where it would go, by a binary search.
+fn place_of(patches: &[Patch], name: &str) -> Result<usize, usize>
+    ensures bound { IsSearchInRange result (length patches.now) }
+    ensures position { IsBinarySearchResult (λ patch. key_cmp patch.key.now name.now)
+        patches.now result }
+{
+    patches.binary_search_by(|patch| patch.key.text().cmp(name))
+}
+
+// The key at a place: that of a patch, or a stored one, as far before the next patch in the patched
+// node as it is in the node below.
+pub(crate) fn key_of<'a>(
+    base: Option<&'a Node>,
+    patches: &'a [Patch<'a>],
+    width: usize,
+    i: usize,
+) -> Option<&'a Key>
+    requires { ArePatches (node_or_null base) patches.now width }
+    ensures { option_map (λ key. key.now) result ≡ slice_get
+        (child_keys (changed (node_or_null base.entry) (map change_of patches.now))) i }
+{
+    if i >= width {
+        return None;
+    }
+    let next = count_behind(patches, i);
+    if next == patches.len() {
+        return stored_key(base, stored_width(base) - (width - i));
+    }
+    let patch = &patches[next];
+    if patch.before == i {
+        return Some(patch.key);
+    }
+    stored_key(base, patch.stored_before - (patch.before - i))
+}
+
+// How many patches stand before a place, and none of them at it.
+fn count_behind(patches: &[Patch], i: usize) -> usize
+    requires { IsPartitionedBy (is_behind i) patches.now }
+    ensures bound { result ≤ length patches.now }
+    ensures point { IsPartitionPoint (λ patch. is_behind i patch ≡ true)
+        (λ patch. is_behind i patch ≡ false) patches.now result }
+{
+    patches.partition_point(|patch| is_behind(patch, i))
+}
+
+// Whether a place lies behind a patch.
+fn is_behind(patch: &Patch, i: usize) -> bool
+    ensures { result ≡ is_behind i patch.now }
+{
+    patch.before < i || (patch.before == i && patch.child.is_none())
+}

@@ -1,0 +1,214 @@
+//! The tree that writes propose, laid over the stored one. The writes are taken in the order of their
+//! paths, so that those below one key stand together.
+ghost use Rattle.std.specs.Prelude.{◌≡◌, ◌<◌, ◌≤◌, ◌∷◌, [], None, true, false, not, length, map, drop, IfOk};
+ghost use Rattle.std.specs.Bool.{OnTrue, OnFalse};
+ghost use Rattle.std.specs.List.{list_any, AllByRecursion, AllWithin, HoldsAt};
+ghost use Rattle.std.specs.List.Sorted.{IsPermutation, IsSortedBy};
+ghost use Rattle.std.specs.Ordering.{is_lt};
+ghost use Rattle.tree_model.specs.Path.{path_cmp, is_prefix, is_root};
+ghost use Rattle.tree_model.specs.PathMap.{get, is_null};
+ghost use Rattle.tree_model.specs.Primitive.{Primitive};
+ghost use Rattle.tree_model.specs.Tree.{lone, non_null, IsLawful};
+ghost use Rattle.tree_model.specs.Write.{location, written, overlaps, proposed, IsLawfulWrite};
+ghost use Rattle.arena_snapshot.specs.View.{node_or_null};
+ghost use Rattle.arena_snapshot.specs.Working.Left.{left, Ascend};
+
+use crate::layer::Layer;
+use crate::patches::stored_child;
+use crate::view::View;
+use bumpalo::Bump;
+use json_tree::{Key, NoMemory, Node};
+use path_capture::Write;
+
+/// The tree that these writes propose, if anything is left. For one write of d keys it takes time d ·
+/// log w in nodes of w children, and one growth of the arena for each key and one for the list of
+/// writes, whatever w is; for n writes the sum of these, and n · log n comparisons of their paths,
+/// which are sorted once. With no writes it takes no memory. A stored tree of more locations or
+/// children than a `usize` counts is answered as want of memory, since no memory holds one.
+pub fn overlay<'a>(
+    bump: &'a Bump,
+    base: Option<&'a Node>,
+    writes: &'a [Write],
+) -> Result<Option<View<'a>>, NoMemory>
+    requires { overlaps writes.now ≡ false }
+    ensures { IfOk result (λ view. view ≡ non_null (proposed (node_or_null base.entry) writes.now)) }
+{
+    let mut sorted = borrowed(bump, writes)?;
+    sort(&mut sorted);
+    lay(bump, base, &sorted, 0)
+}
+
+// Each of the writes, borrowed.
+fn borrowed<'a>(bump: &'a Bump, writes: &'a [Write]) -> Result<Vec<&'a Write, &'a Bump>, NoMemory>
+    ensures same { IfOk result (λ borrowed. map (left 0) borrowed.items ≡ writes.now) }
+    ensures lawful { IfOk result (λ borrowed. AllByRecursion IsLawfulWrite (map (left 0) borrowed.items)) }
+{
+    let mut borrowed = Vec::with_capacity(bump, writes.len())?;
+    for write in writes {
+        write.at();
+        borrowed.push(write)?;
+    }
+    Ok(borrowed)
+}
+
+fn sort<'a>(writes: &mut Vec<&'a Write, &'a Bump>)
+    ensures permutation { IsPermutation writes.old.items writes.new.items }
+    ensures ascending { IsSortedBy (λ a b. is_lt (path_cmp (location a.now) (location b.now))) writes.new.items }
+{
+    writes.sort_unstable_by(|a, b| a.at().compare(b.at()));
+}
+
+// What writes propose of a node, or of nothing, where the first `depth` keys of their locations lead
+// to it.
+#[cycle(lay)]
+fn lay<'a>(
+    bump: &'a Bump,
+    base: Option<&'a Node>,
+    writes: &[&'a Write],
+    depth: usize,
+) -> Result<Option<View<'a>>, NoMemory>
+    requires apart { overlaps (map (left depth) writes.now) ≡ false }
+    requires ascending { Ascend (map (left depth) writes.now) }
+    requires lawful { AllByRecursion IsLawfulWrite (map (left depth) writes.now) }
+    ensures { IfOk result (λ view. view
+        ≡ non_null (proposed (node_or_null base.entry) (map (left depth) writes.now))) }
+{
+    match writes {
+        [] => Ok(stored(base)),
+        [first, ..] => {
+            if ends_at(first, depth) {
+                return Ok(stored(first.tree()));
+            }
+            if !is_primitive(base) {
+                return lay_below(bump, base, writes, depth);
+            }
+            if has_tree(writes) {
+                return lay_below(bump, None, writes, depth);
+            }
+            Ok(stored(base))
+        }
+    }
+}
+
+// The same of writes below a node that is no primitive, or below nothing: a child is laid for each
+// key that a write goes on with.
+#[cycle(lay)]
+fn lay_below<'a>(
+    bump: &'a Bump,
+    base: Option<&'a Node>,
+    writes: &[&'a Write],
+    depth: usize,
+) -> Result<Option<View<'a>>, NoMemory>
+    requires root { get (node_or_null base) [] ≡ None }
+    requires stored { IsLawful (node_or_null base) }
+    requires apart { overlaps (map (left depth) writes.now) ≡ false }
+    requires ascending { Ascend (map (left depth) writes.now) }
+    requires lawful { AllByRecursion IsLawfulWrite (map (left depth) writes.now) }
+    requires below { list_any (λ w. is_root (location w)) (map (left depth) writes.now) ≡ false }
+    ensures { IfOk result (λ view. view
+        ≡ non_null (proposed (node_or_null base.entry) (map (left depth) writes.now))) }
+{
+    let mut layer = Layer::new(bump, base)?;
+    let mut start = 0;
+    while start < writes.len() {
+        let key = key_of(writes[start], depth);
+        let end = run_end(writes, start, depth, key);
+        let stored = stored_child(base, key.text());
+        let child = lay(bump, stored, &writes[start..end], depth + 1)?;
+        layer.push(key, child)?;
+        start = end;
+    }
+    Ok(layer.finish())
+}
+
+fn stored<'a>(node: Option<&'a Node>) -> Option<View<'a>>
+    ensures { result ≡ non_null (node_or_null node.entry) }
+{
+    match node {
+        Some(node) => {
+            node.law();
+            Some(View::stored(node))
+        }
+        None => None,
+    }
+}
+
+// Whether a primitive stands there.
+fn is_primitive(base: Option<&Node>) -> bool
+    ensures primitive { OnTrue result ((v : Primitive) × (node_or_null base.entry ≡ lone v)) }
+    ensures parent { OnFalse result (get (node_or_null base.entry) [] ≡ None) }
+    ensures lawful { IsLawful (node_or_null base.entry) }
+{
+    match base {
+        Some(node) => {
+            node.law();
+            match node.leaf() {
+                Some(_) => true,
+                None => false,
+            }
+        }
+        None => false,
+    }
+}
+
+// Whether some write puts a tree.
+fn has_tree(writes: &[&Write]) -> bool
+    ensures { result ≡ list_any (λ write. not (is_null (written write.now))) writes.now }
+{
+    writes.iter().any(|write| puts_tree(write))
+}
+
+fn puts_tree(write: &Write) -> bool
+    ensures { result ≡ not (is_null (written write.now)) }
+{
+    match write.tree() {
+        Some(node) => {
+            node.law();
+            true
+        }
+        None => false,
+    }
+}
+
+// Whether the location has no more keys than these.
+fn ends_at(write: &Write, depth: usize) -> bool
+    ensures { result ≡ is_root (drop depth (location write.now)) }
+{
+    write.at().keys().len() <= depth
+}
+
+// The key that the location goes on with.
+fn key_of<'a>(write: &'a Write, depth: usize) -> &'a Key
+    requires { is_root (drop depth (location write.now)) ≡ false }
+    ensures key { is_prefix (result.now ∷ []) (drop depth (location write.now)) ≡ true }
+    ensures room { depth < usize.MAX }
+{
+    &write.at().keys()[depth]
+}
+
+// Where the writes end that stand from a place on and go on with this key.
+fn run_end(writes: &[&Write], start: usize, depth: usize, key: &Key) -> usize
+    requires { start ≤ length writes.now }
+    ensures order { start ≤ result }
+    ensures within { result ≤ length writes.now }
+    ensures run { AllWithin (λ write. is_prefix (key.now ∷ []) (drop depth (location write.now)) ≡ true) writes.now start result }
+    ensures stop { result < length writes.now → HoldsAt (λ write. is_prefix (key.now ∷ []) (drop depth (location write.now)) ≡ false) writes.now result }
+{
+    let mut end = start;
+    while end < writes.len() {
+        if !goes_on(writes[end], depth, key) {
+            return end;
+        }
+        end += 1;
+    }
+    end
+}
+
+fn goes_on(write: &Write, depth: usize, key: &Key) -> bool
+    ensures { result ≡ is_prefix (key.now ∷ []) (drop depth (location write.now)) }
+{
+    match write.at().keys().get(depth) {
+        Some(found) => found.text() == key.text(),
+        None => false,
+    }
+}

@@ -1,0 +1,54 @@
+//! Cases as texts: a tree, and behind each bar a write, as `{"a":1} | /b=2 | /c=null`.
+use json_tree::{Node, NoMemory, ValueFault, from_json};
+use path_capture::{Path, Write};
+use serde_json::Value;
+use std::alloc::Global;
+use std::test::Fail;
+
+/// A question and its answer.
+pub type Row = (&'static str, &'static str);
+
+/// The first row with another answer, and that answer; else nothing.
+pub fn first_other<F: Fn(Global, &str) -> Result<String, Fail>>(
+    alloc: Global,
+    rows: &[Row],
+    answer: F,
+) -> Result<String, Fail>
+    requires { F.IsAlwaysCallable answer }
+{
+    for (question, want) in rows {
+        let found = answer(alloc, question)?;
+        if found.as_str() != *want {
+            return Ok(format!(in alloc; "of {question:?}: {found:?} and not {want:?}")?);
+        }
+    }
+    Ok(String::new(alloc))
+}
+
+/// The tree of a JSON text.
+pub fn tree_of(alloc: Global, text: &str) -> Result<Option<Node>, Fail> {
+    let value = Value::from_str(alloc, text)?;
+    match from_json(alloc, &value) {
+        Ok(tree) => Ok(tree),
+        Err(ValueFault::NoMemory) => Err(NoMemory)?,
+        Err(_) => Err("no tree")?,
+    }
+}
+
+/// The writes behind the bars.
+pub fn writes_of(alloc: Global, text: &str) -> Result<Vec<Write>, Fail> {
+    let mut writes = Vec::new(alloc);
+    for piece in text.split('|') {
+        writes.push(write_of(alloc, piece.trim())?)?;
+    }
+    Ok(writes)
+}
+
+fn write_of(alloc: Global, text: &str) -> Result<Write, Fail> {
+    let (path, value) = text.split_once('=').ok_or("a write has a sign")?;
+    let path = Path::parse(alloc, path)?;
+    match Write::new(path, tree_of(alloc, value)?) {
+        Ok(write) => Ok(write),
+        Err(_) => Err("too deep")?,
+    }
+}
