@@ -6,7 +6,7 @@ use Rattle.expr_types.specs.declared.fault.TypeFault.{TypeFault}
 use Rattle.expr_types.specs.declared.fault.TypeFault.TheVariants.{NotInProfile, TypeError, UnknownName, NoMemory}
 use Rattle.expr_types.specs.declared.place.Place.{Place}
 use Rattle.expr_types.specs.declared.sort.Sort.{Sort}
-use Rattle.expr_types.specs.HasSort.{HasValue, IsSorted, is_value}
+use Rattle.expr_types.specs.HasSort.{HasValue, HasSomeSort, is_value}
 use Rattle.expr_types.specs.Faults.{FirstFault, IsRefused}
 use Rattle.expr_types.specs.Working.SortOf.{sort_of}
 use Rattle.expr_types.specs.Working.Gives.{Refuses}
@@ -35,6 +35,6 @@ module _ (p : Place) (ns : List (List ℕ)) (x : Tree) where
   pub refused_sort : (s : Sort) → sort_of p ns x ≡ Ok s → is_value s ≡ false → IsRefused p ns x TypeError
   refused_sort s e i = inr (s, sound p ns x s e, i, refl)
 
-  pub sorted_or_faulty : (r : Result Sort TypeFault) → sort_of p ns x ≡ r → IsSorted p ns x ⊎ ((e : TypeFault) × FirstFault p ns x e)
+  pub sorted_or_faulty : (r : Result Sort TypeFault) → sort_of p ns x ≡ r → HasSomeSort p ns x ⊎ ((e : TypeFault) × FirstFault p ns x e)
   sorted_or_faulty (Ok s) d = inl (s, sound p ns x s d)
   sorted_or_faulty (Err e) d = inr (e, fault_sound p ns x e d)

@@ -11,7 +11,7 @@ use Rattle.expr_types.specs.declared.sort.Sort.TheVariants.{Value}
 use Rattle.expr_types.specs.declared.sort.Given.{Given}
 use Rattle.expr_types.specs.declared.sort.Given.TheVariants.{Nothing, Other}
 use Rattle.expr_types.specs.Names.{is_among}
-use Rattle.expr_types.specs.HasSort.{HasSort, IsSorted, is_value}
+use Rattle.expr_types.specs.HasSort.{HasSort, HasSomeSort, is_value}
 use Rattle.expr_types.specs.Faults.{elements, given, parts, use_fault, own_fault, FirstFault, in_part, of_own}
 use Rattle.expr_types.specs.Working.SortOf.{◌>>=◌, is_read, variable_sort, member_sort, call_sort, or_fault, value_if, with_value, with_list, sort_of, given_of, with_argument, are_values}
 use Rattle.expr_types.proofs.Sorts.{sound, complete}
@@ -126,7 +126,7 @@ module _ (p : Place) (ns : List (List ℕ)) where
     part : Tree
     after : List Tree
     split : xs ≡ before ++ part ∷ after
-    sorted : AllByRecursion (IsSorted p ns) before
+    sorted : AllByRecursion (HasSomeSort p ns) before
     faulty : FirstFault p ns part e
 
   found : (xs : List Tree) (e : TypeFault) → AllByRecursion IsFirst xs → first xs ≡ Some e → Found xs e
@@ -137,11 +137,11 @@ module _ (p : Place) (ns : List (List ℕ)) where
       by (Ok s) i c later = let f = later c in record { before = x ∷ f.before; part = f.part; after = f.after; split = ap (λ (ys : List Tree). x ∷ ys) f.split; sorted = ((s, sound p ns x s i), f.sorted); faulty = f.faulty }
       by (Err b) i c later = let z : b ≡ e = cc in record { before = []; part = x; after = xs; split = refl; sorted = tt; faulty = k.0 e (i ∙ ap Err z) }
 
-  none_found : (xs : List Tree) → first xs ≡ None → AllByRecursion (IsSorted p ns) xs
+  none_found : (xs : List Tree) → first xs ≡ None → AllByRecursion (HasSomeSort p ns) xs
   none_found [] d = tt
   none_found (x ∷ xs) d = by (sort_of p ns x) refl d (λ c. none_found xs c)
     where
-      by : (m : Result Sort TypeFault) → sort_of p ns x ≡ m → or_else m (first xs) ≡ None → (first xs ≡ None → AllByRecursion (IsSorted p ns) xs) → AllByRecursion (IsSorted p ns) (x ∷ xs)
+      by : (m : Result Sort TypeFault) → sort_of p ns x ≡ m → or_else m (first xs) ≡ None → (first xs ≡ None → AllByRecursion (HasSomeSort p ns) xs) → AllByRecursion (HasSomeSort p ns) (x ∷ xs)
       by (Ok s) i c later = ((s, sound p ns x s i), later c)
       by (Err b) i c later = absurd cc
 
@@ -185,11 +185,11 @@ module _ (p : Place) (ns : List (List ℕ)) where
 
   -- ---- from the rules to the function
 
-  sorted_none : (xs : List Tree) → AllByRecursion (IsSorted p ns) xs → first xs ≡ None
+  sorted_none : (xs : List Tree) → AllByRecursion (HasSomeSort p ns) xs → first xs ≡ None
   sorted_none [] a = refl
   sorted_none (x ∷ xs) a = rw (complete a.0.1) (sorted_none xs a.1)
 
-  sorted_some : (before : List Tree) (y : Tree) (after : List Tree) (e : TypeFault) → AllByRecursion (IsSorted p ns) before → sort_of p ns y ≡ Err e → first (before ++ y ∷ after) ≡ Some e
+  sorted_some : (before : List Tree) (y : Tree) (after : List Tree) (e : TypeFault) → AllByRecursion (HasSomeSort p ns) before → sort_of p ns y ≡ Err e → first (before ++ y ∷ after) ≡ Some e
   sorted_some [] y after e a d = rw d
   sorted_some (x ∷ before) y after e a d = rw (complete a.0.1) (sorted_some before y after e a.1 d)
 

@@ -9,7 +9,7 @@ use Rattle.expr_types.specs.declared.fault.TypeFault.TheVariants.{NotInProfile, 
 use Rattle.expr_types.specs.declared.place.Place.{Place}
 use Rattle.expr_types.specs.Names.{is_among, excluded_names, is_spelled}
 use Rattle.expr_types.specs.Faults as faults
-use Rattle.expr_types.specs.Faults.{parts, use_fault, own_fault, FirstFault, in_part, of_own, Names}
+use Rattle.expr_types.specs.Faults.{parts, use_fault, own_fault, FirstFault, in_part, of_own, StandsIn}
 
 -- the fault is about this name
 abbrev About : TypeFault → List ℕ → Type 0
@@ -27,11 +27,11 @@ about_use g f k = by (is_among g excluded_names) (is_spelled g) k
     by false true e = absurd e
     by false false e = e
 
-own_named : (x : Tree) (f : List ℕ) → About (own_fault x) f → Names f x
-own_named (t.Variable g) f k = subst (λ n. Names n (t.Variable g)) k faults.variable
+own_named : (x : Tree) (f : List ℕ) → About (own_fault x) f → StandsIn f x
+own_named (t.Variable g) f k = subst (λ n. StandsIn n (t.Variable g)) k faults.variable
 own_named (t.Capture g) f k = faults.capture g (sym k)
-own_named (t.Member x g) f k = subst (λ n. Names n (t.Member x g)) (about_use g f k) faults.member
-own_named (t.Call x g xs) f k = subst (λ n. Names n (t.Call x g xs)) (about_use g f k) faults.call
+own_named (t.Member x g) f k = subst (λ n. StandsIn n (t.Member x g)) (about_use g f k) faults.member
+own_named (t.Call x g xs) f k = subst (λ n. StandsIn n (t.Call x g xs)) (about_use g f k) faults.call
 own_named (t.Number n) f k = absurd k
 own_named (t.Text s) f k = absurd k
 own_named t.True f k = absurd k
@@ -47,13 +47,13 @@ Contains-here : (y : Tree) (ys : List Tree) → Contains (y ∷ ys) y
 Contains-here y ys = (zero, grind (arith), refl)
 
 module _ {p : Place} {ns : List (List ℕ)} where
-  named : {x : Tree} {e : TypeFault} → FirstFault p ns x e → (f : List ℕ) → About e f → Names f x
+  named : {x : Tree} {e : TypeFault} → FirstFault p ns x e → (f : List ℕ) → About e f → StandsIn f x
   named {x} (in_part before y after split a d) f k = faults.in_part {y = y} (subst (λ zs. Contains zs y) (sym split) (Contains-append_right before (y ∷ after) y (Contains-here y after))) (named d f k)
   named {x} (of_own a n) f k = own_named x f k
 
 module _ (p : Place) (ns : List (List ℕ)) (x : Tree) (f : List ℕ) where
-  pub unknown_named : FirstFault p ns x (UnknownName f) → Names f x
+  pub unknown_named : FirstFault p ns x (UnknownName f) → StandsIn f x
   unknown_named d = named d f refl
 
-  pub excluded_named : FirstFault p ns x (NotInProfile f) → Names f x
+  pub excluded_named : FirstFault p ns x (NotInProfile f) → StandsIn f x
   excluded_named d = named d f refl

@@ -7,7 +7,7 @@ use Rattle.expr_types.specs.declared.fault.TypeFault.TheVariants.{NotInProfile, 
 use Rattle.expr_types.specs.declared.place.Place.{Place}
 use Rattle.expr_types.specs.declared.sort.Sort.{Sort}
 use Rattle.expr_types.specs.Names.{is_among, excluded_names, is_spelled}
-use Rattle.expr_types.specs.HasSort.{HasSort, IsSorted, is_value}
+use Rattle.expr_types.specs.HasSort.{HasSort, HasSomeSort, is_value}
 
 -- the expressions of a list, from left to right
 abbrev pub elements : Trees → List Tree
@@ -31,7 +31,7 @@ parts (Operation op x y) = x ∷ y ∷ []
 parts (Choice c x y) = c ∷ x ∷ y ∷ []
 parts _ = []
 
--- what a use of the name is refused for, where it is no row: a name that the profile leaves out, a name that no row spells, or that the name is none of this receiver's (this project's profile)
+-- what a use of the name is refused for, where it is no row: a name that the profile leaves out, a name that no row spells, or that no row has the name so: of another receiver, with other arguments, called or not called (this project's profile)
 unfoldable pub use_fault : List ℕ → TypeFault
 use_fault f = if is_among f excluded_names then NotInProfile f else if is_spelled f then TypeError else UnknownName f
 
@@ -45,8 +45,8 @@ own_fault _ = TypeError
 
 -- The first fault: that of the first part that has one, or, where each part has a sort and the expression has none, its own. (This project's profile.)
 pub data FirstFault (place : Place) (names : List (List ℕ)) : Tree → TypeFault → Type 0 where
-  in_part : {x : Tree} (before : List Tree) (y : Tree) (after : List Tree) {e : TypeFault} → parts x ≡ before ++ y ∷ after → AllByRecursion (IsSorted place names) before → FirstFault place names y e → FirstFault place names x e
-  of_own : {x : Tree} → AllByRecursion (IsSorted place names) (parts x) → ((s : Sort) → HasSort place names x s → ⊥) → FirstFault place names x (own_fault x)
+  in_part : {x : Tree} (before : List Tree) (y : Tree) (after : List Tree) {e : TypeFault} → parts x ≡ before ++ y ∷ after → AllByRecursion (HasSomeSort place names) before → FirstFault place names y e → FirstFault place names x e
+  of_own : {x : Tree} → AllByRecursion (HasSomeSort place names) (parts x) → ((s : Sort) → HasSort place names x s → ⊥) → FirstFault place names x (own_fault x)
 
 -- why the expression of a rule is refused: for its first fault, or since it is no value as a whole (this project's profile)
 abbrev pub IsRefused : Place → List (List ℕ) → Tree → TypeFault → Type 0
@@ -55,9 +55,9 @@ IsRefused place names x e = FirstFault place names x e ⊎ ((s : Sort) × HasSor
 -- ---- where a name stands
 
 -- the name stands in the expression: of a variable, of a capture with its $, or behind a dot
-pub data Names (f : List ℕ) : Tree → Type 0 where
-  variable : Names f (Variable f)
-  capture : (g : List ℕ) → f ≡ codes "$" ++ g → Names f (Capture g)
-  member : {x : Tree} → Names f (Member x f)
-  call : {x : Tree} {xs : Arguments} → Names f (Call x f xs)
-  in_part : {x y : Tree} → Contains (parts x) y → Names f y → Names f x
+pub data StandsIn (f : List ℕ) : Tree → Type 0 where
+  variable : StandsIn f (Variable f)
+  capture : (g : List ℕ) → f ≡ codes "$" ++ g → StandsIn f (Capture g)
+  member : {x : Tree} → StandsIn f (Member x f)
+  call : {x : Tree} {xs : Arguments} → StandsIn f (Call x f xs)
+  in_part : {x y : Tree} → Contains (parts x) y → StandsIn f y → StandsIn f x

@@ -1,4 +1,4 @@
--- Which expression has which sort in a rule for this place, below captures of these names (each without its $): a case for each row of the table of sorts.
+-- Which expression has which sort in a rule for this place, below captures of these names (each without its $). Each case is a row of the table of sorts, or a part of one.
 use Rattle.std.specs.Prelude.{◌≡◌, ◌≢◌, ℕ, List, Bool, true, false, codes}
 use Rattle.expr_tokens.specs.declared.operator.Operator.{Operator}
 use Rattle.expr_parser.specs.Tree as t
@@ -64,14 +64,14 @@ mutual
     -- a snapshot: `parent()`
     parent : {x : Tree} {f : List ℕ} → f ≡ codes "parent" → HasSort place names x Snapshot → HasSort place names (t.Call x f no_argument) Snapshot
 
-  -- each of these may stand where a value is wanted
+  -- each of these may stand where a value is wanted; a list that is spelled has an element
   pub data AreValues (place : Place) (names : List (List ℕ)) : Trees → Type 0 where
     no_value : AreValues place names none
     value : {v : Tree} {vs : Trees} {s : Sort} → HasSort place names v s → is_value s ≡ true → AreValues place names vs → AreValues place names (more v vs)
 
 -- it has some sort
-abbrev pub IsSorted : Place → List (List ℕ) → Tree → Type 0
-IsSorted place names x = (s : Sort) × HasSort place names x s
+abbrev pub HasSomeSort : Place → List (List ℕ) → Tree → Type 0
+HasSomeSort place names x = (s : Sort) × HasSort place names x s
 
 -- it may stand where a value is wanted, as the expression of a rule must
 abbrev pub HasValue : Place → List (List ℕ) → Tree → Type 0

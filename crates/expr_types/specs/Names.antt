@@ -13,11 +13,11 @@ is_among f names = list_any (bytes_eq f) names
 abbrev pub auth_names : List (List ℕ)
 auth_names = codes "uid" ∷ codes "provider" ∷ []
 
--- what `query` has. (Reference, `query` expressions.)
+-- what `query` has. (Guide "Rules conditions", query-based rules.)
 abbrev pub query_names : List (List ℕ)
 query_names = codes "orderByKey" ∷ codes "orderByValue" ∷ codes "orderByChild" ∷ codes "startAt" ∷ codes "endAt" ∷ codes "equalTo" ∷ codes "limitToFirst" ∷ codes "limitToLast" ∷ []
 
--- the methods of a text that take one. (Reference, String methods.)
+-- the methods of a text that take one value and test the text. (Reference, String methods.)
 abbrev pub text_tests : List (List ℕ)
 text_tests = codes "contains" ∷ codes "beginsWith" ∷ codes "endsWith" ∷ []
 
@@ -27,7 +27,7 @@ snapshot_tests = codes "val" ∷ codes "exists" ∷ codes "hasChildren" ∷ code
 
 -- ---- the names that a fault is about
 
--- what the reference has there, and this project's profile leaves out
+-- what the reference has behind a dot, and this project's profile leaves out
 abbrev pub excluded_names : List (List ℕ)
 excluded_names = codes "matches" ∷ codes "toLowerCase" ∷ codes "toUpperCase" ∷ codes "getPriority" ∷ codes "orderByPriority" ∷ []
 

@@ -52,7 +52,7 @@ impl Checked {
         let _lawful = &self.expr;
     }
 
-    // The expression of this tree, which is known to be one.
+    // The expression as a checked one, which it is known to be.
     pub(crate) fn of_expr(expr: Expr, place: Place) -> Checked
         requires { IsChecked (record { tree = view expr; place = place }) }
         ensures { result ≡ record { tree = view expr; place = place } }

@@ -20,7 +20,8 @@ use std::alloc::Global;
 
 /// The expression as one that may stand in a rule for this place, below captures of these names; the
 /// keys that they stand for are not looked at. A refused expression is spent. Time linear in the
-/// expression, and memory only for the name of a fault. The recursion goes as deep as the expression
+/// expression, and for each capture that it names in the number of captures; memory only for the name
+/// of a fault. The recursion goes as deep as the expression
 /// does. (Reference, variables, operators and methods; the sorts are this project's profile.)
 pub fn check(
     alloc: Global,
@@ -31,7 +32,7 @@ pub fn check(
     // What is answered is the same expression, and may stand where a value is wanted.
     ensures same { IfOk result (λ checked. checked ≡ record { tree = view expr; place = place }) }
     ensures sorted { OnOk result (HasValue place (names captures.now) (view expr)) }
-    // An expression that may is refused for want of memory alone.
+    // An expression that may stand so is refused for want of memory alone.
     ensures only { HasValue place (names captures.now) (view expr) → IfErr result (λ fault. fault ≡ no_memory) }
     // A fault is the first one, unless memory is refused.
     ensures refused { IfErr result (λ fault. (fault ≡ no_memory) ⊎ IsRefused place (names captures.now) (view expr) fault) }

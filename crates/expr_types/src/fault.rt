@@ -54,8 +54,8 @@ pub enum TypeFault {
     /// The rules language has this name, and the project's profile leaves it out.
     #[error("`{}` is not in the profile", .0.as_str())]
     NotInProfile(FaultyName),
-    /// Something stands where another sort is wanted.
-    #[error("a value of another sort is wanted")]
+    /// Something stands where another sort is wanted, or no row of the table has a name so.
+    #[error("something of another sort is wanted")]
     TypeError,
     /// There is no such name where it stands.
     #[error("`{}` is no name here", .0.as_str())]

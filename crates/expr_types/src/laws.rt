@@ -4,8 +4,8 @@ ghost use Rattle.expr_tokens.specs.Words as words;
 ghost use Rattle.path_capture.specs.Name as captures;
 ghost use Rattle.expr_parser.specs.Tree.{Tree};
 ghost use Rattle.expr_types.specs.Names.{is_among};
-ghost use Rattle.expr_types.specs.HasSort.{HasSort, IsSorted};
-ghost use Rattle.expr_types.specs.Faults.{FirstFault, Names};
+ghost use Rattle.expr_types.specs.HasSort.{HasSort, HasSomeSort};
+ghost use Rattle.expr_types.specs.Faults.{FirstFault, StandsIn};
 ghost use Rattle.expr_types.specs.declared.place.Place.{Place};
 ghost use Rattle.expr_types.specs.declared.sort.Sort.{Sort};
 ghost use Rattle.expr_types.specs.declared.fault.TypeFault.{TypeFault};
@@ -23,7 +23,7 @@ pub fn one_first_fault()
 
 /// Every expression has a sort or a first fault. It does nothing.
 pub fn each_has_a_sort_or_a_first_fault()
-    ensures { (place : Place) (names : List (List ℕ)) (x : Tree) → IsSorted place names x ⊎ ((e : TypeFault) × FirstFault place names x e) }
+    ensures { (place : Place) (names : List (List ℕ)) (x : Tree) → HasSomeSort place names x ⊎ ((e : TypeFault) × FirstFault place names x e) }
 {}
 
 /// No expression has both a sort and a first fault. It does nothing.
@@ -33,8 +33,8 @@ pub fn never_both()
 
 /// The name that a fault is about stands in the expression. It does nothing.
 pub fn a_named_fault_stands_in_the_expression()
-    ensures unknown { (place : Place) (names : List (List ℕ)) (x : Tree) (f : List ℕ) → FirstFault place names x (UnknownName f) → Names f x }
-    ensures excluded { (place : Place) (names : List (List ℕ)) (x : Tree) (f : List ℕ) → FirstFault place names x (NotInProfile f) → Names f x }
+    ensures unknown { (place : Place) (names : List (List ℕ)) (x : Tree) (f : List ℕ) → FirstFault place names x (UnknownName f) → StandsIn f x }
+    ensures excluded { (place : Place) (names : List (List ℕ)) (x : Tree) (f : List ℕ) → FirstFault place names x (NotInProfile f) → StandsIn f x }
 {}
 
 /// An expression keeps its sort below more captures. It does nothing.
@@ -42,7 +42,7 @@ pub fn more_captures_change_no_sort()
     ensures { (place : Place) (names more : List (List ℕ)) (x : Tree) (s : Sort) → ((f : List ℕ) → is_among f names ≡ true → is_among f more ≡ true) → HasSort place names x s → HasSort place more x s }
 {}
 
-/// What an expression takes for a name, and what a rules file takes for the name of a capture, is the
+/// What an expression takes for a name, and what a rules file takes for the name of a capture, are the
 /// same. It does nothing.
 pub fn captures_have_names_of_expressions()
     ensures { (text : List ℕ) → captures.is_name text ≡ words.is_name text }

@@ -1,9 +1,9 @@
 //! Sorts of expressions: which expression may stand in a rule, and the first fault of one that may
 //! not.
 //!
-//! Contracts state sorts by `specs/HasSort`, with a case for each row of the language's table, and
-//! faults by `specs/Faults`. What the layers above need is [`check`]: it hands the expression on as a
-//! [`Checked`], whose sort is that of a value, or names its first fault.
+//! Contracts state sorts by `specs/HasSort`, by the rows of the language's table, and faults
+//! by `specs/Faults`. What the layers above need is [`check`]: it hands the expression on as a
+//! [`Checked`], which may stand where a value is wanted, or names its first fault.
 #![tactic(auto)]
 
 mod checked;

@@ -5,7 +5,8 @@ ghost use Rattle.expr_types.specs.HasSort.{is_value};
 /// What kind of thing an expression is. (This project's profile, after the reference's types.)
 #[derive(Clone, Copy, Debug, PartialEq, Eq)]
 pub enum Sort {
-    /// Null, a truth value, a number or a text.
+    /// What `val()`, operators and `?:` give: null, a truth value, a number or a text; or what stands
+    /// for a location with children, or for `auth` behind a `?:`.
     Value,
     /// A tree, seen from one of its places.
     Snapshot,

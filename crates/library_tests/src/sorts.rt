@@ -7,7 +7,7 @@ use path_capture::{CaptureName, Captures};
 use std::alloc::Global;
 use std::test::*;
 
-const OTHER: &str = "a value of another sort is wanted";
+const OTHER: &str = "something of another sort is wanted";
 
 // What an expression is answered in a rule for a place, below a capture `$room`.
 fn answer(alloc: Global, place: Place, text: &str) -> Result<String, Fail> {

@@ -43,7 +43,7 @@ impl<'a> Captures<'a> {
         }
     }
 
-    /// Adds a capture at the end.
+    /// Adds a binding at the end, which may grow the list.
     pub fn push(&mut self, name: &'a CaptureName, key: &'a Key) -> Result<(), NoMemory>
         ensures ok { OnOk result (self.new ≡ self.old ++ (name.now, key.now) ∷ []) }
         ensures err { OnErr result (self.new ≡ self.old) }
@@ -52,7 +52,7 @@ impl<'a> Captures<'a> {
         Ok(())
     }
 
-    /// Takes the last capture, if there is one. It takes no memory.
+    /// Takes the last binding, if there is one. It takes no memory.
     pub fn pop(&mut self) -> Option<Binding<'a>>
         ensures { MatchOption result ((self.old ≡ []) × (self.new ≡ [])) (λ last. self.old ≡ self.new ++ bound last ∷ []) }
     {
@@ -65,7 +65,7 @@ impl<'a> Captures<'a> {
         self.held.len()
     }
 
-    /// The capture at an index, and `None` from the length on.
+    /// The binding at an index, and `None` from the length on.
     pub fn part(&self, index: usize) -> Option<&Binding<'a>>
         ensures { option_map (λ binding. bound binding.now) result ≡ slice_get self.now index }
     {

@@ -1,4 +1,4 @@
-//! Paths, which name locations, patterns, which name where rules stand, and writes.
+//! Paths, which name locations, patterns, which name where rules stand, captures and writes.
 //!
 //! Contracts see a [`Path`] as a path of `tree_model`, a [`Pattern`] as a list of keys and captures,
 //! and a [`Write`] as a location and a tree. What the layers above need most is [`Write::make`]:
