@@ -1,5 +1,5 @@
 //! Cases as texts: a tree, and behind each bar a write, as `{"a":1} | /b=2 | /c=null`.
-use json_tree::{Node, NoMemory, ValueFault, from_json};
+use json_tree::{NoMemory, Node, ValueFault, from_json};
 use path_capture::{Path, Write};
 use serde_json::Value;
 use std::alloc::Global;

@@ -10,7 +10,10 @@ use std::test::Fail;
 const PROPOSED: [Row; 15] = [
     ("null | /a=5", "{\"a\":5}, 2 locations: a"),
     ("{\"a\":5} | /a/b=null", "{\"a\":5}, 2 locations: a"),
-    ("{\"a\":5} | /a/b=true", "{\"a\":{\"b\":true}}, 3 locations: a"),
+    (
+        "{\"a\":5} | /a/b=true",
+        "{\"a\":{\"b\":true}}, 3 locations: a",
+    ),
     (
         "{\"a\":{\"b\":true}} | /l=[null,\"x\"]",
         "{\"a\":{\"b\":true},\"l\":{\"1\":\"x\"}}, 5 locations: a l",
@@ -92,6 +95,7 @@ fn writes_propose_a_tree(rt: HostRuntime) -> Result<(), Fail> {
 }
 
 const BASE: &str = "{\"b\":{\"c\":1},\"d\":\"x\",\"f\":3}";
+
 const WRITES: &str = "/b/e=2 | /d=null | /a=true";
 
 const PLACES: [Row; 7] = [
@@ -178,7 +182,13 @@ fn kept_at(alloc: Global, place: usize) -> Result<String, Fail> {
 
 #[test]
 fn which_child_is_kept(rt: HostRuntime) -> Result<(), Fail> {
-    assert_eq!(rt; kept_at(rt.alloc(), 0)?.as_str(), "{\"b\":{\"c\":1}}, 3 locations: b");
-    assert_eq!(rt; kept_at(rt.alloc(), 2)?.as_str(), "{\"f\":3}, 2 locations: f");
+    assert_eq!(rt;
+        kept_at(rt.alloc(), 0)?.as_str(),
+        "{\"b\":{\"c\":1}}, 3 locations: b"
+    );
+    assert_eq!(rt;
+        kept_at(rt.alloc(), 2)?.as_str(),
+        "{\"f\":3}, 2 locations: f"
+    );
     Ok(())
 }
