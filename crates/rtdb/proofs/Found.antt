@@ -1,5 +1,5 @@
 -- The command that was found.
-use Rattle.std.proofs.Common.{◌≡◌, ◌∙◌, ap, sym, refl, List, [], ℕ, Bool, true, cond, Option, Some, None, option_map, unwrap_or, codes}
+use Rattle.std.proofs.Common.{◌≡◌, ◌∙◌, ap, List, [], ℕ, cond, Option, Some, None, option_map, unwrap_or, codes}
 use Rattle.std.specs.Str.{bytes_eq}
 use Rattle.std.specs.Borrow.{Bor}
 use Rattle.std.specs.Prelude.{Box}
@@ -8,7 +8,7 @@ use Rattle.clap.specs.Words.{Text, Row, first_of}
 use Rattle.clap.specs.Simple.{subcommand_rows}
 use Rattle.clap.specs.declared.parser.matches.SubCommand.{SubCommand}
 use Rattle.clap.specs.declared.parser.matches.ArgMatches.TheViews.{out-SubCommand}
-use Rattle.rtdb.specs.Order.{Wanted, checks, runs, wanted}
+use Rattle.rtdb.specs.Order.{checks, runs, wanted}
 
 pub check_found : (found : Option (Text × List Row)) (rows : List Row) → option_map (λ p. p.0) found ≡ Some (codes "check") → option_map (λ p. p.1) found ≡ Some rows → wanted found ≡ checks (unwrap_or (first_of (codes "FILE") rows) [])
 check_found None rows n r = absurd cc

@@ -1,7 +1,7 @@
 -- What a command line asks for. (This project's profile.)
-use Rattle.std.specs.Prelude.{◌≡◌, ℕ, Bool, true, false, if◌then◌else◌, List, [], Option, Some, None, unwrap_or, codes, ⊤}
+use Rattle.std.specs.Prelude.{◌≡◌, ℕ, true, if◌then◌else◌, List, [], Option, Some, None, unwrap_or, codes, ⊤}
 use Rattle.std.specs.Str.{bytes_eq}
-use Rattle.clap.specs.Words.{App, Text, Row, Rule, Kinds, new_app, new_rule, with_rule, with_subcommand, fault_of, subcommand_of, first_of, kind_of, IsAmong}
+use Rattle.clap.specs.Words.{App, Text, Row, Rule, new_app, new_rule, with_rule, with_subcommand, fault_of, subcommand_of, first_of, kind_of, IsAmong}
 use Rattle.rtdb.specs.declared.wanted.Order.{Order}
 use Rattle.rtdb.specs.declared.wanted.Order.TheVariants.{Check, Run}
 use Rattle.rtdb.specs.declared.wanted.LineFault.{LineFault}

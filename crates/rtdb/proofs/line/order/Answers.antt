@@ -1,8 +1,8 @@
-use Rattle.std.proofs.Common.{◌≡◌, ◌∙◌, ap, sym, List, ℕ, Option, unwrap_or, codes, refl}
-use Rattle.clap.specs.Words.{Text, Row, rows_of, found_of, first_of, subcommand_rows_of}
+use Rattle.std.proofs.Common.{◌∙◌, ap, sym, List, codes, refl}
+use Rattle.clap.specs.Words.{Row, rows_of, found_of, subcommand_rows_of}
 use Rattle.clap.proofs.WalkLemmas.{first_value-rows}
 use Rattle.clap.specs.declared.parser.matches.ArgMatches.TheViews.{out-ArgMatches}
-use Rattle.rtdb.specs.Order.{Wanted, checks, wanted}
+use Rattle.rtdb.specs.Order.{checks, wanted}
 use Rattle.rtdb.proofs.Found.{check_found, name_found, value_found}
 use Rattle.rtdb.proofs.line.order.Goals as goal
 

@@ -1,6 +1,6 @@
-use Rattle.std.proofs.Common.{◌≡◌, ℕ, List, Option, ◌∙◌, ap, ap₂, map, rules, string_bytes, subst, true, codes}
+use Rattle.std.proofs.Common.{◌≡◌, ◌∙◌, ap, ap₂, map, rules, string_bytes, subst, true, codes}
 use Rattle.std.proofs.lemmas.Result.{IfOk-weaker}
-use Rattle.clap.specs.Words.{App, Shape, Text, Rule, Kinds, FailsBy, app_of, rule_of, new_app, with_rule, with_subcommand, subcommand_of, is_simple, is_simple_and_free, fault_of}
+use Rattle.clap.specs.Words.{App, FailsBy, app_of, rule_of, new_app, with_rule, with_subcommand, subcommand_of, is_simple, is_simple_and_free, fault_of}
 use Rattle.clap.specs.Simple.{app_of_fields}
 use Rattle.rtdb.specs.Order.{file, the_program}
 use Rattle.rtdb.proofs.line.parse.Goals as goal
