@@ -90,9 +90,6 @@ pub record Laid (t : Tree) (ws : List Write) (n : ℕ) (ps : List Change) : Type
   pub each : AllByRecursion (λ p. p.1 ≢ Some null) ps
   pub before : (k : Key) (q : Path) (d : Write) → n < length ws → location (get_or ws n d) ≡ k ∷ q → AllBefore k ps
 
-pub laid_start : (t : Tree) (ws : List Write) → Laid t ws 0 []
-laid_start t ws = record { within = omega arith; follow = λ l. refl; ascending = refl; each = tt; before = λ k q d low is. tt }
-
 later_key : (k l : Key) (p q : Path) → is_lt (path_cmp (l ∷ q) (k ∷ p)) ≡ false → bytes_eq k l ≡ false → key_cmp k l ≡ Less
 later_key k l p q h other =
     keys_total.antisymm k l
@@ -193,9 +190,6 @@ module _ {ws : List Write} {n : ℕ} {k : Key} {xs : List Write} (r : IsRun ws n
       let all : overlaps (take n ws ++ drop n ws) ≡ false = ap overlaps (take-append-drop n ws) ∙ h in
       let rest : overlaps (take (length xs) (drop n ws) ++ drop (length xs) (drop n ws)) ≡ false = ap overlaps (take-append-drop (length xs) (drop n ws)) ∙ overlaps-back (take n ws) (drop n ws) all in
       sym (overlaps-raised k xs) ∙ ap overlaps (sym r.run) ∙ overlaps-front (take (length xs) (drop n ws)) (drop (length xs) (drop n ws)) rest
-
-  raise : Write → Write
-  raise w = (k ∷ location w, written w)
 
   at_run : (i : ℕ) (d : Write) → i < length xs → location (get_or ws (n + i) (k ∷ location d, written d)) ≡ k ∷ location (get_or xs i d)
   at_run i d low =
