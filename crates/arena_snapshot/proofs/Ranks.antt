@@ -138,13 +138,6 @@ child_place t k some =
     let at = at_place k (sub t (k ∷ [])) (entries_of t) d (entries_sorted t) (find-entries t k ∙ non_null-some (sub t (k ∷ [])) some) in
     key_at t (before k t) d at.0 ∙ ap Some at.1
 
-pub child_place_within : (t : Tree) (k : Key) → sub t (k ∷ []) ≢ null → before k t < length (child_keys t)
-child_place_within t k some =
-    let d : Key × Tree = (k, null) in
-    let at = at_place k (sub t (k ∷ [])) (entries_of t) d (entries_sorted t) (find-entries t k ∙ non_null-some (sub t (k ∷ [])) some) in
-    let low = at.0 in
-    omega (arith, width-entries t)
-
 -- ---- places among stored keys, and among those of a tree of which a few children are other ones
 
 abbrev pub upto : (Key → Bool) → Key → Tree → ℕ

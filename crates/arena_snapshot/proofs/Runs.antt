@@ -1,4 +1,4 @@
--- Writes in order, of which those below one key stand together, and the patches of the keys so far.
+-- Writes in order, of which those below one key stand together, and the changes of the keys so far.
 use Rattle.std.proofs.Common.{◌≡◌, ◌≢◌, ℕ, zero, suc, ◌+◌, ◌≤◌, ◌<◌, ◌==◌, Bool, true, false, cond, not, ◌&&◌, ◌||◌, List, [], ◌∷◌, ◌++◌, length, take, drop, get_or, Some, None, Option, option_map, option_and_then, is_some, sym, ap, ◌∙◌, subst, refl, arith}
 use Rattle.std.specs.declared.cmp.Ordering.TheVariants.{Less, Equal, Greater}
 use Rattle.std.specs.Ordering.{is_lt, eq_by_cmp, ordering_reverse, ordering_then}
@@ -34,7 +34,7 @@ use Rattle.arena_snapshot.proofs.Laying.{none_of, sorted_push}
 use Rattle.arena_snapshot.proofs.Overlaying.{IsFor, Follow}
 use Rattle.arena_snapshot.proofs.Walks.{all_of}
 
--- ---- patches in order, and a last one
+-- ---- changes in order, and a last one
 
 find_push : (l : Key) (ps : List Change) (k : Key) (o : Option Tree) → find key_cmp l (ps ++ (k, o) ∷ []) ≡ or_else (find key_cmp l ps) (cond (bytes_eq l k) (Some o) None)
 find_push l [] k o = ap (λ b. cond b (Some o) None) (is_eq-slice_cmp l k)
@@ -81,7 +81,7 @@ push_follow t ys k xs ps o follow before is l =
     here = subst (λ f. IsFor t k (writes_below k ys ++ writes_below k (raised k xs)) (or_else f (Some o))) (sym none)
         (is ∙ ap (λ zs. non_null (proposed (sub t (k ∷ [])) zs)) (sym (λ i. none_yet i ++ below_same k xs i)))
 
--- ---- the patches of the first n writes
+-- ---- the changes of the first n writes
 
 pub record Laid (t : Tree) (ws : List Write) (n : ℕ) (ps : List Change) : Type 0 where
   pub within : n ≤ length ws
@@ -89,9 +89,6 @@ pub record Laid (t : Tree) (ws : List Write) (n : ℕ) (ps : List Change) : Type
   pub ascending : is_sorted key_cmp ps ≡ true
   pub each : AllByRecursion (λ p. p.1 ≢ Some null) ps
   pub before : (k : Key) (q : Path) (d : Write) → n < length ws → location (get_or ws n d) ≡ k ∷ q → AllBefore k ps
-
-pub laid_start : (t : Tree) (ws : List Write) → Laid t ws 0 []
-laid_start t ws = record { within = omega arith; follow = λ l. refl; ascending = refl; each = tt; before = λ k q d low is. tt }
 
 later_key : (k l : Key) (p q : Path) → is_lt (path_cmp (l ∷ q) (k ∷ p)) ≡ false → bytes_eq k l ≡ false → key_cmp k l ≡ Less
 later_key k l p q h other =
@@ -193,9 +190,6 @@ module _ {ws : List Write} {n : ℕ} {k : Key} {xs : List Write} (r : IsRun ws n
       let all : overlaps (take n ws ++ drop n ws) ≡ false = ap overlaps (take-append-drop n ws) ∙ h in
       let rest : overlaps (take (length xs) (drop n ws) ++ drop (length xs) (drop n ws)) ≡ false = ap overlaps (take-append-drop (length xs) (drop n ws)) ∙ overlaps-back (take n ws) (drop n ws) all in
       sym (overlaps-raised k xs) ∙ ap overlaps (sym r.run) ∙ overlaps-front (take (length xs) (drop n ws)) (drop (length xs) (drop n ws)) rest
-
-  raise : Write → Write
-  raise w = (k ∷ location w, written w)
 
   at_run : (i : ℕ) (d : Write) → i < length xs → location (get_or ws (n + i) (k ∷ location d, written d)) ≡ k ∷ location (get_or xs i d)
   at_run i d low =

@@ -17,7 +17,6 @@ use Rattle.tree_model.specs.Tree.{Tree, null, non_null, children, child_keys, co
 use Rattle.tree_model.specs.Children.{graft}
 use Rattle.tree_model.proofs.Orders.{keys_total, exact_keys, same_key, bytes_eq-self, bytes_eq-swap}
 use Rattle.tree_model.proofs.Existence.{non_null-null, depth-null}
-use Rattle.tree_model.proofs.Lookups.{sub-null}
 use Rattle.tree_model.proofs.Grafts.{find_beyond, get-children}
 use Rattle.tree_model.proofs.Writes.{proposed-none}
 use Rattle.tree_model.proofs.Counts.{count-graft}
@@ -230,9 +229,6 @@ null_from_width t root zero = null_from_entries t root (empty (entries_of t) (sy
 
 pub total-null : (g : Key → Tree → ℕ) → total g null ≡ 0
 total-null g = ap (sum_by (number g)) (no_children null (omega (arith, depth-null)))
-
-pub share-sub_null : (g : Key → Tree → ℕ) (k : Key) → share g k (sub null (k ∷ [])) ≡ 0
-share-sub_null g k = ap (share g k) (sub-null (k ∷ [])) ∙ share-null g k
 
 -- a child has no more than all children
 pub share-le : (g : Key → Tree → ℕ) (t : Tree) (k : Key) → share g k (sub t (k ∷ [])) ≤ total g t

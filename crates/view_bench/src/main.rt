@@ -57,7 +57,9 @@ fn time_readers(
     let start = Instant::now(rt)?;
     let found = read_often(&view);
     let reading = start.elapsed(rt)?;
-    println!(rt; "  {bytes} bytes of arena, {TIMES} times child, count, width and key_at {reading:?} (found {found})")?;
+    println!(rt;
+        "  {bytes} bytes of arena, {TIMES} times child, count, width and key_at {reading:?} (found {found})"
+    )?;
     Ok(())
 }
 

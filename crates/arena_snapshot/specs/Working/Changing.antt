@@ -22,7 +22,7 @@ use Rattle.json_tree.proofs.Proposing.{proposed-root}
 use Rattle.json_tree.proofs.Children.{depth-sub}
 use Rattle.arena_snapshot.specs.Working.Change.{Change, write_of, changed, AreChanges}
 
--- a child after the patch of its key, if there is one
+-- a child after the change of its key, if there is one
 abbrev pub child_after : Tree → Option (Option Tree) → Tree
 child_after t None = t
 child_after t (Some o) = unwrap_or o null
@@ -52,7 +52,7 @@ none_at_root : (ps : List Change) → list_any is_at_root (map write_of ps) ≡ 
 none_at_root [] = refl
 none_at_root (p ∷ ps) = none_at_root ps
 
--- below a key: what its patch puts there, or what stood there
+-- below a key: what its change puts there, or what stood there
 pub sub-changed : (t : Tree) (ps : List Change) (k : Key) → is_sorted key_cmp ps ≡ true → sub (changed t ps) (k ∷ []) ≡ child_after (sub t (k ∷ [])) (find key_cmp k ps)
 sub-changed t ps k s = sub-proposed t (map write_of ps) k (none_at_root ps) ∙ below_changes k (sub t (k ∷ [])) ps s
 
@@ -71,7 +71,7 @@ get-changed-root t ps none =
     nothing true = refl
     nothing false = refl
 
--- what is found behind the first patch
+-- what is found behind the first change
 pub find_behind : (k : Key) (o : Option Tree) (p : Change) (ps : List Change) → is_sorted key_cmp (p ∷ ps) ≡ true → find key_cmp k ps ≡ Some o → find key_cmp k (p ∷ ps) ≡ Some o
 find_behind k o p ps s found =
     ap (λ b. cond b (Some p.1) (find key_cmp k ps)) (is_eq-slice_cmp k p.0)
@@ -83,13 +83,13 @@ find_behind k o p ps s found =
 pub find_first : (p : Change) (ps : List Change) → find key_cmp p.0 (p ∷ ps) ≡ Some p.1
 find_first p ps = ap (λ b. cond b (Some p.1) (find key_cmp p.0 ps)) (is_eq-slice_cmp p.0 p.0 ∙ bytes_eq-self p.0)
 
--- a child that a patch puts is less deep
+-- a child that a change puts is less deep
 pub depth-change : (t : Tree) (ps : List Change) (k : Key) (u : Tree) → is_sorted key_cmp ps ≡ true → find key_cmp k ps ≡ Some (Some u) → u ≢ null → depth u + 1 ≤ depth (changed t ps)
 depth-change t ps k u s found some =
     let is : sub (changed t ps) (k ∷ []) ≡ u = sub-changed t ps k s ∙ ap (child_after (sub t (k ∷ []))) found in
     subst (λ v. depth v + 1 ≤ depth (changed t ps)) is (depth-sub (changed t ps) k (λ e. some (sym is ∙ e)))
 
--- a patch that is found puts no null
+-- a change that is found puts no null
 pub found_some : (k : Key) (o : Option Tree) (ps : List Change) → AllByRecursion (λ p. p.1 ≢ Some null) ps → find key_cmp k ps ≡ Some o → o ≢ Some null
 found_some k o [] h found = cc
 found_some k o (p ∷ ps) h found =
@@ -102,10 +102,10 @@ pub non_null-unwrap : (o : Option Tree) → o ≢ Some null → non_null (unwrap
 non_null-unwrap None h = non_null-null
 non_null-unwrap (Some u) h = non_null-some u (λ e. h (ap Some e))
 
--- the child of a key: what its patch puts there
+-- the child of a key: what its change puts there
 pub child_found : (t : Tree) (ps : List Change) (k : Key) (o : Option Tree) → AreChanges t ps → find key_cmp k ps ≡ Some o → non_null (sub (changed t ps) (k ∷ [])) ≡ o
 child_found t ps k o h found = ap non_null (sub-changed t ps k h.ascending ∙ ap (child_after (sub t (k ∷ []))) found) ∙ non_null-unwrap o (found_some k o ps h.each found)
 
--- and with no patch what stood there
+-- and with no change what stood there
 pub child_kept : (t : Tree) (ps : List Change) (k : Key) → AreChanges t ps → find key_cmp k ps ≡ None → non_null (sub (changed t ps) (k ∷ [])) ≡ non_null (sub t (k ∷ []))
 child_kept t ps k h none = ap non_null (sub-changed t ps k h.ascending ∙ ap (child_after (sub t (k ∷ []))) none)
