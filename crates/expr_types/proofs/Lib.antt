@@ -5,3 +5,5 @@ pub mod Wider
 pub mod Naming
 pub mod Known
 pub mod Spelled
+pub mod There
+pub mod RowNames

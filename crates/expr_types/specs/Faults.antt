@@ -1,9 +1,9 @@
 -- The first fault of an expression.
-use Rattle.std.specs.Prelude.{◌≡◌, ℕ, List, [], ◌∷◌, ◌++◌, false, codes, if◌then◌else◌, ◌⊎◌, Contains}
+use Rattle.std.specs.Prelude.{◌≡◌, ℕ, List, [], ◌∷◌, ◌++◌, false, codes, if◌then◌else◌, ◌⊎◌, ⊤, Contains}
 use Rattle.std.specs.List.{AllByRecursion}
 use Rattle.expr_parser.specs.Tree.{Tree, Trees, Arguments, Variable, Capture, Group, Member, Call, Not, Negate, Operation, Choice, One, Listed, no_argument, argument, none, more}
 use Rattle.expr_types.specs.declared.fault.TypeFault.{TypeFault}
-use Rattle.expr_types.specs.declared.fault.TypeFault.TheVariants.{NotInProfile, TypeError, UnknownName}
+use Rattle.expr_types.specs.declared.fault.TypeFault.TheVariants.{NotInProfile, TypeError, UnknownName, NoMemory}
 use Rattle.expr_types.specs.declared.place.Place.{Place}
 use Rattle.expr_types.specs.declared.sort.Sort.{Sort}
 use Rattle.expr_types.specs.Names.{is_among, excluded_names, is_spelled}
@@ -51,6 +51,13 @@ pub data FirstFault (place : Place) (names : List (List ℕ)) : Tree → TypeFau
 -- why the expression of a rule is refused: for its first fault, or since it is no value as a whole (this project's profile)
 abbrev pub IsRefused : Place → List (List ℕ) → Tree → TypeFault → Type 0
 IsRefused place names x e = FirstFault place names x e ⊎ ((s : Sort) × HasSort place names x s × (is_value s ≡ false) × (e ≡ TypeError))
+
+-- a fault that is about a name, for which alone memory is taken
+abbrev pub HasName : TypeFault → Type 0
+HasName (NotInProfile f) = ⊤
+HasName TypeError = ⊥
+HasName (UnknownName f) = ⊤
+HasName NoMemory = ⊥
 
 -- ---- where a name stands
 

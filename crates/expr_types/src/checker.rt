@@ -1,10 +1,11 @@
 //! The checker: the sort of an expression, or its first fault.
-ghost use Rattle.std.specs.Prelude.{◌≡◌, ◌⊎◌, true, IfOk, IfErr, OnOk, Ok, Err};
+ghost use Rattle.std.specs.Prelude.{◌≡◌, ◌⊎◌, true, is_ok, IfOk, IfErr, OnOk, Ok, Err};
 ghost use Rattle.expr_parser.specs.Tree as tree;
 ghost use Rattle.expr_parser.specs.View.{view, view_argument, views, arguments as arguments_of};
 ghost use Rattle.path_capture.specs.Captures.{names};
 ghost use Rattle.expr_types.specs.HasSort.{HasValue};
-ghost use Rattle.expr_types.specs.Faults.{IsRefused};
+ghost use Rattle.expr_types.specs.Faults.{IsRefused, HasName};
+ghost use Rattle.expr_types.specs.declared.fault.TypeFault.{TypeFault};
 ghost use Rattle.expr_types.specs.Working.SortOf.{sort_of, given_of, with_argument, are_values, with_value, with_list, value_if};
 ghost use Rattle.expr_types.specs.Working.Gives.{Gives};
 ghost use Rattle.expr_types.specs.declared.fault.TypeFault.TheVariants.{NoMemory as no_memory};
@@ -32,10 +33,10 @@ pub fn check(
     // What is answered is the same expression, and may stand where a value is wanted.
     ensures same { IfOk result (λ checked. checked ≡ record { tree = view expr; place = place }) }
     ensures sorted { OnOk result (HasValue place (names captures.now) (view expr)) }
-    // An expression that may stand so is refused for want of memory alone.
-    ensures only { HasValue place (names captures.now) (view expr) → IfErr result (λ fault. fault ≡ no_memory) }
-    // A fault is the first one, unless memory is refused.
-    ensures refused { IfErr result (λ fault. (fault ≡ no_memory) ⊎ IsRefused place (names captures.now) (view expr) fault) }
+    // An expression that may stand so is never refused.
+    ensures only { HasValue place (names captures.now) (view expr) → is_ok result ≡ true }
+    // A fault is the first one; or that has a name, and memory for it is refused.
+    ensures refused { IfErr result (λ fault. IsRefused place (names captures.now) (view expr) fault ⊎ ((fault ≡ no_memory) × (e : TypeFault) × IsRefused place (names captures.now) (view expr) e × HasName e)) }
 {
     let checker = Checker {
         alloc,

@@ -2,10 +2,11 @@
 ghost use Rattle.std.specs.Prelude.{◌≡◌, ◌⊎◌, ℕ, List, true};
 ghost use Rattle.expr_tokens.specs.Words as words;
 ghost use Rattle.path_capture.specs.Name as captures;
-ghost use Rattle.expr_parser.specs.Tree.{Tree};
-ghost use Rattle.expr_types.specs.Names.{is_among};
-ghost use Rattle.expr_types.specs.HasSort.{HasSort, HasSomeSort};
-ghost use Rattle.expr_types.specs.Faults.{FirstFault, StandsIn};
+ghost use Rattle.expr_parser.specs.Tree.{Tree, Arguments, Member, Call};
+ghost use Rattle.expr_types.specs.Names.{is_among, is_spelled};
+ghost use Rattle.expr_types.specs.HasSort.{HasSort, HasSomeSort, HasValue};
+ghost use Rattle.expr_types.specs.Faults.{FirstFault, IsRefused, StandsIn};
+ghost use Rattle.expr_types.specs.Checked.{captures_in};
 ghost use Rattle.expr_types.specs.declared.place.Place.{Place};
 ghost use Rattle.expr_types.specs.declared.sort.Sort.{Sort};
 ghost use Rattle.expr_types.specs.declared.fault.TypeFault.{TypeFault};
@@ -37,9 +38,29 @@ pub fn a_named_fault_stands_in_the_expression()
     ensures excluded { (place : Place) (names : List (List ℕ)) (x : Tree) (f : List ℕ) → FirstFault place names x (NotInProfile f) → StandsIn f x }
 {}
 
-/// An expression keeps its sort below more captures. It does nothing.
+/// An expression keeps its sort below all captures that have the names it uses. It does nothing.
 pub fn more_captures_change_no_sort()
-    ensures { (place : Place) (names more : List (List ℕ)) (x : Tree) (s : Sort) → ((f : List ℕ) → is_among f names ≡ true → is_among f more ≡ true) → HasSort place names x s → HasSort place more x s }
+    ensures { (place : Place) (names more : List (List ℕ)) (x : Tree) (s : Sort) → ((f : List ℕ) → is_among f (captures_in x) ≡ true → is_among f names ≡ true → is_among f more ≡ true) → HasSort place names x s → HasSort place more x s }
+{}
+
+/// The captures that an expression with a sort names are there. It does nothing.
+pub fn captures_that_are_named_are_there()
+    ensures { (place : Place) (names : List (List ℕ)) (x : Tree) (s : Sort) (f : List ℕ) → HasSort place names x s → is_among f (captures_in x) ≡ true → is_among f names ≡ true }
+{}
+
+/// The name of a use that is a row of the table is one that some row spells, but for the name of a
+/// claim, which may be any. It does nothing.
+pub fn each_row_is_spelled()
+    ensures member { (place : Place) (names : List (List ℕ)) (x : Tree) (f : List ℕ) (s : Sort) → HasSort place names (Member x f) s → HasSort place names x Sort.Token ⊎ (is_spelled f ≡ true) }
+    ensures call { (place : Place) (names : List (List ℕ)) (x : Tree) (f : List ℕ) (xs : Arguments) (s : Sort) → HasSort place names (Call x f xs) s → is_spelled f ≡ true }
+{}
+
+/// An expression may stand where a value is wanted, or is refused; never both, and for one fault. It
+/// does nothing.
+pub fn one_answer()
+    ensures some { (place : Place) (names : List (List ℕ)) (x : Tree) → HasValue place names x ⊎ ((e : TypeFault) × IsRefused place names x e) }
+    ensures never_both { (place : Place) (names : List (List ℕ)) (x : Tree) (e : TypeFault) → HasValue place names x → IsRefused place names x e → ⊥ }
+    ensures one { (place : Place) (names : List (List ℕ)) (x : Tree) (d e : TypeFault) → IsRefused place names x d → IsRefused place names x e → d ≡ e }
 {}
 
 /// What an expression takes for a name, and what a rules file takes for the name of a capture, are the

@@ -20,8 +20,8 @@ pub use checker::check;
 pub use fault::{FaultyName, TypeFault};
 pub use laws::{
     a_named_fault_stands_in_the_expression, captures_have_names_of_expressions,
-    each_has_a_sort_or_a_first_fault, more_captures_change_no_sort, never_both, one_first_fault,
-    one_sort,
+    captures_that_are_named_are_there, each_has_a_sort_or_a_first_fault, each_row_is_spelled,
+    more_captures_change_no_sort, never_both, one_answer, one_first_fault, one_sort,
 };
 pub use place::Place;
 pub use sort::Sort;

@@ -1,7 +1,7 @@
-use Rattle.std.proofs.Common.{inr, sym, ◌∙◌}
+use Rattle.std.proofs.Common.{inl, sym, ◌∙◌}
 use Rattle.expr_parser.specs.View.{view}
 use Rattle.path_capture.specs.Captures.{names}
-use Rattle.expr_types.proofs.Answered.{only_memory, first_fault, has_value, no_value, refused_sort}
+use Rattle.expr_types.proofs.Answered.{never_refused, first_fault, has_value, no_value, refused_sort}
 use Rattle.expr_types.proofs.Wider.{own_captures}
 use Rattle.expr_types.proofs.checker.check.Goals as goal
 
@@ -15,10 +15,10 @@ pub returns-else-is_value-clause-only : goal.returns-else-is_value-clause-only
 returns-else-is_value-clause-only c = no_value c.args.place (names c.args.captures.now) (view c.args.expr) c.in-Ok.sort c.in-Ok.ensures (sym c.is_value.ensures ∙ c.if-is_value.false)
 
 pub returns-else-is_value-clause-refused : goal.returns-else-is_value-clause-refused
-returns-else-is_value-clause-refused c = inr (refused_sort c.args.place (names c.args.captures.now) (view c.args.expr) c.in-Ok.sort c.in-Ok.ensures (sym c.is_value.ensures ∙ c.if-is_value.false))
+returns-else-is_value-clause-refused c = inl (refused_sort c.args.place (names c.args.captures.now) (view c.args.expr) c.in-Ok.sort c.in-Ok.ensures (sym c.is_value.ensures ∙ c.if-is_value.false))
 
 pub returns-in-Err-clause-only : goal.returns-in-Err-clause-only
-returns-in-Err-clause-only c = only_memory c.args.place (names c.args.captures.now) (view c.args.expr) c.in-Err.fault c.in-Err.ensures
+returns-in-Err-clause-only c = never_refused c.args.place (names c.args.captures.now) (view c.args.expr) c.in-Err.fault c.in-Err.ensures
 
 pub returns-in-Err-clause-refused : goal.returns-in-Err-clause-refused
 returns-in-Err-clause-refused c = first_fault c.args.place (names c.args.captures.now) (view c.args.expr) c.in-Err.fault c.in-Err.ensures
