@@ -1,6 +1,5 @@
 pub mod Part
 pub mod Book
-pub mod Spelled
 pub mod Plain
 pub mod File
 pub mod Place
