@@ -13,21 +13,22 @@ use Rattle.tree_model.proofs.Orders.{same_key}
 use Rattle.tree_model.proofs.Paths.{prefix-append}
 use Rattle.tree_model.proofs.Lookups.{get-sub}
 use Rattle.rules_reader.specs.Part.{Pattern}
-use Rattle.rules_reader.specs.Book.{Book, Kind}
+use Rattle.rules_reader.specs.declared.kind.Kind.{Kind}
+use Rattle.rules_reader.specs.Book.{Book, stated_for}
 use Rattle.rules_reader.specs.Place.{StandsAt, HasOneCapture}
 use Rattle.rules_reader.specs.Node.{Point, NoneMatches}
 use Rattle.rules_reader.proofs.Standing.{one_stands}
 use Rattle.rules_reader.proofs.Reached.{Reached, reached_root, not_reached}
 use Rattle.rtdb_core.specs.declared.reply.Named.{Named}
-use Rattle.rtdb_core.specs.Verdict.{stated_for, stated_at, IsRuleAt, IsGranted, name_of, named_by, named_at, named_rules}
+use Rattle.rtdb_core.specs.Verdict.{is_true, stated_at, IsRuleAt, IsGranted, name_of, named_by, named_at, named_rules}
 use Rattle.rtdb_core.specs.Working.Naming.{stated_by, named_here}
 use Rattle.rtdb_core.proofs.Tests.{standing_is, standing_none}
 
 -- what a node states itself is what the book states at its pattern
 own_rules : (book : Book) (node : Point) (path : Path) (kind : Kind) → Reached book node path → stated_by kind node ≡ stated_at book kind node.at
 own_rules book node path kind r =
-    ap (λ b. option_and_then (stated_for kind) (get b [])) r.below
-    ∙ ap (option_and_then (stated_for kind)) (get-sub book node.at [] ∙ ap (get book) (append-nil node.at))
+    ap (λ b. option_map is_true (option_and_then (stated_for kind) (get b []))) r.below
+    ∙ ap (λ o. option_map is_true (option_and_then (stated_for kind) o)) (get-sub book node.at [] ∙ ap (get book) (append-nil node.at))
 
 -- the rule that stands where the walk stands
 pub rule_here : (book : Book) (node : Point) (path : Path) (kind : Kind) (value : Bool) → Reached book node path → stated_by kind node ≡ Some value → IsRuleAt book kind path node.at value
@@ -35,7 +36,7 @@ rule_here book node path kind value r h = record { stands = r.stands; states = s
 
 pub from_rule_here : (book : Book) (node : Point) (path : Path) (kind : Kind) (pattern : Pattern) (value : Bool) → HasOneCapture book → Reached book node path → IsRuleAt book kind path pattern value → stated_by kind node ≡ Some value
 from_rule_here book node path kind pattern value one r h =
-    own_rules book node path kind r ∙ ap (λ p. option_and_then (stated_for kind) (get book p)) (one_stands book node.at pattern path one r.stands h.stands) ∙ h.states
+    own_rules book node path kind r ∙ ap (λ p. option_map is_true (option_and_then (stated_for kind) (get book p))) (one_stands book node.at pattern path one r.stands h.stands) ∙ h.states
 
 -- ---- prefixes
 

@@ -13,7 +13,8 @@ use Rattle.tree_model.specs.Path.{Path, strip_prefix, is_prefix, prefixes}
 use Rattle.tree_model.proofs.Choices.{not_true, both_so, or_right}
 use Rattle.tree_model.proofs.Orders.{same_key, same_path, bytes_eq-self}
 use Rattle.rules_reader.specs.Part.{Pattern}
-use Rattle.rules_reader.specs.Book.{Book, Kind, patterns}
+use Rattle.rules_reader.specs.declared.kind.Kind.{Kind}
+use Rattle.rules_reader.specs.Book.{Book, patterns}
 use Rattle.rules_reader.specs.Place.{StandsAt, HasOneCapture, matches}
 use Rattle.rules_reader.proofs.Standing.{one_stands}
 use Rattle.rtdb_core.specs.Verdict.{stated_at, IsRuleAt, IsGranted, holds, matches_from, stands_at, holds_by, holds_at, is_granted, standing}

@@ -5,7 +5,7 @@ use Rattle.tree_model.specs.Path.{Path}
 use Rattle.tree_model.specs.PathMap.{sub}
 use Rattle.tree_model.specs.Tree.{non_null}
 use Rattle.tree_model.specs.Write.{Write, location, proposed}
-use Rattle.rules_reader.specs.Book.{reads, writes}
+use Rattle.rules_reader.specs.declared.kind.Kind.TheVariants.{Read as reads, Write as writes}
 use Rattle.rtdb_core.specs.declared.limits.TheConstants.{MAX_SESSIONS}
 use Rattle.rtdb_core.specs.declared.event.Event.{Event}
 use Rattle.rtdb_core.specs.declared.event.Event.TheVariants.{Open, Get, Set}

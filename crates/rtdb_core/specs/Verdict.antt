@@ -5,29 +5,34 @@ use Rattle.std.specs.FinMap as map_of
 use Rattle.tree_model.specs.Path.{Path, is_prefix, prefixes}
 use Rattle.tree_model.specs.PathMap.{get}
 use Rattle.path_capture.specs.Pattern.{part_of_text}
-use Rattle.rules_reader.specs.declared.rule.RuleSet.{RuleSet}
+use Rattle.expr_parser.specs.Tree as t
+use Rattle.expr_types.specs.Checked.{Checked}
 use Rattle.rules_reader.specs.Part.{Pattern}
-use Rattle.rules_reader.specs.Book.{Book, patterns, Kind, reads, writes, validates}
+use Rattle.rules_reader.specs.declared.kind.Kind.{Kind}
+use Rattle.rules_reader.specs.declared.kind.Kind.TheVariants.{Read as reads, Write as writes}
+use Rattle.rules_reader.specs.Book.{Book, patterns, stated_for}
 use Rattle.rules_reader.specs.Place.{StandsAt, matches}
 use Rattle.rtdb_core.specs.declared.judge.Access.{Access}
 use Rattle.rtdb_core.specs.declared.judge.Access.TheVariants.{Read, Write}
 use Rattle.rtdb_core.specs.declared.reply.Named.{Named}
 use Rattle.rtdb_core.specs.declared.reply.Why.TheVariants.{No}
 
--- what the rules of one object state for this kind
-abbrev pub stated_for : Kind → RuleSet → Option Bool
-stated_for reads rules = rules.read
-stated_for writes rules = rules.write
-stated_for validates rules = rules.validate
+-- a rule holds, as long as rules are judged by no more than this: it is the literal true
+abbrev pub is_true : Checked → Bool
+is_true checked = is_true_tree checked.tree
+  where
+    is_true_tree : t.Tree → Bool
+    is_true_tree t.True = true
+    is_true_tree _ = false
 
 -- which rules an access asks
 abbrev pub kind_of : Access → Kind
 kind_of Read = reads
 kind_of Write = writes
 
--- what the book states at a pattern for this kind
+-- whether the rule of this kind that the book states at a pattern holds, if it states one
 abbrev pub stated_at : Book → Kind → Pattern → Option Bool
-stated_at book kind pattern = option_and_then (stated_for kind) (get book pattern)
+stated_at book kind pattern = option_map is_true (option_and_then (stated_for kind) (get book pattern))
 
 -- ---- the relation
 

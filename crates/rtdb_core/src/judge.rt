@@ -1,9 +1,11 @@
 //! Judging: which rules stand along a path, and whether one of them grants.
 ghost use Rattle.std.specs.Prelude.{◌≡◌, ◌↔◌, ◌++◌, true, Some, IsTrue, IfOk, OnOk};
-ghost use Rattle.rtdb_core.specs.Verdict.{kind_of, IsGranted, named_rules};
+ghost use Rattle.rtdb_core.specs.Verdict.{is_true, kind_of, IsGranted, named_rules};
 ghost use Rattle.rtdb_core.specs.Working.Naming.{stated_by, named_here};
 
 use crate::reply::{Named, NamedRules, Why};
+use expr_parser::Expr;
+use expr_types::Checked;
 use json_tree::{Key, NoMemory};
 use rules_reader::{RuleNode, Rules};
 use std::alloc::Global;
@@ -68,14 +70,22 @@ fn holds(node: &RuleNode, access: Access) -> bool
     stated(node, access) == Some(true)
 }
 
-// What the node states for this access, if it does.
+// Whether the rule that the node states for this access holds, if it states one: whether it is the
+// literal true, as long as no other is judged.
 fn stated(node: &RuleNode, access: Access) -> Option<bool>
     ensures { result ≡ stated_by (kind_of access) node.now }
 {
-    match access {
-        Access::Read => node.read(),
-        Access::Write => node.write(),
-    }
+    let rule = match access {
+        Access::Read => node.read()?,
+        Access::Write => node.write()?,
+    };
+    Some(is_true(rule))
+}
+
+fn is_true(rule: &Checked) -> bool
+    ensures { result ≡ is_true rule.now }
+{
+    matches!(rule.expr(), Expr::True)
 }
 
 // Adds the rule of this access that the node states, if it does.

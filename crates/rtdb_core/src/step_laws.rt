@@ -1,7 +1,8 @@
 //! Laws of the steps of a database.
 ghost use Rattle.std.specs.Prelude.{◌≡◌, ◌≢◌, ◌↔◌, ℕ, IsTrue};
 ghost use Rattle.tree_model.specs.Path.{Path};
-ghost use Rattle.rules_reader.specs.Book.{Book, Kind};
+ghost use Rattle.rules_reader.specs.declared.kind.Kind.{Kind};
+ghost use Rattle.rules_reader.specs.Book.{Book};
 ghost use Rattle.rtdb_core.specs.declared.event.Event.{Event};
 ghost use Rattle.rtdb_core.specs.declared.reply.Refusal.{Refusal};
 ghost use Rattle.rtdb_core.specs.declared.reply.Reply.{Reply};

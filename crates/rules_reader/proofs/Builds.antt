@@ -1,5 +1,5 @@
 -- From the members of an object to the nodes of its keys and captures.
-use Rattle.std.proofs.Common.{◌≡◌, ◌≢◌, ℕ, zero, suc, ◌+◌, ◌<◌, ◌≤◌, Bool, true, false, cond, not, ◌&&◌, ◌||◌, List, [], ◌∷◌, ◌++◌, map, length, Some, None, Option, option_map, option_and_then, is_some, IsSome, is_ok, is_err, Result, Ok, Err, get_or, slice_get, string_bytes, string_cmp, sym, ap, ◌∙◌, subst, refl, arith, append_assoc, append-nil, nat_le}
+use Rattle.std.proofs.Common.{◌≡◌, ◌≢◌, ℕ, zero, suc, ◌+◌, ◌<◌, ◌≤◌, Bool, true, false, cond, not, ◌&&◌, ◌||◌, List, [], ◌∷◌, ◌++◌, map, length, Some, None, Option, option_map, option_and_then, is_some, IsSome, is_ok, is_err, Result, Ok, Err, get_or, slice_get, string_bytes, string_cmp, sym, ap, ◌∙◌, subst, refl, arith, append_assoc, append-nil, nat_le, sum_by, min, ◌-◌, ◌^◌}
 use Rattle.std.specs.Prelude.{codes}
 use Rattle.std.specs.List.{filter, AllByRecursion}
 use Rattle.std.specs.List.Sorted.{IsStrictlySortedBy}
@@ -12,6 +12,7 @@ use Rattle.std.specs.Ordering.{is_lt}
 use Rattle.std.specs.declared.cmp.Ordering.TheVariants.{Less}
 use Rattle.std.proofs.lemmas.Bool.{false≢true, leb-true, le-leb}
 use Rattle.std.proofs.lemmas.List.{map-append}
+use Rattle.std.proofs.lemmas.List.Sums.{sum_by-cons}
 use Rattle.serde_json.specs.Data.{Data, null, boolean, number, string, array, object, Members, no_members, member}
 use Rattle.serde_json.specs.Find.{get, as_bool, as_object}
 use Rattle.serde_json.specs.View.{view, members_view}
@@ -19,12 +20,12 @@ use Rattle.serde_json.proofs.Views.{Entry}
 use Rattle.tree_model.specs.Key.{key_cmp}
 use Rattle.tree_model.proofs.Choices.{both_so, neither}
 use Rattle.path_capture.specs.declared.pattern.Part.{Part}
-use Rattle.rules_reader.specs.declared.rule.RuleSet.{RuleSet}
+use Rattle.expr_types.specs.Checked.{Checked}
 use Rattle.rules_reader.specs.declared.fault.RulesFault.{RulesFault}
-use Rattle.rules_reader.specs.declared.fault.RulesFault.TheVariants.{BadRulesJson, BadRulesShape, TooManyRules, NoMemory}
+use Rattle.rules_reader.specs.declared.fault.RulesFault.TheVariants.{BadRulesJson, BadRulesShape, TooManyRules, BadRule, NoMemory}
 use Rattle.rules_reader.specs.Part.{PartText, Pattern, texts, is_capture, is_part}
-use Rattle.rules_reader.specs.Book.{Book}
-use Rattle.rules_reader.specs.File.{listed, objects, is_object, rule_set, book_of, is_sound, faulty, captures_among, IsLeast}
+use Rattle.rules_reader.specs.Book.{Stated, BookOf, Book, TextBook, RuleOf, rules}
+use Rattle.rules_reader.specs.File.{listed, objects, is_object, rule_texts, texts_of, is_sound, faulty, captures_among, IsLeast}
 use Rattle.rules_reader.specs.Working.Inner.{parts_of, faulty_inner}
 use Rattle.rules_reader.specs.Place.{one_capture_at_most}
 use Rattle.rules_reader.specs.Node.{Point, text_of, books, names, IsChild}
@@ -42,13 +43,6 @@ object_is (string s) ms e = cc
 object_is (array ds) ms e = cc
 object_is (object ns) ms e = cc
 
-pub stated_is : (s : RuleSet) (d : Data) (ms : Members) → s.read ≡ option_and_then as_bool (get (codes ".read") d) → s.write ≡ option_and_then as_bool (get (codes ".write") d) → s.validate ≡ option_and_then as_bool (get (codes ".validate") d) → d ≡ object ms → s ≡ rule_set ms
-stated_is s d ms r w v e = λ i. record {
-  read = (r ∙ ap (λ x. option_and_then as_bool (get (codes ".read") x)) e) i;
-  write = (w ∙ ap (λ x. option_and_then as_bool (get (codes ".write") x)) e) i;
-  validate = (v ∙ ap (λ x. option_and_then as_bool (get (codes ".validate") x)) e) i;
-}
-
 -- ---- the order of the names
 
 below_listed : (e : Entry) (es : List Entry) → AllByRecursion (λ l. string_cmp e.0 l ≡ Less) (keys_of es) → below_all key_cmp (string_bytes e.0) (listed (members_view es)) ≡ true
@@ -64,7 +58,7 @@ listed_ascend (e ∷ es) h = both_so _ _ (below_listed e es h.0) (listed_ascend 
 below_parts : (k : PartText) (ms : Members) → below_all key_cmp k (listed ms) ≡ true → below_all key_cmp k (parts_of ms) ≡ true
 below_parts k no_members h = refl
 below_parts k (member name d ms) h =
-    elim (is_part name && is_object d) as (λ b. below_all key_cmp k (cond b ((name, book_of d) ∷ parts_of ms) (parts_of ms)) ≡ true) [
+    elim (is_part name && is_object d) as (λ b. below_all key_cmp k (cond b ((name, texts_of d) ∷ parts_of ms) (parts_of ms)) ≡ true) [
       | true ↦ both_so _ _ (first_so _ _ h) (below_parts k ms (second_so _ _ h))
       | false ↦ below_parts k ms (second_so _ _ h)
     ]
@@ -73,7 +67,7 @@ below_parts k (member name d ms) h =
 pub parts_ascend : (ms : Members) → is_sorted key_cmp (listed ms) ≡ true → is_sorted key_cmp (parts_of ms) ≡ true
 parts_ascend no_members h = refl
 parts_ascend (member name d ms) h =
-    elim (is_part name && is_object d) as (λ b. is_sorted key_cmp (cond b ((name, book_of d) ∷ parts_of ms) (parts_of ms)) ≡ true) [
+    elim (is_part name && is_object d) as (λ b. is_sorted key_cmp (cond b ((name, texts_of d) ∷ parts_of ms) (parts_of ms)) ≡ true) [
       | true ↦ both_so _ _ (below_parts name ms (first_so _ _ h)) (parts_ascend ms (second_so _ _ h))
       | false ↦ parts_ascend ms (second_so _ _ h)
     ]
@@ -83,7 +77,7 @@ parts_ascend (member name d ms) h =
 captures_le : (ms : Members) → length (filter is_capture (map (λ c. c.0) (parts_of ms))) ≤ length (captures_among (listed ms))
 captures_le no_members = omega arith
 captures_le (member name d ms) =
-    elim (is_part name && is_object d) as (λ b. length (filter is_capture (map (λ (c : PartText × Book). c.0) (cond b ((name, book_of d) ∷ parts_of ms) (parts_of ms)))) ≤ length (captures_among ((name, d) ∷ listed ms))) [
+    elim (is_part name && is_object d) as (λ b. length (filter is_capture (map (λ (c : PartText × TextBook). c.0) (cond b ((name, texts_of d) ∷ parts_of ms) (parts_of ms)))) ≤ length (captures_among ((name, d) ∷ listed ms))) [
       | true ↦ one_more (is_capture name) (captures_le ms)
       | false ↦ no_more (is_capture name) (captures_le ms)
     ]
@@ -96,78 +90,87 @@ captures_le (member name d ms) =
     no_more true h = omega arith
     no_more false h = h
 
-names-books : (children : List (Part × Point)) → map (λ c. c.0) (books children) ≡ names children
-names-books [] = refl
-names-books (c ∷ children) = ap (λ ts. text_of c.0 ∷ ts) (names-books children)
-
-pub few_names : (at : Pattern) (ms : Members) (children : List (Part × Point)) → is_sound at ms ≡ true → books children ≡ parts_of ms → one_capture_at_most (names children) ≡ true
-few_names at ms children sound same =
+pub few_parts : (at : Pattern) (ms : Members) → is_sound at ms ≡ true → one_capture_at_most (map (λ c. c.0) (parts_of ms)) ≡ true
+few_parts at ms sound =
     let few = leb-true (length (captures_among (listed ms))) 1 (second_so _ _ sound) in
     let le = captures_le ms in
-    ap one_capture_at_most (sym (names-books children) ∙ ap (map (λ c. c.0)) same) ∙ le-leb (length (filter is_capture (map (λ c. c.0) (parts_of ms)))) 1 (omega arith)
+    le-leb (length (filter is_capture (map (λ c. c.0) (parts_of ms)))) 1 (omega arith)
 
--- ---- the loop over the members
-
--- so far, and with the rest of the members
-pub record Built (at : Pattern) (done : List (Part × Point)) (rest all : Members) : Type 0 where
-  pub parts : books done ++ parts_of rest ≡ parts_of all
-  pub sound : faulty_inner at rest ≡ faulty_inner at all
-  pub each : AllByRecursion (IsChild at) done
-  pub ascending : is_sorted key_cmp (listed rest) ≡ true
-
-pub built_start : (at : Pattern) (all : Members) → is_sorted key_cmp (listed all) ≡ true → Built at [] all all
-built_start at all h = record { parts = refl; sound = refl; each = tt; ascending = h }
+-- ---- a member that is no key and no capture
 
 -- a member that is no object adds nothing
 none_in : (at : Pattern) (name : PartText) (d : Data) → is_object d ≡ false → faulty at d ≡ []
 unfolding faulty
 none_in at name d h = ap (λ os. map (λ o. at ++ o.0) (filter (λ o. not (is_sound (at ++ o.0) o.1)) os)) (no_objects d h)
 
-skipped : (at : Pattern) (name : PartText) (d : Data) (ms : Members) → (is_part name && is_object d) ≡ false → faulty_inner at (member name d ms) ≡ faulty_inner at ms
+pub skipped : (at : Pattern) (name : PartText) (d : Data) (ms : Members) → (is_part name && is_object d) ≡ false → faulty_inner at (member name d ms) ≡ faulty_inner at ms
 skipped at name d ms h =
     elim (is_part name) as (λ b. is_part name ≡ b → (b && is_object d) ≡ false → faulty_inner at (member name d ms) ≡ faulty_inner at ms) [
       | true ↦ λ e g. faulty_inner-part at name d ms e ∙ ap (λ qs. qs ++ faulty_inner at ms) (none_in (at ++ name ∷ []) name d g)
       | false ↦ λ e _. faulty_inner-other at name d ms e
     ] refl h
 
-pub built_skip : (at : Pattern) (done : List (Part × Point)) (rest more all : Members) (name : PartText) (d : Data) → rest ≡ member name d more → (is_part name && is_object d) ≡ false → Built at done rest all → Built at done more all
-built_skip at done rest more all name d step other b = record {
-  parts = ap (λ ps. books done ++ ps) (sym (ap parts_of step ∙ ap (λ t. cond t ((name, book_of d) ∷ parts_of more) (parts_of more)) other)) ∙ b.parts;
+pub skipped_parts : (name : PartText) (d : Data) (ms : Members) → (is_part name && is_object d) ≡ false → parts_of (member name d ms) ≡ parts_of ms
+skipped_parts name d ms h = ap (λ t. cond t ((name, texts_of d) ∷ parts_of ms) (parts_of ms)) h
+
+pub taken_parts : (name : PartText) (d : Data) (ms : Members) → is_part name ≡ true → is_object d ≡ true → parts_of (member name d ms) ≡ (name, texts_of d) ∷ parts_of ms
+taken_parts name d ms part is_obj = λ i. cond (part i && is_obj i) ((name, texts_of d) ∷ parts_of ms) (parts_of ms)
+
+-- ---- the rules below the members are counted
+
+abbrev pub count_below : Members → ℕ
+count_below ms = sum_by (λ c. length (rules c.1)) (parts_of ms)
+
+-- so many are counted so far, and the rest of the members
+pub record Counted (at : Pattern) (count : ℕ) (rest all : Members) : Type 0 where
+  pub done : ℕ
+  pub counted : count ≡ min done (2 ^ 64 - 1)
+  pub whole : done + count_below rest ≡ count_below all
+  pub sound : faulty_inner at rest ≡ faulty_inner at all
+  pub ascending : is_sorted key_cmp (listed rest) ≡ true
+
+pub counted_start : (at : Pattern) (all : Members) → is_sorted key_cmp (listed all) ≡ true → Counted at 0 all all
+counted_start at all h = record { done = 0; counted = refl; whole = omega arith; sound = refl; ascending = h }
+
+pub rest_ascends : (rest more : Members) (name : PartText) (d : Data) → rest ≡ member name d more → is_sorted key_cmp (listed rest) ≡ true → is_sorted key_cmp (listed more) ≡ true
+rest_ascends rest more name d step h = second_so _ _ (sym (ap (λ ms. is_sorted key_cmp (listed ms)) step) ∙ h)
+
+pub counted_skip : (at : Pattern) (count : ℕ) (rest more all : Members) (name : PartText) (d : Data) → rest ≡ member name d more → (is_part name && is_object d) ≡ false → Counted at count rest all → Counted at count more all
+counted_skip at count rest more all name d step other b = record {
+  done = b.done;
+  counted = b.counted;
+  whole = ap (λ n. b.done + n) (sym (ap count_below step ∙ ap (sum_by (λ c. length (rules c.1))) (skipped_parts name d more other))) ∙ b.whole;
   sound = sym (ap (faulty_inner at) step ∙ skipped at name d more other) ∙ b.sound;
-  each = b.each;
-  ascending = second_so _ _ (sym (ap (λ ms. is_sorted key_cmp (listed ms)) step) ∙ b.ascending);
+  ascending = rest_ascends rest more name d step b.ascending;
 }
 
-all_push : {A : Type 0} (P : A → Type 0) (xs : List A) (y : A) → AllByRecursion P xs → P y → AllByRecursion P (xs ++ y ∷ [])
-all_push P [] y h g = (g, tt)
-all_push P (x ∷ xs) y h g = (h.0, all_push P xs y h.1 g)
-
-books-push : (done : List (Part × Point)) (c : Part × Point) → books (done ++ c ∷ []) ≡ books done ++ (text_of c.0, c.1.book) ∷ []
-books-push [] c = refl
-books-push (x ∷ done) c = ap (λ ps. (text_of x.0, x.1.book) ∷ ps) (books-push done c)
-
-pub built_push : (at : Pattern) (done : List (Part × Point)) (rest more all : Members) (name : PartText) (d : Data) (c : Part × Point) → rest ≡ member name d more → is_part name ≡ true → is_object d ≡ true → text_of c.0 ≡ name → c.1.book ≡ book_of d → IsChild at c → faulty (at ++ name ∷ []) d ≡ [] → Built at done rest all → Built at (done ++ c ∷ []) more all
-built_push at done rest more all name d c step part is_obj text book child none b = record {
-  parts =
-      ap (λ ps. ps ++ parts_of more) (books-push done c)
-      ∙ append_assoc (books done) ((text_of c.0, c.1.book) ∷ []) (parts_of more)
-      ∙ ap (λ ps. books done ++ ps) ((λ i. (text i, book i) ∷ parts_of more) ∙ sym (ap parts_of step ∙ (λ i. cond (part i && is_obj i) ((name, book_of d) ∷ parts_of more) (parts_of more))))
-      ∙ b.parts;
-  sound = sym (ap (faulty_inner at) step ∙ faulty_inner-part at name d more part ∙ ap (λ qs. qs ++ faulty_inner at more) none) ∙ b.sound;
-  each = all_push (IsChild at) done c b.each child;
-  ascending = second_so _ _ (sym (ap (λ ms. is_sorted key_cmp (listed ms)) step) ∙ b.ascending);
-}
+pub counted_more : (at : Pattern) (count own sum : ℕ) (rest more all : Members) (name : PartText) (d : Data) → rest ≡ member name d more → is_part name ≡ true → is_object d ≡ true → own ≡ min (length (rules (texts_of d))) (2 ^ 64 - 1) → sum ≡ min (count + own) (2 ^ 64 - 1) → faulty (at ++ name ∷ []) d ≡ [] → Counted at count rest all → Counted at sum more all
+counted_more at count own sum rest more all name d step part is_obj own_is sum_is none b =
+    let n = length (rules (texts_of d)) in
+    record {
+      done = b.done + n;
+      counted = sum_is ∙ saturated count own b.done n b.counted own_is;
+      whole = omega (arith, ap count_below step ∙ ap (sum_by (λ c. length (rules c.1))) (taken_parts name d more part is_obj) ∙ sum_by-cons (λ c. length (rules c.1)) (name, texts_of d) (parts_of more), b.whole);
+      sound = sym (ap (faulty_inner at) step ∙ faulty_inner-part at name d more part ∙ ap (λ qs. qs ++ faulty_inner at more) none) ∙ b.sound;
+      ascending = rest_ascends rest more name d step b.ascending;
+    }
+  where
+    saturated : (c o x y : ℕ) → c ≡ min x (2 ^ 64 - 1) → o ≡ min y (2 ^ 64 - 1) → min (c + o) (2 ^ 64 - 1) ≡ min (x + y) (2 ^ 64 - 1)
+    saturated c o x y e f = omega (arith, e, f)
 
 -- a refusal below a part is one of all
-pub built_refused : (at : Pattern) (done : List (Part × Point)) (rest more all : Members) (name : PartText) (d : Data) (fault : RulesFault) → rest ≡ member name d more → is_part name ≡ true → Built at done rest all → Names (faulty (at ++ name ∷ []) d) fault → Names (faulty_inner at all) fault
-built_refused at done rest more all name d BadRulesJson step part b h = h
-built_refused at done rest more all name d (BadRulesShape p) step part b h =
+pub counted_refused : (at : Pattern) (count : ℕ) (rest more all : Members) (name : PartText) (d : Data) (fault : RulesFault) → rest ≡ member name d more → is_part name ≡ true → Counted at count rest all → Names (faulty (at ++ name ∷ []) d) fault → Names (faulty_inner at all) fault
+counted_refused at count rest more all name d BadRulesJson step part b h = h
+counted_refused at count rest more all name d (BadRulesShape p) step part b h =
     subst (IsLeast (texts p)) (sym (ap (faulty_inner at) step) ∙ b.sound) (least_below at (texts p) name d more part (sym (ap (λ ms. is_sorted key_cmp (listed ms)) step) ∙ b.ascending) h)
-built_refused at done rest more all name d TooManyRules step part b h = h
-built_refused at done rest more all name d NoMemory step part b h = h
+counted_refused at count rest more all name d TooManyRules step part b h = h
+counted_refused at count rest more all name d (BadRule rule why) step part b h = h
+counted_refused at count rest more all name d NoMemory step part b h = h
 
-pub built_end : (at : Pattern) (done : List (Part × Point)) (rest all : Members) → rest ≡ no_members → Built at done rest all → (books done ≡ parts_of all) × (faulty_inner at all ≡ [])
-built_end at done rest all e b = (sym (append-nil (books done)) ∙ ap (λ ms. books done ++ parts_of ms) (sym e) ∙ b.parts, sym b.sound ∙ ap (faulty_inner at) e)
+pub counted_end : (at : Pattern) (count : ℕ) (rest all : Members) → rest ≡ no_members → Counted at count rest all → (count ≡ min (count_below all) (2 ^ 64 - 1)) × (faulty_inner at all ≡ [])
+counted_end at count rest all e b =
+    let none : count_below rest ≡ 0 = ap count_below e in
+    (b.counted ∙ ap (λ n. min n (2 ^ 64 - 1)) (omega (arith, none, b.whole)), sym b.sound ∙ ap (faulty_inner at) e)
 
 -- ---- what the calls of a turn give
 

@@ -18,8 +18,9 @@ use Rattle.tree_model.proofs.Lookups.{get-empty}
 use Rattle.tree_model.proofs.Existence.{found_at_or_below}
 use Rattle.tree_model.proofs.Grafts.{child_of, spread}
 use Rattle.rules_reader.specs.Part.{PartText, Pattern, is_capture}
-use Rattle.rules_reader.specs.declared.rule.RuleSet.{RuleSet}
-use Rattle.rules_reader.specs.Book.{Book, Rule, rules, stated, stated_count, reads, writes, validates}
+use Rattle.rules_reader.specs.declared.kind.Kind.TheVariants.{Read, Write, Validate}
+use Rattle.expr_types.specs.Checked.{Checked}
+use Rattle.rules_reader.specs.Book.{Stated, BookOf, Book, RuleOf, rules, stated, own_rules, stated_count}
 use Rattle.rules_reader.specs.Node.{grown}
 use Rattle.rules_reader.specs.Place.{HasOneCapture, one_capture_at_most}
 use Rattle.rules_reader.proofs.Books.{sub-grown}
@@ -72,64 +73,61 @@ entries-sorted es h =
     ap map_of.entries (map_of.same_map paths_total exact_paths _ (map_of.from_sorted {R = path_cmp} es) (λ q. map_of.get-from_entries paths_total es q ∙ sym (map_of.get-from_sorted path_cmp es q (subst T (sym h) tt))))
     ∙ map_of.entries-from_sorted path_cmp es (subst T (sym h) tt)
 
-pub entries-grown : (own : RuleSet) (parts : List (PartText × Book)) → is_sorted key_cmp parts ≡ true → map_of.entries (grown own parts) ≡ ([], own) ∷ spread parts
-unfolding grown
-entries-grown own parts h = entries-sorted (([], own) ∷ spread parts) (both_so _ _ (root_first parts) (sorted_spread parts h))
+module _ {A : Type 0} where
+  pub entries-grown : (own : Stated A) (parts : List (PartText × BookOf A)) → is_sorted key_cmp parts ≡ true → map_of.entries (grown own parts) ≡ ([], own) ∷ spread parts
+  unfolding grown
+  entries-grown own parts h = entries-sorted (([], own) ∷ spread parts) (both_so _ _ (root_first parts) (sorted_spread parts h))
 
--- ---- how many rules
+  -- ---- how many rules
 
--- the rules of an entry
-abbrev pub stated_all : Path × RuleSet → List Rule
-stated_all e = stated e.0 reads e.1.read ++ stated e.0 validates e.1.validate ++ stated e.0 writes e.1.write
+  length-own_rules : (e : Path × Stated A) → length (own_rules e) ≡ stated_count e.1
+  length-own_rules e =
+      length-append (stated e.0 Read e.1.read ++ stated e.0 Validate e.1.validate) (stated e.0 Write e.1.write)
+      ∙ ap (λ n. n + length (stated e.0 Write e.1.write)) (length-append (stated e.0 Read e.1.read) (stated e.0 Validate e.1.validate))
+      ∙ same e.1.read e.1.validate e.1.write
+    where
+      same : (a b c : Option A) → (length (stated e.0 Read a) + length (stated e.0 Validate b)) + length (stated e.0 Write c) ≡ length (stated [] Read a) + (length (stated [] Validate b) + length (stated [] Write c))
+      same None None None = refl
+      same None None (Some z) = refl
+      same None (Some y) None = refl
+      same None (Some y) (Some z) = refl
+      same (Some x) None None = refl
+      same (Some x) None (Some z) = refl
+      same (Some x) (Some y) None = refl
+      same (Some x) (Some y) (Some z) = refl
 
-length-stated_all : (e : Path × RuleSet) → length (stated_all e) ≡ stated_count e.1
-length-stated_all e =
-    length-append (stated e.0 reads e.1.read ++ stated e.0 validates e.1.validate) (stated e.0 writes e.1.write)
-    ∙ ap (λ n. n + length (stated e.0 writes e.1.write)) (length-append (stated e.0 reads e.1.read) (stated e.0 validates e.1.validate))
-    ∙ same e.1.read e.1.validate e.1.write
-  where
-    same : (a b c : Option Bool) → (length (stated e.0 reads a) + length (stated e.0 validates b)) + length (stated e.0 writes c) ≡ length (stated [] reads a) + (length (stated [] validates b) + length (stated [] writes c))
-    same None None None = refl
-    same None None (Some z) = refl
-    same None (Some y) None = refl
-    same None (Some y) (Some z) = refl
-    same (Some x) None None = refl
-    same (Some x) None (Some z) = refl
-    same (Some x) (Some y) None = refl
-    same (Some x) (Some y) (Some z) = refl
+  -- the rules of entries, whatever their patterns
+  abbrev count_of : List (Path × Stated A) → ℕ
+  count_of es = length (flat_map own_rules es)
 
--- the rules of entries, whatever their patterns
-abbrev count_of : List (Path × RuleSet) → ℕ
-count_of es = length (flat_map stated_all es)
+  count_of-cons : (e : Path × Stated A) (es : List (Path × Stated A)) → count_of (e ∷ es) ≡ stated_count e.1 + count_of es
+  count_of-cons e es = length-append (own_rules e) (flat_map own_rules es) ∙ ap (λ n. n + count_of es) (length-own_rules e)
 
-count_of-cons : (e : Path × RuleSet) (es : List (Path × RuleSet)) → count_of (e ∷ es) ≡ stated_count e.1 + count_of es
-count_of-cons e es = length-append (stated_all e) (flat_map stated_all es) ∙ ap (λ n. n + count_of es) (length-stated_all e)
+  count_of-append : (es fs : List (Path × Stated A)) → count_of (es ++ fs) ≡ count_of es + count_of fs
+  count_of-append [] fs = omega arith
+  count_of-append (e ∷ es) fs = omega (arith, count_of-cons e (es ++ fs), count_of-cons e es, count_of-append es fs)
 
-count_of-append : (es fs : List (Path × RuleSet)) → count_of (es ++ fs) ≡ count_of es + count_of fs
-count_of-append [] fs = omega arith
-count_of-append (e ∷ es) fs = omega (arith, count_of-cons e (es ++ fs), count_of-cons e es, count_of-append es fs)
+  count_of-under : (k : Key) (es : List (Path × Stated A)) → count_of (under k es) ≡ count_of es
+  count_of-under k [] = refl
+  count_of-under k (e ∷ es) = omega (arith, count_of-cons (k ∷ e.0, e.1) (under k es), count_of-cons e es, count_of-under k es)
 
-count_of-under : (k : Key) (es : List (Path × RuleSet)) → count_of (under k es) ≡ count_of es
-count_of-under k [] = refl
-count_of-under k (e ∷ es) = omega (arith, count_of-cons (k ∷ e.0, e.1) (under k es), count_of-cons e es, count_of-under k es)
+  count_of-spread : (cs : List (Key × BookOf A)) → count_of (spread cs) ≡ sum_by (λ c. count_of (map_of.entries c.1)) cs
+  count_of-spread [] = refl
+  count_of-spread (c ∷ cs) =
+      count_of-append (under c.0 (map_of.entries c.1)) (spread cs)
+      ∙ (λ i. count_of-under c.0 (map_of.entries c.1) i + count_of-spread cs i)
+      ∙ sym (sum_by-cons (λ (d : Key × BookOf A). count_of (map_of.entries d.1)) c cs)
 
-count_of-spread : (cs : List (Key × Book)) → count_of (spread cs) ≡ sum_by (λ c. count_of (map_of.entries c.1)) cs
-count_of-spread [] = refl
-count_of-spread (c ∷ cs) =
-    count_of-append (under c.0 (map_of.entries c.1)) (spread cs)
-    ∙ (λ i. count_of-under c.0 (map_of.entries c.1) i + count_of-spread cs i)
-    ∙ sym (sum_by-cons (λ (d : Key × Book). count_of (map_of.entries d.1)) c cs)
-
-pub length-rules-grown : (own : RuleSet) (parts : List (PartText × Book)) → is_sorted key_cmp parts ≡ true → length (rules (grown own parts)) ≡ stated_count own + sum_by (λ c. length (rules c.1)) parts
-unfolding rules
-length-rules-grown own parts h =
-    ap count_of (entries-grown own parts h)
-    ∙ count_of-cons ([], own) (spread parts)
-    ∙ ap (λ n. stated_count own + n) (count_of-spread parts)
+  pub length-rules-grown : (own : Stated A) (parts : List (PartText × BookOf A)) → is_sorted key_cmp parts ≡ true → length (rules (grown own parts)) ≡ stated_count own + sum_by (λ c. length (rules c.1)) parts
+  unfolding rules
+  length-rules-grown own parts h =
+      ap count_of (entries-grown own parts h)
+      ∙ count_of-cons ([], own) (spread parts)
+      ∙ ap (λ n. stated_count own + n) (count_of-spread parts)
 
 -- ---- captures
 
-exists-empty : (q : Pattern) → exists {X = RuleSet} map_of.empty q ≡ true → ⊥
+exists-empty : (q : Pattern) → exists {X = Stated Checked} map_of.empty q ≡ true → ⊥
 exists-empty q h = let found = found_at_or_below map_of.empty q h in none_is_not_some _ (get-empty (q ++ found.0)) found.1
 
 -- a part below which something exists is among the parts
@@ -170,7 +168,7 @@ short_is_one a b [] ys [] ws zs e f l = let heads : a ∷ ys ≡ b ∷ ws = sym 
 short_is_one a b (x ∷ xs) ys vs ws zs e f l = absurd (omega (arith, ap length e, length-append xs (a ∷ ys)))
 short_is_one a b [] ys (v ∷ vs) ws zs e f l = absurd (omega (arith, ap length f, length-append vs (b ∷ ws)))
 
-pub HasOneCapture-grown : (own : RuleSet) (parts : List (PartText × Book)) → is_sorted key_cmp parts ≡ true → AllByRecursion (λ c. HasOneCapture c.1) parts → one_capture_at_most (names parts) ≡ true → HasOneCapture (grown own parts)
+pub HasOneCapture-grown : (own : Stated Checked) (parts : List (PartText × Book)) → is_sorted key_cmp parts ≡ true → AllByRecursion (λ c. HasOneCapture c.1) parts → one_capture_at_most (names parts) ≡ true → HasOneCapture (grown own parts)
 HasOneCapture-grown own parts sorted each few = record { one = one }
   where
     below : (c : PartText) (q : Pattern) → exists (grown own parts) (c ∷ q) ≡ true → exists (child_of c parts) q ≡ true

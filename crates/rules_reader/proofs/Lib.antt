@@ -14,3 +14,8 @@ pub mod Named
 pub mod Firsts
 pub mod Fronts
 pub mod Cuts
+pub mod RulesBelow
+pub mod Built
+pub mod Unreads
+pub mod CaptureNames
+pub mod Compiled

@@ -17,7 +17,7 @@ use Rattle.tree_model.proofs.Choices.{true_is_not_false, or_right}
 use Rattle.tree_model.proofs.Orders.{paths_total, same_path, bytes_eq-self}
 use Rattle.path_capture.specs.Name.{is_name}
 use Rattle.rules_reader.specs.Part.{PartText, Pattern, is_capture, bare_name, is_part}
-use Rattle.rules_reader.specs.File.{listed, is_object, objects, inner_objects, rule_set, book_of, is_sound, is_sound_member, faulty}
+use Rattle.rules_reader.specs.File.{listed, is_object, objects, inner_objects, rule_texts, texts_of, is_sound, is_sound_member, faulty}
 use Rattle.rules_reader.specs.Working.Inner.{faulty_inner}
 use Rattle.rules_reader.specs.Place.{captures, IsCaptureOf, NamesOnce, HasNamesOnce}
 use Rattle.rules_reader.proofs.Faulty.{faulty_inner-part, faulty_inner-other, faulty-sound, faulty-unsound}
@@ -114,18 +114,18 @@ mutual
         | false ↦ λ p. each_once_inner at ms n (second_so _ _ s) (sym (faulty_inner-other at name d ms p) ∙ h)
       ] refl
 
-stated_once : (p : Pattern) (os : List (Pattern × Members)) → EachOnce [] os → IsSome (find path_cmp p (map (λ o. (o.0, rule_set o.1)) os)) → NamesOnce p
+stated_once : (p : Pattern) (os : List (Pattern × Members)) → EachOnce [] os → IsSome (find path_cmp p (map (λ o. (o.0, rule_texts o.1)) os)) → NamesOnce p
 stated_once p [] h s = absurd (false≢true s)
 stated_once p (o ∷ os) h s =
-    elim (eq_by_cmp path_cmp p o.0) as (λ t. (t ≡ true → p ≡ o.0) → IsSome (cond t (Some (rule_set o.1)) (find path_cmp p (map (λ x. (x.0, rule_set x.1)) os))) → NamesOnce p) [
+    elim (eq_by_cmp path_cmp p o.0) as (λ t. (t ≡ true → p ≡ o.0) → IsSome (cond t (Some (rule_texts o.1)) (find path_cmp p (map (λ x. (x.0, rule_texts x.1)) os))) → NamesOnce p) [
       | true ↦ λ same _. subst NamesOnce (sym (same refl)) h.0
       | false ↦ λ _ g. stated_once p os h.1 g
     ] (same_path p o.0) s
 
 -- in each pattern of a rules file a capture stands once
-pub names_once : (d : Data) → faulty [] d ≡ [] → HasNamesOnce (book_of d)
-unfolding book_of
-names_once d h = record { once = λ p g. stated_once p (objects d) (each_once [] d (λ i j below long. absurd (omega arith)) h) (ap is_some (sym (map_of.get-from_entries paths_total (map (λ o. (o.0, rule_set o.1)) (objects d)) p)) ∙ g) }
+pub names_once : (d : Data) → faulty [] d ≡ [] → HasNamesOnce (texts_of d)
+unfolding texts_of
+names_once d h = record { once = λ p g. stated_once p (objects d) (each_once [] d (λ i j below long. absurd (omega arith)) h) (ap is_some (sym (map_of.get-from_entries paths_total (map (λ o. (o.0, rule_texts o.1)) (objects d)) p)) ∙ g) }
 
 -- ---- the captures of a place
 

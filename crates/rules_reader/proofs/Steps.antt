@@ -21,9 +21,9 @@ use Rattle.tree_model.proofs.Orders.{keys_total, exact_keys, tied_key, same_key,
 use Rattle.tree_model.proofs.Grafts.{find_beyond, child_of}
 use Rattle.path_capture.specs.declared.pattern.Part.{Part}
 use Rattle.path_capture.specs.Name.{is_name}
-use Rattle.rules_reader.specs.declared.rule.RuleSet.{RuleSet}
+use Rattle.expr_types.specs.Checked.{Checked}
 use Rattle.rules_reader.specs.Part.{PartText, Pattern, is_capture}
-use Rattle.rules_reader.specs.Book.{Book}
+use Rattle.rules_reader.specs.Book.{Stated, Book}
 use Rattle.rules_reader.specs.Place.{matches}
 use Rattle.rules_reader.specs.Node.{Point, Steps, NoneMatches, grown, text_of, books, names, IsChild, IsNode, IsCaptureAt}
 use Rattle.rules_reader.specs.Working.Stepped.{points, point_at, first_of, stepped}
@@ -120,7 +120,7 @@ key_is_no_capture (sign ∷ name) h =
 -- ---- one step
 
 -- a point that is found is the child, with the books below its part
-pub steps_to : (own : RuleSet) (at : Pattern) (children : List (Part × Point)) (place : Option ℕ) (key : Key) (p : Point) (text : PartText) → IsNode at children place → find key_cmp text (points children) ≡ Some p → matches (grown own (books children)) [] text key ≡ true
+pub steps_to : (own : Stated Checked) (at : Pattern) (children : List (Part × Point)) (place : Option ℕ) (key : Key) (p : Point) (text : PartText) → IsNode at own children place → find key_cmp text (points children) ≡ Some p → matches (grown own (books children)) [] text key ≡ true
     → Steps (record { at = at; book = grown own (books children) }) key p
 steps_to own at children place key p text n found m =
     let child = found_child at text children p n.each found in
@@ -132,13 +132,13 @@ steps_to own at children place key p text n found m =
       listed = child.2.listed;
     }
 
-no_part : (own : RuleSet) (children : List (Part × Point)) (key : PartText) → is_sorted key_cmp (books children) ≡ true → find key_cmp key (points children) ≡ None → exists (grown own (books children)) (key ∷ []) ≡ false
+no_part : (own : Stated Checked) (children : List (Part × Point)) (key : PartText) → is_sorted key_cmp (books children) ≡ true → find key_cmp key (points children) ≡ None → exists (grown own (books children)) (key ∷ []) ≡ false
 no_part own children key sorted none = not_true _ (λ e.
     let found = exists_found (books children) key [] (ap (λ b. exists b []) (sym (sub-grown own (books children) key sorted)) ∙ exists-below (grown own (books children)) (key ∷ []) [] ∙ e) in
     let is : option_map (λ (q : Point). q.book) None ≡ Some found.0 = ap (option_map (λ q. q.book)) (sym none) ∙ sym (find-books key children) ∙ found.1 in cc)
 
 -- the child of a key
-pub key_steps : (own : RuleSet) (at : Pattern) (children : List (Part × Point)) (place : Option ℕ) (key : Key) (p : Point) → is_key key ≡ true → IsNode at children place → find key_cmp key (points children) ≡ Some p → Steps (record { at = at; book = grown own (books children) }) key p
+pub key_steps : (own : Stated Checked) (at : Pattern) (children : List (Part × Point)) (place : Option ℕ) (key : Key) (p : Point) → is_key key ≡ true → IsNode at own children place → find key_cmp key (points children) ≡ Some p → Steps (record { at = at; book = grown own (books children) }) key p
 key_steps own at children place key p lawful n found = steps_to own at children place key p key n found (ap (λ b. cond b (not (exists (grown own (books children)) (key ∷ []))) (bytes_eq key key)) (key_is_no_capture key lawful) ∙ bytes_eq-self key)
 
 -- the child at a place is found under its text
@@ -164,20 +164,20 @@ at_place (d ∷ children) (suc i) p s c h =
         ] refl
 
 -- the child of the capture
-pub capture_steps : (own : RuleSet) (at : Pattern) (children : List (Part × Point)) (i : ℕ) (key : Key) (p : Point) → IsNode at children (Some i) → find key_cmp key (points children) ≡ None → point_at children (Some i) ≡ Some p → Steps (record { at = at; book = grown own (books children) }) key p
+pub capture_steps : (own : Stated Checked) (at : Pattern) (children : List (Part × Point)) (i : ℕ) (key : Key) (p : Point) → IsNode at own children (Some i) → find key_cmp key (points children) ≡ None → point_at children (Some i) ≡ Some p → Steps (record { at = at; book = grown own (books children) }) key p
 capture_steps own at children i key p n none h =
     let found = at_place children i p (sorted_points children n.ascending) n.capture h in
     steps_to own at children (Some i) key p found.0 n found.1 (ap (λ b. cond b (not (exists (grown own (books children)) (key ∷ []))) (bytes_eq found.0 key)) found.2 ∙ ap not (no_part own children key n.ascending none))
 
 -- where a step leads
-pub stepped_to : (own : RuleSet) (at : Pattern) (children : List (Part × Point)) (place : Option ℕ) (key : Key) (p : Point) → is_key key ≡ true → IsNode at children place → stepped children place key ≡ Some p → Steps (record { at = at; book = grown own (books children) }) key p
+pub stepped_to : (own : Stated Checked) (at : Pattern) (children : List (Part × Point)) (place : Option ℕ) (key : Key) (p : Point) → is_key key ≡ true → IsNode at own children place → stepped children place key ≡ Some p → Steps (record { at = at; book = grown own (books children) }) key p
 stepped_to own at children place key p lawful n h =
     elim (find key_cmp key (points children)) as (λ o. find key_cmp key (points children) ≡ o → first_of o (point_at children place) ≡ Some p → Steps (record { at = at; book = grown own (books children) }) key p) [
       | None ↦ λ none g. by_capture place n none g
       | (Some q) ↦ λ e g. key_steps own at children place key p lawful n (e ∙ g)
     ] refl h
   where
-    by_capture : (o : Option ℕ) → IsNode at children o → find key_cmp key (points children) ≡ None → point_at children o ≡ Some p → Steps (record { at = at; book = grown own (books children) }) key p
+    by_capture : (o : Option ℕ) → IsNode at own children o → find key_cmp key (points children) ≡ None → point_at children o ≡ Some p → Steps (record { at = at; book = grown own (books children) }) key p
     by_capture None m none g = cc
     by_capture (Some i) m none g = capture_steps own at children i key p m none g
 
@@ -203,7 +203,7 @@ first_none : (a b : Option Point) → first_of a b ≡ None → (a ≡ None) × 
 first_none None b h = (refl, h)
 first_none (Some x) b h = cc
 
-pub not_stepped : (own : RuleSet) (at : Pattern) (children : List (Part × Point)) (place : Option ℕ) (key : Key) → IsNode at children place → stepped children place key ≡ None → NoneMatches (grown own (books children)) key
+pub not_stepped : (own : Stated Checked) (at : Pattern) (children : List (Part × Point)) (place : Option ℕ) (key : Key) → IsNode at own children place → stepped children place key ≡ None → NoneMatches (grown own (books children)) key
 not_stepped own at children place key n h part m = not_true _ (λ e.
     let none = first_none _ _ h in
     let found = exists_found (books children) part [] (ap (λ b. exists b []) (sym (sub-grown own (books children) part n.ascending)) ∙ exists-below (grown own (books children)) (part ∷ []) [] ∙ e) in

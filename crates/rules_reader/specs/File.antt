@@ -6,7 +6,7 @@ use Rattle.std.specs.FinMap as map_of
 use Rattle.std.specs.Str.{bytes_eq, is_utf8}
 use Rattle.std.specs.Ordering.{is_gt}
 use Rattle.serde_json.specs.Data.{Data, null, boolean, number, string, array, object, Items, no_items, item, Members, no_members, member}
-use Rattle.serde_json.specs.Find.{get_member, as_bool, as_str, as_object}
+use Rattle.serde_json.specs.Find.{get_member, as_str, as_object}
 use Rattle.serde_json.specs.Read.{read}
 use Rattle.tree_model.specs.declared.limits.TheConstants.{MAX_DEPTH}
 use Rattle.tree_model.specs.Key.{is_key}
@@ -14,8 +14,11 @@ use Rattle.tree_model.specs.Path.{path_cmp}
 use Rattle.tree_model.specs.PathMap.{under}
 use Rattle.rules_reader.specs.Part.{PartText, Pattern, is_capture, is_part}
 use Rattle.rules_reader.specs.declared.limits.TheConstants.{MAX_FILE_BYTES, MAX_RULES}
-use Rattle.rules_reader.specs.declared.rule.RuleSet.{RuleSet}
-use Rattle.rules_reader.specs.Book.{Book, rules}
+use Rattle.rules_reader.specs.declared.fault.RuleFault.{RuleFault}
+use Rattle.rules_reader.specs.Book.{Stated, Book, TextBook, kind_name, rules}
+use Rattle.rules_reader.specs.declared.kind.Kind.{Kind}
+use Rattle.rules_reader.specs.declared.kind.Kind.TheVariants.{Read, Write, Validate}
+use Rattle.rules_reader.specs.Spelled.{IsSpelled, IsFirstBad}
 use Rattle.rules_reader.specs.Plain.{IsPlain}
 
 -- ---- the objects of a file
@@ -39,17 +42,26 @@ abbrev mutual
   inner_objects no_members = []
   inner_objects (member name d ms) = (if is_part name then under name (objects d) else []) ++ inner_objects ms
 
--- what an object states: its `.read`, `.write` and `.validate`. (Reference, rules types.)
-abbrev pub rule_set : Members → RuleSet
-rule_set ms = record {
-  read = option_and_then as_bool (get_member (codes ".read") ms);
-  write = option_and_then as_bool (get_member (codes ".write") ms);
-  validate = option_and_then as_bool (get_member (codes ".validate") ms);
+-- the text of a rule: true and false of JSON are the literals. (Guide "Core syntax", rules types; the booleans: reference, rules types.)
+abbrev pub rule_text : Data → Option (List ℕ)
+rule_text null = None
+rule_text (boolean b) = Some (if b then codes "true" else codes "false")
+rule_text (number n) = None
+rule_text (string s) = Some s
+rule_text (array ds) = None
+rule_text (object ms) = None
+
+-- what an object states, each rule as its text: its `.read`, `.write` and `.validate`. (Reference, rules types.)
+abbrev pub rule_texts : Members → Stated (List ℕ)
+rule_texts ms = record {
+  read = option_and_then rule_text (get_member (kind_name Read) ms);
+  write = option_and_then rule_text (get_member (kind_name Write) ms);
+  validate = option_and_then rule_text (get_member (kind_name Validate) ms);
 }
 
--- what an object and all objects in it state
-unfoldable pub book_of : Data → Book
-book_of d = map_of.from_entries (map (λ o. (o.0, rule_set o.1)) (objects d))
+-- what an object and all objects in it state, each rule as its text
+unfoldable pub texts_of : Data → TextBook
+texts_of d = map_of.from_entries (map (λ o. (o.0, rule_texts o.1)) (objects d))
 
 -- ---- what is wrong with an object
 
@@ -77,10 +89,10 @@ is_index (object ms) = false
 abbrev pub is_rule_name : List ℕ → Bool
 is_rule_name name = list_any (bytes_eq name) (codes ".read" ∷ codes ".write" ∷ codes ".validate" ∷ [])
 
--- a member that may stand in the object at the pattern `at`: a rule that is true or false; an index; or a key or a capture with an object, at most 32 deep, a capture under a name that is none of those above it
+-- a member that may stand in the object at the pattern `at`: a rule that is a text, or true or false; an index; or a key or a capture with an object, at most 32 deep, a capture under a name that is none of those above it
 abbrev pub is_sound_member : Pattern → List ℕ → Data → Bool
 is_sound_member at name d =
-    if is_rule_name name then is_some (as_bool d) else
+    if is_rule_name name then is_some (rule_text d) else
     if bytes_eq name (codes ".indexOn") then is_index d else
     (is_part name && is_object d && nat_lt (length at) MAX_DEPTH && not (is_capture name && list_any (bytes_eq name) at))
 
@@ -122,15 +134,21 @@ pub record IsLeast (p : Pattern) (ps : List Pattern) : Type 0 where
   pub among : Contains ps p
   pub least : AllByRecursion (λ q. is_gt (path_cmp p q) ≡ false) ps
 
--- a lawful rules file, and what it states
-pub record States (bytes : List ℕ) (book : Book) : Type 0 where
+-- a file of the shape of a rules file, and what it states, each rule as its text
+pub record IsShaped (bytes : List ℕ) (texts : TextBook) : Type 0 where
   pub json : Data
   pub reads : ReadsAs bytes (Some json)
   pub under_rules : Data
   pub is_top : top json ≡ Some under_rules
   pub sound : faulty [] under_rules ≡ []
-  pub stated : book ≡ book_of under_rules
-  pub few : length (rules book) ≤ MAX_RULES
+  pub stated : texts ≡ texts_of under_rules
+
+-- a lawful rules file, and what it states: its texts spell expressions that may stand where they do
+pub record States (bytes : List ℕ) (book : Book) : Type 0 where
+  pub texts : TextBook
+  pub shaped : IsShaped bytes texts
+  pub few : length (rules texts) ≤ MAX_RULES
+  pub spelled : IsSpelled [] texts book
 
 -- no JSON value
 abbrev pub IsBadJson : List ℕ → Type 0
@@ -148,9 +166,13 @@ pub record IsBadShape (bytes : List ℕ) (p : Pattern) : Type 0 where
 
 -- a rules file, but for the number of its rules
 pub record HasTooManyRules (bytes : List ℕ) : Type 0 where
-  pub json : Data
-  pub reads : ReadsAs bytes (Some json)
-  pub under_rules : Data
-  pub is_top : top json ≡ Some under_rules
-  pub sound : faulty [] under_rules ≡ []
-  pub many : MAX_RULES < length (rules (book_of under_rules))
+  pub texts : TextBook
+  pub shaped : IsShaped bytes texts
+  pub many : MAX_RULES < length (rules texts)
+
+-- a rules file, but for a rule, the first that is not lawful: by pattern, and at one pattern `.read`, `.validate`, `.write`
+pub record HasBadRule (bytes : List ℕ) (at : Pattern) (kind : Kind) (fault : RuleFault) : Type 0 where
+  pub texts : TextBook
+  pub shaped : IsShaped bytes texts
+  pub few : length (rules texts) ≤ MAX_RULES
+  pub first : IsFirstBad [] (rules texts) at kind fault

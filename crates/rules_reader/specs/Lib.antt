@@ -1,5 +1,6 @@
 pub mod Part
 pub mod Book
+pub mod Spelled
 pub mod Plain
 pub mod File
 pub mod Place

@@ -7,9 +7,11 @@ use Rattle.tree_model.specs.Key.{Key, key_cmp}
 use Rattle.tree_model.specs.PathMap.{sub, exists, under}
 use Rattle.path_capture.specs.declared.pattern.Part.{Part}
 use Rattle.path_capture.specs.Pattern.{part_of, part_text}
-use Rattle.rules_reader.specs.declared.rule.RuleSet.{RuleSet}
 use Rattle.rules_reader.specs.Part.{PartText, Pattern, is_capture}
-use Rattle.rules_reader.specs.Book.{Book, rules, has_validate, book_code}
+use Rattle.rules_reader.specs.Book.{Stated, BookOf, Book, rules, has_validate, stated_for, book_code}
+use Rattle.rules_reader.specs.declared.kind.Kind.{Kind}
+use Rattle.rules_reader.specs.Spelled.{IsLawful}
+use Rattle.expr_types.specs.Checked.{Checked}
 use Rattle.rules_reader.specs.Place.{matches, HasOneCapture, one_capture_at_most}
 
 -- the pattern of an object, and what is stated at and below it, by what is left of the patterns there
@@ -21,7 +23,7 @@ abbrev pub point_code : Coded Point
 point_code = code_by (Pattern × Book) (coded× (coded_list (coded_list coded_ℕ)) book_code) (λ p. (p.at, p.book)) (λ t. record { at = t.0; book = t.1 }) (λ _. refl)
 
 -- the book of an object that states `own`, and whose keys and captures have these books
-unfoldable pub grown : RuleSet → List (PartText × Book) → Book
+unfoldable pub grown : {A : Type 0} → Stated A → List (PartText × BookOf A) → BookOf A
 grown own parts = map_of.from_entries (([], own) ∷ flat_map (λ c. under c.0 (map_of.entries c.1)) parts)
 
 -- one key further down: a part that matches the key, and what is stated at and below it
@@ -46,10 +48,6 @@ text_of part = part_text (part_of part)
 abbrev pub books : List (Part × Point) → List (PartText × Book)
 books children = map (λ c. (text_of c.0, c.1.book)) children
 
--- how many rules are stated at and below the children
-abbrev pub rule_count_below : List (Part × Point) → ℕ
-rule_count_below children = sum_by (λ c. length (rules c.1.book)) children
-
 -- whether a `.validate` is stated at or below one of the children
 abbrev pub validate_below : List (Part × Point) → Bool
 validate_below children = list_any (λ c. has_validate c.1.book) children
@@ -67,8 +65,13 @@ pub record IsChild (at : Pattern) (c : Part × Point) : Type 0 where
 abbrev pub IsCaptureAt : List (Part × Point) → Option ℕ → Type 0
 IsCaptureAt children place = MatchOption place (list_any is_capture (names children) ≡ false) (λ i. option_map (λ c. is_capture (text_of c.0)) (slice_get children i) ≡ Some true)
 
+-- each rule that is stated for this pattern may stand there
+abbrev pub AreLawful : Pattern → Stated Checked → Type 0
+AreLawful at own = (kind : Kind) (checked : Checked) → stated_for kind own ≡ Some checked → IsLawful at kind checked
+
 -- what holds of every node
-pub record IsNode (at : Pattern) (children : List (Part × Point)) (place : Option ℕ) : Type 0 where
+pub record IsNode (at : Pattern) (own : Stated Checked) (children : List (Part × Point)) (place : Option ℕ) : Type 0 where
+  pub lawful : AreLawful at own
   pub ascending : map_of.is_sorted key_cmp (books children) ≡ true
   pub each : AllByRecursion (IsChild at) children
   pub few : one_capture_at_most (names children) ≡ true

@@ -7,14 +7,14 @@ use Rattle.tree_model.specs.Path.{Path}
 use Rattle.tree_model.specs.PathMap.{get, exists, sub}
 use Rattle.path_capture.specs.Name.{is_name}
 use Rattle.rules_reader.specs.Part.{PartText, Pattern, is_capture, bare_name}
-use Rattle.rules_reader.specs.Book.{Book}
+use Rattle.rules_reader.specs.Book.{BookOf}
 
 -- the part after these matches the key: a key matches itself; a capture matches a key only if no pattern of the book has the same parts before it and then that key. (Guide "Core syntax", using $ variables to capture path segments.)
-abbrev pub matches : Book → Pattern → PartText → Key → Bool
+abbrev pub matches : {A : Type 0} → BookOf A → Pattern → PartText → Key → Bool
 matches book before part key = if is_capture part then not (exists book (before ++ key ∷ [])) else bytes_eq part key
 
 -- the pattern p stands at the path: it is a pattern of the book, as long as the path, and each part matches the key at its place
-pub record StandsAt (book : Book) (p : Pattern) (path : Path) : Type 0 where
+pub record StandsAt {A : Type 0} (book : BookOf A) (p : Pattern) (path : Path) : Type 0 where
   pub listed : map_of.contains_key book p ≡ true
   pub long : length p ≡ length path
   pub matched : (i : ℕ) → i < length p → matches book (take i p) (slice_index_or p i []) (slice_index_or path i []) ≡ true
@@ -32,11 +32,11 @@ abbrev pub NamesOnce : Pattern → Type 0
 NamesOnce p = (i j : ℕ) → i < j → j < length p → is_capture (slice_index_or p j []) ≡ true → slice_index_or p i [] ≢ slice_index_or p j []
 
 -- in each pattern of the book a capture stands once
-pub record HasNamesOnce (book : Book) : Type 0 where
+pub record HasNamesOnce {A : Type 0} (book : BookOf A) : Type 0 where
   pub once : (p : Pattern) → map_of.contains_key book p ≡ true → NamesOnce p
 
 -- in each object of the book at most one part is a capture
-pub record HasOneCapture (book : Book) : Type 0 where
+pub record HasOneCapture {A : Type 0} (book : BookOf A) : Type 0 where
   pub one : (before : Pattern) (a b : PartText) → is_capture a ≡ true → is_capture b ≡ true → exists book (before ++ a ∷ []) ≡ true → exists book (before ++ b ∷ []) ≡ true → a ≡ b
 
 -- of these names at most one is a capture

@@ -7,17 +7,20 @@
 
 mod fault;
 mod file;
+mod kind;
 mod limits;
 mod node;
+mod objects;
 mod plain_text;
 mod rule;
+mod rule_text;
 mod rules;
 mod shape;
 
-pub use fault::RulesFault;
+pub use fault::{LeftOut, RuleFault, RuleName, RulesFault};
 pub use file::compile;
+pub use kind::Kind;
 pub use limits::{MAX_FILE_BYTES, MAX_RULES, the_limits};
 pub use node::RuleNode;
 pub use plain_text::{every_file_has_one_plain_text, plain};
-pub use rule::RuleSet;
 pub use rules::Rules;

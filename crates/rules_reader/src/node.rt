@@ -6,12 +6,16 @@ ghost use Rattle.std.specs.FinMap as map_of;
 ghost use Rattle.tree_model.specs.Key.{key_cmp};
 ghost use Rattle.tree_model.specs.PathMap.{get};
 ghost use Rattle.rules_reader.specs.Part.{texts, is_capture};
-ghost use Rattle.rules_reader.specs.Book.{rules, has_validate};
+ghost use Rattle.rules_reader.specs.Book.{rules, has_validate, stated_for};
+ghost use Rattle.rules_reader.specs.Spelled.{IsLawful};
+ghost use Rattle.rules_reader.specs.declared.kind.Kind.TheVariants.{Read, Write, Validate};
 ghost use Rattle.rules_reader.specs.Place.{HasOneCapture, one_capture_at_most};
-ghost use Rattle.rules_reader.specs.Node.{Steps, NoneMatches, IsCaptureAt, IsChild, books, names, grown, text_of, rule_count_below, validate_below};
+ghost use Rattle.rules_reader.specs.Node.{Steps, NoneMatches, IsCaptureAt, IsChild, AreLawful, books, names, grown, text_of, validate_below};
 ghost use Rattle.rules_reader.specs.Working.Stepped.{stepped};
 
+use crate::kind::Kind;
 use crate::rule::RuleSet;
+use expr_types::Checked;
 use json_tree::Key;
 use path_capture::{Part, Pattern};
 use std::marker::Model;
@@ -41,7 +45,7 @@ impl Model for RuleNode {
 
     ghost view = { λ node. record { at = texts node.pattern; book = grown node.rules (books node.children.items) } };
 
-    ghost invariant = { λ node. IsNode (texts node.pattern) node.children.items node.capture };
+    ghost invariant = { λ node. IsNode (texts node.pattern) node.rules node.children.items node.capture };
 
     ghost size = { λ point. depth_of point.book };
 
@@ -53,6 +57,7 @@ impl Model for RuleNode {
 impl RuleNode {
     /// The node of an object at a pattern, with what it states and what is below it.
     pub(crate) fn new(pattern: Pattern, rules: RuleSet, children: Vec<(Part, RuleNode)>) -> RuleNode
+        requires lawful { AreLawful (texts pattern) rules }
         requires ascending { is_sorted key_cmp (books children.items) ≡ true }
         requires each { AllByRecursion (IsChild (texts pattern)) children.items }
         requires few { one_capture_at_most (names children.items) ≡ true }
@@ -86,36 +91,37 @@ impl RuleNode {
         &self.pattern
     }
 
-    /// What `.read` states here, if it does.
-    pub fn read(&self) -> Option<bool>
-        ensures { option_map (λ rules. rules.read) (get self.now.book []) ≡ Some result }
+    /// The rule of a kind that stands here, if one is stated. It may stand here: it was checked for
+    /// such rules, and names only captures of the pattern.
+    pub fn rule(&self, kind: Kind) -> Option<&Checked>
+        ensures stated { option_map (stated_for kind) (get self.now.book []) ≡ Some (option_map (λ rule. rule.now) result) }
+        ensures lawful { IfSome result (λ rule. IsLawful self.now.at kind rule.now) }
     {
-        self.rules.read
+        self.rules.rule(kind)
     }
 
-    /// What `.write` states here, if it does.
-    pub fn write(&self) -> Option<bool>
-        ensures { option_map (λ rules. rules.write) (get self.now.book []) ≡ Some result }
+    /// The `.read` that stands here, if one is stated.
+    pub fn read(&self) -> Option<&Checked>
+        ensures stated { option_map (stated_for Read) (get self.now.book []) ≡ Some (option_map (λ rule. rule.now) result) }
+        ensures lawful { IfSome result (λ rule. IsLawful self.now.at Read rule.now) }
     {
-        self.rules.write
+        self.rule(Kind::Read)
     }
 
-    /// What `.validate` states here, if it does.
-    pub fn validate(&self) -> Option<bool>
-        ensures { option_map (λ rules. rules.validate) (get self.now.book []) ≡ Some result }
+    /// The `.write` that stands here, if one is stated.
+    pub fn write(&self) -> Option<&Checked>
+        ensures stated { option_map (stated_for Write) (get self.now.book []) ≡ Some (option_map (λ rule. rule.now) result) }
+        ensures lawful { IfSome result (λ rule. IsLawful self.now.at Write rule.now) }
     {
-        self.rules.validate
+        self.rule(Kind::Write)
     }
 
-    /// How many rules are stated at and below the node; of more than a `usize` can hold, the
-    /// greatest `usize`. One pass over the nodes, and no memory.
-    #[cycle(rule_count)]
-    pub(crate) fn rule_count(&self) -> usize
-        ensures { result ≡ min (length (rules self.now.book)) usize.MAX }
+    /// The `.validate` that stands here, if one is stated.
+    pub fn validate(&self) -> Option<&Checked>
+        ensures stated { option_map (stated_for Validate) (get self.now.book []) ≡ Some (option_map (λ rule. rule.now) result) }
+        ensures lawful { IfSome result (λ rule. IsLawful self.now.at Validate rule.now) }
     {
-        self.rules
-            .count()
-            .saturating_add(rule_count_of(&self.children))
+        self.rule(Kind::Validate)
     }
 
     /// Whether a `.validate` is stated at or below the node. At most one pass over the nodes, and no
@@ -124,7 +130,7 @@ impl RuleNode {
     pub(crate) fn states_validate(&self) -> bool
         ensures { result ≡ has_validate self.now.book }
     {
-        let here = self.rules.validate.is_some();
+        let here = self.rules.rule(Kind::Validate).is_some();
         here || some_states_validate(&self.children)
     }
 
@@ -136,17 +142,6 @@ impl RuleNode {
     {
         let _children = &self.children;
     }
-}
-
-#[cycle(rule_count)]
-fn rule_count_of(children: &Vec<(Part, RuleNode)>) -> usize
-    ensures { result ≡ min (rule_count_below children.now.items) usize.MAX }
-{
-    let mut count = 0usize;
-    for child in children {
-        count = count.saturating_add(child.1.rule_count());
-    }
-    count
 }
 
 #[cycle(states_validate)]

@@ -1,30 +1,72 @@
 //! The rules of one object of a rules file.
-ghost use Rattle.std.specs.Prelude.{◌≡◌, ◌≤◌, length};
+ghost use Rattle.std.specs.Prelude.{◌≡◌, ◌≤◌, Option, length, option_map};
+ghost use Rattle.expr_types.specs.Checked as checked;
 ghost use Rattle.rules_reader.specs.Part.{Pattern};
-ghost use Rattle.rules_reader.specs.Book.{Kind, stated, stated_count};
+ghost use Rattle.rules_reader.specs.Book.{stated, stated_for, stated_count};
+
+use crate::kind::Kind;
+use expr_types::Checked;
+use std::marker::Model;
 
 /// The rules that stand with one pattern: what `.read`, `.write` and `.validate` state, where they
 /// do. (Reference, rules types.)
-#[derive(Clone, Copy, Debug, PartialEq, Eq)]
-pub struct RuleSet {
-    pub read: Option<bool>,
-    pub write: Option<bool>,
-    pub validate: Option<bool>,
+#[derive(Debug, Drop)]
+pub(crate) struct RuleSet {
+    read: Option<Checked>,
+    write: Option<Checked>,
+    validate: Option<Checked>,
+}
+
+impl Model for RuleSet {
+    ghost use Rattle.expr_types.specs.Checked.{Checked, checked_code};
+    ghost use Rattle.rules_reader.specs.Book.{Stated, stated_code};
+
+    ghost Value = { Stated Checked };
+
+    ghost coded = { stated_code checked_code };
+
+    ghost view = { λ rules. record { read = rules.read; write = rules.write; validate = rules.validate } };
 }
 
 impl RuleSet {
+    /// The set of these rules.
+    pub(crate) fn new(
+        read: Option<Checked>,
+        write: Option<Checked>,
+        validate: Option<Checked>,
+    ) -> RuleSet
+        ensures { result ≡ record { read = read; write = write; validate = validate } }
+    {
+        RuleSet {
+            read,
+            write,
+            validate,
+        }
+    }
+
+    /// The rule of a kind, if it is stated.
+    pub(crate) fn rule(&self, kind: Kind) -> Option<&Checked>
+        ensures { option_map (λ rule. rule.now) result ≡ stated_for kind self.now }
+    {
+        match kind {
+            Kind::Read => self.read.as_ref(),
+            Kind::Write => self.write.as_ref(),
+            Kind::Validate => self.validate.as_ref(),
+        }
+    }
+
     /// How many rules are stated.
-    pub fn count(self) -> usize
-        ensures stated { result ≡ stated_count self }
+    pub(crate) fn count(&self) -> usize
+        ensures stated { result ≡ stated_count self.now }
         ensures few { result ≤ 3 }
     {
-        count_of(self.read) + (count_of(self.validate) + count_of(self.write))
+        count_of(&self.read) + (count_of(&self.validate) + count_of(&self.write))
     }
 }
 
 // One rule, or none.
-fn count_of(rule: Option<bool>) -> usize
-    ensures stated { (at : Pattern) (kind : Kind) → result ≡ length (stated at kind rule) }
+fn count_of(rule: &Option<Checked>) -> usize
+    ensures stated { (at : Pattern) (kind : Kind) → result ≡ length (stated {A = checked.Checked} at kind rule.now) }
     ensures few { result ≤ 1 }
 {
     match rule {

@@ -1,21 +1,119 @@
-//! The shape of a rules file: which members may stand in which object. Nothing here takes memory
-//! but `part`.
-ghost use Rattle.std.specs.Prelude.{◌≡◌, ◌≤◌, nat_le, length, if◌then◌else◌, Some, None, option_map, IfOk};
+//! The shape of a rules file: which members may stand in which object, and how many rules there are.
+ghost use Rattle.std.specs.Prelude.{◌≡◌, ◌≤◌, ◌++◌, [], ◌∷◌, true, min, nat_le, length, if◌then◌else◌, Some, None, option_map, option_and_then, IfOk, OnOk, IfErr};
 ghost use Rattle.std.specs.List.{list_all, list_any};
+ghost use Rattle.std.specs.FinMap.{is_sorted};
 ghost use Rattle.std.specs.Str.{bytes_eq};
 ghost use Rattle.serde_json.specs.View.{view, items_view, members_view};
-ghost use Rattle.rules_reader.specs.Part.{texts, is_capture, is_part};
+ghost use Rattle.serde_json.specs.Data.{Members, object};
+ghost use Rattle.serde_json.specs.Find.{get};
+ghost use Rattle.tree_model.specs.Key.{key_cmp};
+ghost use Rattle.rules_reader.specs.Part.{Pattern as PatternTexts, texts, is_capture, is_part};
+ghost use Rattle.rules_reader.specs.Book.{rules, stated, stated_count, kind_name};
 ghost use Rattle.rules_reader.specs.Node.{text_of};
-ghost use Rattle.rules_reader.specs.File.{listed, is_rule_name, is_index, are_strings, is_sound_member, is_sound, captures_among};
+ghost use Rattle.rules_reader.specs.File.{listed, is_object, rule_text, rule_texts, texts_of, is_rule_name, is_index, are_strings, is_sound_member, is_sound, captures_among, faulty};
+ghost use Rattle.rules_reader.specs.Working.Inner.{parts_of, faulty_inner};
+ghost use Rattle.rules_reader.specs.Working.Read.{rule_count};
+ghost use Rattle.rules_reader.specs.Refusal.{Names};
 
+use crate::fault::RulesFault;
+use crate::kind::Kind;
 use json_tree::{Key, KeyFault, NoMemory, is_lawful_key};
 use path_capture::{CaptureName, NameFault, Part, Pattern, is_name};
 use serde_json::{Map, Value};
 use std::alloc::Global;
 use tree_model::MAX_DEPTH;
 
-/// Whether an object may stand at a pattern.
-pub(crate) fn is_sound(members: &Map<String, Value>, pattern: &Pattern) -> bool
+/// How many rules an object and all in it state, if each of these may stand where it does; of more
+/// than a `usize` can hold, the greatest. An object that may not is refused before any in it, and
+/// these in their order: so the first refused is the least.
+#[cycle(count_rules)]
+pub(crate) fn count_rules(
+    alloc: Global,
+    value: &Value,
+    pattern: Pattern,
+) -> Result<usize, RulesFault>
+    requires { is_object (view value.now) ≡ true }
+    ensures count { IfOk result (λ count. count ≡ min (length (rules (texts_of (view value.now)))) usize.MAX) }
+    ensures sound { OnOk result (faulty (texts pattern) (view value.now) ≡ []) }
+    ensures fault { IfErr result (Names (faulty (texts pattern) (view value.now))) }
+{
+    let Value::Object(members) = value else {
+        unreachable!()
+    };
+    if !is_sound(members, &pattern) {
+        return Err(RulesFault::BadRulesShape(pattern));
+    }
+    let below = count_rules_below(alloc, members, &pattern)?;
+    Ok(own_count(value).saturating_add(below))
+}
+
+// How many rules the keys and captures of an object state.
+#[cycle(count_rules)]
+fn count_rules_below(
+    alloc: Global,
+    members: &Map<String, Value>,
+    pattern: &Pattern,
+) -> Result<usize, RulesFault>
+    ensures count { IfOk result (λ count. count ≡ min (rule_count (parts_of (members_view members.now.entries))) usize.MAX) }
+    ensures ascending { OnOk result (is_sorted key_cmp (parts_of (members_view members.now.entries)) ≡ true) }
+    ensures sound { OnOk result (faulty_inner (texts pattern.now) (members_view members.now.entries) ≡ []) }
+    ensures fault { IfErr result (Names (faulty_inner (texts pattern.now) (members_view members.now.entries))) }
+{
+    let mut count = 0usize;
+    for (name, member) in members.iter() {
+        if !member.is_object() {
+            continue;
+        }
+        let Some(part) = part(alloc, name.as_str())? else {
+            continue;
+        };
+        let longer = below(alloc, pattern, &part)?;
+        count = count.saturating_add(count_rules(alloc, member, longer)?);
+    }
+    Ok(count)
+}
+
+// How many rules an object itself states.
+fn own_count(value: &Value) -> usize
+    ensures stated { (ms : Members) → view value.now ≡ object ms → result ≡ stated_count (rule_texts ms) }
+    ensures few { result ≤ 3 }
+{
+    count_of(value, Kind::Read) + (count_of(value, Kind::Validate) + count_of(value, Kind::Write))
+}
+
+fn count_of(value: &Value, kind: Kind) -> usize
+    ensures stated { (at : PatternTexts) → result ≡ length (stated at kind (option_and_then rule_text (get (kind_name kind) (view value.now)))) }
+    ensures few { result ≤ 1 }
+{
+    match rule_text(value, kind) {
+        Some(_) => 1,
+        None => 0,
+    }
+}
+
+/// The text of a rule that an object states, if it does.
+pub(crate) fn rule_text(value: &Value, kind: Kind) -> Option<&str>
+    ensures { option_map (λ text. text.now) result ≡ option_and_then rule_text (get (kind_name kind) (view value.now)) }
+{
+    match value.get(kind.name())? {
+        Value::String(text) => Some(text.as_str()),
+        Value::Bool(true) => Some("true"),
+        Value::Bool(false) => Some("false"),
+        _ => None,
+    }
+}
+
+/// The pattern one part further down.
+pub(crate) fn below(alloc: Global, pattern: &Pattern, part: &Part) -> Result<Pattern, NoMemory>
+    ensures { IfOk result (λ longer. texts longer ≡ texts pattern.now ++ text_of part.now ∷ []) }
+{
+    let mut longer = pattern.copy()?;
+    longer.push(part.copy(alloc)?)?;
+    Ok(longer)
+}
+
+// Whether an object may stand at a pattern.
+fn is_sound(members: &Map<String, Value>, pattern: &Pattern) -> bool
     ensures { result ≡ is_sound (texts pattern.now) (members_view members.now.entries) }
 {
     has_sound_members(members, pattern) && has_one_capture(members)
@@ -51,7 +149,7 @@ fn is_sound_member(pattern: &Pattern, name: &str, member: &Value) -> bool
     ensures { result ≡ is_sound_member (texts pattern.now) name.now (view member.now) }
 {
     if is_rule_name(name) {
-        return member.is_boolean();
+        return member.is_boolean() || member.is_string();
     }
     if name == ".indexOn" {
         return is_index(member);

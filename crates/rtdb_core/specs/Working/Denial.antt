@@ -1,7 +1,8 @@
 -- Replies that deny, or that want memory in place of it.
 use Rattle.std.specs.Prelude.{◌≡◌, ◌⊎◌}
 use Rattle.tree_model.specs.Path.{Path}
-use Rattle.rules_reader.specs.Book.{Book, reads, writes}
+use Rattle.rules_reader.specs.declared.kind.Kind.TheVariants.{Read as reads, Write as writes}
+use Rattle.rules_reader.specs.Book.{Book}
 use Rattle.rtdb_core.specs.declared.reply.Reply.{Reply}
 use Rattle.rtdb_core.specs.declared.reply.Reply.TheVariants.{Refused}
 use Rattle.rtdb_core.specs.declared.reply.Refusal.TheVariants.{ReadDenied, WriteDenied, NoMemory}

@@ -2,13 +2,13 @@
 use Rattle.std.specs.Prelude.{◌&&◌, ◌++◌, List, [], ◌∷◌, map, filter, not, if◌then◌else◌}
 use Rattle.serde_json.specs.Data.{Members, no_members, member}
 use Rattle.rules_reader.specs.Part.{PartText, Pattern, is_part}
-use Rattle.rules_reader.specs.Book.{Book}
-use Rattle.rules_reader.specs.File.{is_object, book_of, inner_objects, is_sound}
+use Rattle.rules_reader.specs.Book.{TextBook}
+use Rattle.rules_reader.specs.File.{is_object, texts_of, inner_objects, is_sound}
 
--- the keys and captures of an object, each with its book
-abbrev pub parts_of : Members → List (PartText × Book)
+-- the keys and captures of an object, each with what is stated at and below it
+abbrev pub parts_of : Members → List (PartText × TextBook)
 parts_of no_members = []
-parts_of (member name d ms) = if is_part name && is_object d then (name, book_of d) ∷ parts_of ms else parts_of ms
+parts_of (member name d ms) = if is_part name && is_object d then (name, texts_of d) ∷ parts_of ms else parts_of ms
 
 -- the faulty patterns among these objects, which stand below `at`
 abbrev pub faulty_among : Pattern → List (Pattern × Members) → List Pattern

@@ -4,7 +4,7 @@ use Rattle.std.proofs.Common.{arith}
 use denote.Param.Weighed.{most}
 use Rattle.tree_model.specs.PathMap.{depth, greatest}
 use Rattle.path_capture.specs.declared.pattern.Part.{Part}
-use Rattle.rules_reader.specs.declared.rule.RuleSet.{RuleSet}
+use Rattle.expr_types.specs.Checked.{Checked}
 use Rattle.rules_reader.specs.Part.{Pattern}
 use Rattle.rules_reader.specs.Node.{Point, grown, books, IsChild, IsNode}
 use Rattle.tree_model.proofs.Existence.{not_null_from_path}
@@ -22,19 +22,19 @@ use Rattle.tree_model.proofs.Orders.{paths_total}
 use Rattle.tree_model.proofs.Existence.{length-le-depth}
 use Rattle.tree_model.proofs.Grafts.{child_of, spread, find-spread, each_depth}
 use Rattle.rules_reader.specs.Part.{PartText}
-use Rattle.rules_reader.specs.Book.{Book}
+use Rattle.rules_reader.specs.Book.{Stated, BookOf}
 
 -- the object itself states what it states
-pub get-grown-root : (own : RuleSet) (parts : List (PartText × Book)) → get (grown own parts) [] ≡ Some own
+pub get-grown-root : {A : Type 0} (own : Stated A) (parts : List (PartText × BookOf A)) → get (grown own parts) [] ≡ Some own
 unfolding grown
 get-grown-root own parts = map_of.get-from_entries paths_total (([], own) ∷ spread parts) []
 
 -- below a part, what the book of that part has
-pub get-grown : (own : RuleSet) (parts : List (PartText × Book)) (part : PartText) (q : Pattern) → is_sorted key_cmp parts ≡ true → get (grown own parts) (part ∷ q) ≡ get (child_of part parts) q
+pub get-grown : {A : Type 0} (own : Stated A) (parts : List (PartText × BookOf A)) (part : PartText) (q : Pattern) → is_sorted key_cmp parts ≡ true → get (grown own parts) (part ∷ q) ≡ get (child_of part parts) q
 unfolding grown
 get-grown own parts part q h = map_of.get-from_entries paths_total (([], own) ∷ spread parts) (part ∷ q) ∙ find-spread part q parts h
 
-pub depth-grown : (own : RuleSet) (parts : List (PartText × Book)) → is_sorted key_cmp parts ≡ true → AllByRecursion (λ c. c.1 ≢ map_of.empty) parts → greatest (map (λ c. depth c.1 + 1) parts) ≤ depth (grown own parts)
+pub depth-grown : {A : Type 0} (own : Stated A) (parts : List (PartText × BookOf A)) → is_sorted key_cmp parts ≡ true → AllByRecursion (λ c. c.1 ≢ map_of.empty) parts → greatest (map (λ c. depth c.1 + 1) parts) ≤ depth (grown own parts)
 depth-grown own parts sorted each = each_depth (depth (grown own parts)) parts sorted each (λ k q h. let le = length-le-depth (grown own parts) (k ∷ q) (ap is_some (get-grown own parts k q sorted) ∙ h) in omega arith)
 
 most_le-greatest : (cs : List (Part × Point)) → most (weighed-RuleNode-children-at-2.weight RuleNode (λ y. depth y.book + 1)) cs ≤ greatest (map (λ c. depth c.1 + 1) (books cs))
@@ -45,5 +45,5 @@ listed_not_empty : (at : Pattern) (children : List (Part × Point)) → AllByRec
 listed_not_empty at [] h = tt
 listed_not_empty at (c ∷ cs) h = (not_null_from_path c.1.book [] h.0.listed, listed_not_empty at cs h.1)
 
-pub falls : (own : RuleSet) (at : Pattern) (children : List (Part × Point)) (place : Option ℕ) → IsNode at children place → max (most (weighed-RuleNode-children-at-2.weight RuleNode (λ y. depth y.book + 1)) children) 0 ≤ depth (grown own (books children))
+pub falls : (own : Stated Checked) (at : Pattern) (children : List (Part × Point)) (place : Option ℕ) → IsNode at own children place → max (most (weighed-RuleNode-children-at-2.weight RuleNode (λ y. depth y.book + 1)) children) 0 ≤ depth (grown own (books children))
 falls own at children place h = omega (arith, most_le-greatest children, depth-grown own (books children) h.ascending (listed_not_empty at children h.each))

@@ -1,0 +1,92 @@
+//! From the text of a rule to its expression.
+ghost use Rattle.std.specs.Prelude.{◌≡◌, [], option_and_then, IfOk, IfErr};
+ghost use Rattle.serde_json.specs.View.{view};
+ghost use Rattle.serde_json.specs.Find.{get};
+ghost use Rattle.path_capture.specs.Captures.{names};
+ghost use Rattle.rules_reader.specs.Part.{Pattern as PatternTexts, texts};
+ghost use Rattle.rules_reader.specs.Book.{stated, kind_name};
+ghost use Rattle.rules_reader.specs.Spelled.{capture_names, SpellsRule, SpellsOptional};
+ghost use Rattle.rules_reader.specs.File.{rule_text};
+ghost use Rattle.rules_reader.specs.Refusal.{Blames};
+ghost use Rattle.rules_reader.specs.Working.Unread.{Stops, of_expr_fault, of_type_fault};
+
+use crate::fault::{LeftOut, RuleFault, RuleName, RulesFault};
+use crate::kind::Kind;
+use crate::shape::rule_text;
+use expr_parser::{ExprFault, parse};
+use expr_types::{Checked, TypeFault, check};
+use path_capture::{Captures, Pattern};
+use serde_json::Value;
+use std::alloc::Global;
+
+// The rule of a kind that an object at a pattern states, if it does; the captures are those of the
+// pattern.
+pub(crate) fn rule(
+    alloc: Global,
+    value: &Value,
+    kind: Kind,
+    pattern: &Pattern,
+    captures: &Captures,
+) -> Result<Option<Checked>, RulesFault>
+    requires { names captures.now ≡ capture_names (texts pattern.now) }
+    ensures spelled { IfOk result (SpellsOptional (texts pattern.now) kind (option_and_then rule_text (get (kind_name kind) (view value.now)))) }
+    ensures fault { IfErr result (Blames (texts pattern.now) (stated [] kind (option_and_then rule_text (get (kind_name kind) (view value.now))))) }
+{
+    let Some(text) = rule_text(value, kind) else {
+        return Ok(None);
+    };
+    match checked(alloc, text, kind, captures) {
+        Ok(rule) => Ok(Some(rule)),
+        Err(Unread::NoMemory) => Err(RulesFault::NoMemory),
+        Err(Unread::NoRule(fault)) => {
+            let pattern = pattern.copy()?;
+            Err(RulesFault::BadRule(RuleName { pattern, kind }, fault))
+        }
+    }
+}
+
+// Why a text was not read as a rule.
+#[derive(Drop)]
+pub(crate) enum Unread {
+    NoRule(RuleFault),
+    NoMemory,
+}
+
+impl From<ExprFault> for Unread {
+    ghost from_gives = { λ fault unread. unread ≡ of_expr_fault fault };
+
+    fn from(fault: ExprFault) -> Unread {
+        match fault {
+            ExprFault::BadExpression { byte } => Unread::NoRule(RuleFault::BadExpression { byte }),
+            ExprFault::NotInProfile(excluded) => {
+                Unread::NoRule(RuleFault::NotInProfile(LeftOut::Sign(excluded)))
+            }
+            ExprFault::NoMemory => Unread::NoMemory,
+        }
+    }
+}
+
+impl From<TypeFault> for Unread {
+    ghost from_gives = { λ fault unread. unread ≡ of_type_fault fault };
+
+    fn from(fault: TypeFault) -> Unread {
+        match fault {
+            TypeFault::NotInProfile(name) => {
+                Unread::NoRule(RuleFault::NotInProfile(LeftOut::Name(name)))
+            }
+            TypeFault::TypeError => Unread::NoRule(RuleFault::TypeError),
+            TypeFault::UnknownName(name) => Unread::NoRule(RuleFault::UnknownName(name)),
+            TypeFault::NoMemory => Unread::NoMemory,
+        }
+    }
+}
+
+// The expression that a text spells, which may stand in a rule of this kind below these captures.
+fn checked(alloc: Global, text: &str, kind: Kind, captures: &Captures) -> Result<Checked, Unread>
+    ensures spelled { IfOk result (λ rule. (at : PatternTexts) → names captures.now ≡ capture_names at → SpellsRule at kind text.now rule) }
+    ensures fault { IfErr result (λ unread. (at : PatternTexts) → names captures.now ≡ capture_names at → Stops at kind text.now unread) }
+{
+    let expr = parse(alloc, text)?;
+    let rule = check(alloc, expr, kind.place(), captures)?;
+    Ok(rule)
+}
