@@ -1,5 +1,5 @@
 -- What a command prints, and the status that it ends with. (This project's profile.)
-use Rattle.std.specs.Prelude.{◌≡◌, ℕ, ◌⊎◌, Bool, List, [], length, Option, Result, Ok, Err, IfSome}
+use Rattle.std.specs.Prelude.{◌≡◌, ℕ, ◌⊎◌, Bool, true, List, [], length, Option, None, Result, Ok, Err, IfSome}
 use Rattle.std.specs.Io.KnownBytes.{Appends, Consumes}
 use Rattle.rules_reader.specs.declared.fault.RulesFault.{RulesFault}
 use Rattle.rules_reader.specs.Book.{Book, rules}
@@ -45,11 +45,19 @@ pub record Streams : Type 0 where
   pub after : Option (List ℕ)
   pub has_failed : Bool
 
--- a file was checked, whose bytes are these where they are known; or it could not be read, the output or memory failed
-abbrev pub HasChecked : Option (List ℕ) → Option (List ℕ) → Option (List ℕ) → ℕ → Type 0
-HasChecked known before after status =
-    ((bytes out : List ℕ) × IfSome known (λ it. bytes ≡ it) × Appends before after out × IsChecked bytes out status)
-    ⊎ ((status ≡ failed) ⊎ ((status ≡ no_memory) × Appends before after []))
+-- a file was checked, whose bytes are these where they are known
+abbrev pub IsAnswered : Option (List ℕ) → Streams → ℕ → Type 0
+IsAnswered known streams status = (bytes out : List ℕ) × IfSome known (λ it. bytes ≡ it) × Appends streams.before streams.after out × IsChecked bytes out status
+
+-- a file was not checked: its bytes are not known, and it could not be read; or the output has failed; or memory was wanted
+abbrev pub IsUnanswered : Option (List ℕ) → Streams → ℕ → Type 0
+IsUnanswered known streams status =
+    ((status ≡ failed) × (known ≡ None) × Appends streams.before streams.after [])
+    ⊎ (((status ≡ failed) × (streams.has_failed ≡ true)) ⊎ ((status ≡ no_memory) × Appends streams.before streams.after []))
+
+-- a file was checked, or there is a reason why not
+abbrev pub HasChecked : Option (List ℕ) → Streams → ℕ → Type 0
+HasChecked known streams status = IsAnswered known streams status ⊎ IsUnanswered known streams status
 
 -- a script was run, to an end that the status names
 abbrev pub HasRun : Streams → ℕ → Type 0
@@ -59,5 +67,5 @@ HasRun streams status =
 
 -- what was wanted is done
 abbrev pub HasDone : (List ℕ → Option (List ℕ)) → Wanted → Streams → ℕ → Type 0
-HasDone known (checks name) streams status = HasChecked (known name) streams.before streams.after status
+HasDone known (checks name) streams status = HasChecked (known name) streams status
 HasDone known runs streams status = HasRun streams status

@@ -12,7 +12,7 @@ use std::test::Fail;
 #[derive(Clone, Copy)]
 struct Shelf;
 
-const SHELF: [(&str, &[u8]); 4] = [
+const SHELF: [(&str, &[u8]); 8] = [
     (
         "good",
         b"// all of it\n{\"rules\":{\".read\":true,\"a\":{\".write\":/**/true}}}",
@@ -20,6 +20,16 @@ const SHELF: [(&str, &[u8]); 4] = [
     ("no_json", b"{\"rules\":{}}/*"),
     ("bad_shape", b"{\"rules\":{\"a\":{\"$b\":{\".read\":1}}}}"),
     ("validates", b"{\"rules\":{\".validate\":true}}"),
+    ("unfinished", b"{\"rules\":{\"a\":{\".write\":\"1 +\"}}}"),
+    (
+        "left_out",
+        b"{\"rules\":{\".read\":\"data.val().matches('x')\"}}",
+    ),
+    (
+        "other_sort",
+        b"{\"rules\":{\"$a\":{\".validate\":\"data == null\"}}}",
+    ),
+    ("unknown", b"{\"rules\":{\".read\":\"$x == 'a'\"}}"),
 ];
 
 impl Files for Shelf {
@@ -76,7 +86,7 @@ type Row = (
     u8,
 );
 
-const ROWS: [Row; 15] = [
+const ROWS: [Row; 19] = [
     (
         &[],
         SCRIPT,
@@ -138,6 +148,38 @@ const ROWS: [Row; 15] = [
         b"",
         100,
         "{\"at\":\"/a/$b\",\"code\":402,\"name\":\"BadRulesShape\",\"ok\":false}\n",
+        "",
+        1,
+    ),
+    (
+        &["check", "unfinished"],
+        b"",
+        200,
+        "{\"at\":\"/a\",\"byte\":3,\"code\":403,\"name\":\"BadExpression\",\"ok\":false,\"rule\":\".write\"}\n",
+        "",
+        1,
+    ),
+    (
+        &["check", "left_out"],
+        b"",
+        200,
+        "{\"at\":\"/\",\"code\":404,\"name\":\"NotInProfile\",\"ok\":false,\"rule\":\".read\",\"what\":\"matches\"}\n",
+        "",
+        1,
+    ),
+    (
+        &["check", "other_sort"],
+        b"",
+        200,
+        "{\"at\":\"/$a\",\"code\":405,\"name\":\"TypeError\",\"ok\":false,\"rule\":\".validate\"}\n",
+        "",
+        1,
+    ),
+    (
+        &["check", "unknown"],
+        b"",
+        200,
+        "{\"at\":\"/\",\"code\":406,\"name\":\"UnknownName\",\"ok\":false,\"rule\":\".read\",\"what\":\"$x\"}\n",
         "",
         1,
     ),

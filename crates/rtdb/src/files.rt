@@ -1,5 +1,5 @@
 //! Where the program's files are read from.
-ghost use Rattle.std.specs.Prelude.{◌≡◌, ℕ, List, Option, None, IfOk, IfSome};
+ghost use Rattle.std.specs.Prelude.{◌≡◌, ℕ, List, Option, None, IfOk, IfSome, IsErrOf};
 
 use std::alloc::Global;
 use std::{fs, io};
@@ -19,7 +19,9 @@ pub trait Files {
 
     /// All bytes of a file.
     fn read(&self, alloc: Global, name: &str) -> Result<Vec<u8>, ReadFault>
-        ensures { IfOk result (λ found. IfSome (bytes self.now name.now) (λ known. found.items ≡ known)) };
+        ensures known { IfOk result (λ found. IfSome (bytes self.now name.now) (λ known. found.items ≡ known)) }
+        // A file whose bytes are known is read, where memory suffices.
+        ensures unreadable { IsErrOf result (ReadFault.Unreadable) → bytes self.now name.now ≡ None };
 }
 
 /// The files of the system, whose bytes no contract knows.

@@ -1,5 +1,5 @@
 -- What a rules file states, as a flat map: the patterns of its objects, each with the rules that stand there.
-use Rattle.std.specs.Prelude.{ℕ, ◌+◌, List, [], ◌∷◌, ◌++◌, Bool, true, false, length, codes, Option, Some, None, flat_map, refl}
+use Rattle.std.specs.Prelude.{ℕ, ◌+◌, List, [], ◌∷◌, ◌++◌, Bool, true, false, not, ◌||◌, length, codes, Option, Some, None, is_some, flat_map, refl}
 use Rattle.std.specs.List.{list_any}
 use Rattle.std.specs.FinMap as map_of
 use Rattle.std.specs.Coded.{Coded, code_by, coded×, coded_ℕ, coded_list, coded_option}
@@ -7,6 +7,7 @@ use Rattle.tree_model.specs.PathMap.{PathMap}
 use Rattle.rules_reader.specs.Part.{Pattern}
 use Rattle.rules_reader.specs.declared.kind.Kind.{Kind}
 use Rattle.rules_reader.specs.declared.kind.Kind.TheVariants.{Read, Write, Validate}
+use Rattle.expr_parser.specs.Tree as t
 use Rattle.expr_types.specs.Checked.{Checked, checked_code}
 
 -- what an object states for each kind of rule: its `.read`, its `.write` and its `.validate`, where it does. (Reference, rules types.)
@@ -64,9 +65,28 @@ is_validate Read = false
 is_validate Write = false
 is_validate Validate = true
 
--- whether a rule of the file is a `.validate`
-abbrev pub has_validate : {A : Type 0} → BookOf A → Bool
-has_validate b = list_any (λ rule. is_validate rule.1) (rules b)
+-- the literals true and false
+abbrev pub is_literal : t.Tree → Bool
+is_literal t.True = true
+is_literal t.False = true
+is_literal _ = false
+
+-- a rule that is not judged yet: a `.validate`, or one that is neither the literal true nor the literal false
+abbrev pub is_unjudged : RuleOf Checked → Bool
+is_unjudged rule = is_validate rule.1 || not (is_literal rule.2.tree)
+
+-- whether a rule of the file is not judged yet
+abbrev pub has_unjudged : Book → Bool
+has_unjudged b = list_any is_unjudged (rules b)
+
+-- whether a rule, if there is one, is more than a literal
+abbrev pub is_more : Option Checked → Bool
+is_more None = false
+is_more (Some rule) = not (is_literal rule.tree)
+
+-- whether an object states a rule that is not judged yet
+abbrev pub own_unjudged : Stated Checked → Bool
+own_unjudged s = is_more s.read || is_some s.validate || is_more s.write
 
 -- how many rules an object states
 abbrev pub stated_count : {A : Type 0} → Stated A → ℕ

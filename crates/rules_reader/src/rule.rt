@@ -2,9 +2,10 @@
 ghost use Rattle.std.specs.Prelude.{◌≡◌, ◌≤◌, Option, length, option_map};
 ghost use Rattle.expr_types.specs.Checked as checked;
 ghost use Rattle.rules_reader.specs.Part.{Pattern};
-ghost use Rattle.rules_reader.specs.Book.{stated, stated_for, stated_count};
+ghost use Rattle.rules_reader.specs.Book.{stated, stated_for, stated_count, is_literal, is_more, own_unjudged};
 
 use crate::kind::Kind;
+use expr_parser::Expr;
 use expr_types::Checked;
 use std::marker::Model;
 
@@ -55,6 +56,13 @@ impl RuleSet {
         }
     }
 
+    /// Whether a rule is stated that is not judged yet.
+    pub(crate) fn states_unjudged(&self) -> bool
+        ensures { result ≡ own_unjudged self.now }
+    {
+        is_more(&self.read) || self.validate.is_some() || is_more(&self.write)
+    }
+
     /// How many rules are stated.
     pub(crate) fn count(&self) -> usize
         ensures stated { result ≡ stated_count self.now }
@@ -62,6 +70,22 @@ impl RuleSet {
     {
         count_of(&self.read) + (count_of(&self.validate) + count_of(&self.write))
     }
+}
+
+// Whether there is a rule that is neither the literal true nor the literal false.
+fn is_more(rule: &Option<Checked>) -> bool
+    ensures { result ≡ is_more rule.now }
+{
+    match rule {
+        Some(checked) => !is_literal(checked),
+        None => false,
+    }
+}
+
+fn is_literal(rule: &Checked) -> bool
+    ensures { result ≡ is_literal rule.now.tree }
+{
+    matches!(rule.expr(), Expr::True | Expr::False)
 }
 
 // One rule, or none.

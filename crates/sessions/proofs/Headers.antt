@@ -4,7 +4,7 @@ use Rattle.serde_json.specs.Data.{Data}
 use Rattle.path_capture.specs.Pattern as parts
 use Rattle.rules_reader.specs.declared.fault.RulesFault.{RulesFault}
 use Rattle.rules_reader.specs.declared.fault.RulesFault.TheVariants.{BadRulesShape}
-use Rattle.rules_reader.specs.Book.{Book, has_validate}
+use Rattle.rules_reader.specs.Book.{Book, has_unjudged}
 use Rattle.rules_reader.specs.File.{States}
 use Rattle.rules_reader.specs.Refusal.{Refuses}
 use Rattle.sessions.specs.Message.{value_of, header_of, rules_text, or_fault, unless_fault}
@@ -16,9 +16,9 @@ pub text_in : (line : List ℕ) (d : Data) (text : List ℕ) → value_of line �
 unfolding rules_text
 text_in line d text v h = ap (λ r. unless_fault r (λ e. or_fault BadRequest (header_of e))) v ∙ ap (or_fault BadRequest) (sym h)
 
--- a file that states a `.validate`
-pub validates_refused : (bytes text : List ℕ) (book : Book) (at : parts.Pattern) → bytes ≡ text → States bytes book → true ≡ has_validate book → at ≡ [] → IsRefusedFile text (BadRulesShape at)
-validates_refused bytes text book at e s v r = inr (book, subst (λ (t : List ℕ). States t book) e s, sym v, ap BadRulesShape r)
+-- a file that states a rule that is not judged yet
+pub unjudged_refused : (bytes text : List ℕ) (book : Book) (at : parts.Pattern) → bytes ≡ text → States bytes book → true ≡ has_unjudged book → at ≡ [] → IsRefusedFile text (BadRulesShape at)
+unjudged_refused bytes text book at e s v r = inr (book, subst (λ (t : List ℕ). States t book) e s, sym v, ap BadRulesShape r)
 
 pub faults_refused : (bytes text : List ℕ) (fault : RulesFault) → bytes ≡ text → Refuses bytes fault → IsRefusedFile text fault
 faults_refused bytes text fault e r = inl (subst (λ (t : List ℕ). Refuses t fault) e r)

@@ -15,12 +15,15 @@ use Rattle.json_tree.specs.Json.{data_of, members_of, object_of, value_within, v
 use Rattle.path_capture.specs.Write.{tree_or_null}
 use Rattle.rules_reader.specs.declared.fault.RulesFault.{RulesFault}
 use Rattle.rules_reader.specs.declared.fault.RulesFault.TheVariants as rules_faults
+use Rattle.rules_reader.specs.declared.fault.RuleFault.{RuleFault}
+use Rattle.rules_reader.specs.declared.fault.RuleFault.TheVariants as rule_faults
+use Rattle.rules_reader.specs.declared.fault.RuleName.{RuleName}
 use Rattle.rtdb_core.specs.declared.reply.Named.{Named}
 use Rattle.rtdb_core.specs.declared.reply.Reply.{Reply}
 use Rattle.rtdb_core.specs.declared.reply.Reply.TheVariants.{Done, Value, Refused}
 use Rattle.rtdb_core.specs.declared.reply.Refusal.{Refusal}
 use Rattle.rtdb_core.specs.declared.reply.Refusal.TheVariants as refusals
-use Rattle.sessions.specs.AnswerText.{named_data, items_of, refusal_data, reply_data, rules_fault_data, text}
+use Rattle.sessions.specs.AnswerText.{named_data, items_of, refusal_data, reply_data, rule_fault_data, rules_fault_data, text}
 
 -- ---- no answer has a float
 
@@ -74,10 +77,17 @@ reply_is_no_float Done = refl
 reply_is_no_float (Value tree) = or_false _ false (tree_is_no_float (tree_or_null tree)) refl
 reply_is_no_float (Refused refusal) = refusal_is_no_float refusal
 
+rule_fault_is_no_float : (rule : RuleName) (fault : RuleFault) → has_float (rule_fault_data rule fault) ≡ false
+rule_fault_is_no_float rule (rule_faults.BadExpression byte) = refl
+rule_fault_is_no_float rule (rule_faults.NotInProfile left_out) = refl
+rule_fault_is_no_float rule rule_faults.TypeError = refl
+rule_fault_is_no_float rule (rule_faults.UnknownName name) = refl
+
 pub rules_fault_is_no_float : (fault : RulesFault) → has_float (rules_fault_data fault) ≡ false
 rules_fault_is_no_float rules_faults.BadRulesJson = refl
 rules_fault_is_no_float (rules_faults.BadRulesShape pattern) = refl
 rules_fault_is_no_float rules_faults.TooManyRules = refl
+rules_fault_is_no_float (rules_faults.BadRule rule fault) = rule_fault_is_no_float rule fault
 rules_fault_is_no_float rules_faults.NoMemory = refl
 
 -- what is written of a value that is known

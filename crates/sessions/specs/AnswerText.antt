@@ -9,6 +9,11 @@ use Rattle.path_capture.specs.Pattern.{printed_pattern}
 use Rattle.path_capture.specs.Write.{tree_or_null}
 use Rattle.rules_reader.specs.declared.fault.RulesFault.{RulesFault}
 use Rattle.rules_reader.specs.declared.fault.RulesFault.TheVariants as rules_faults
+use Rattle.rules_reader.specs.declared.fault.RuleFault.{RuleFault}
+use Rattle.rules_reader.specs.declared.fault.RuleFault.TheVariants as rule_faults
+use Rattle.rules_reader.specs.declared.fault.RuleName.{RuleName}
+use Rattle.rules_reader.specs.Book.{kind_name}
+use Rattle.rules_reader.specs.Refusal.{left_out_name}
 use Rattle.sessions.specs.declared.code.Code.{Code}
 use Rattle.sessions.specs.declared.code.Code.TheVariants as code
 use Rattle.sessions.specs.declared.message.MessageFault.{MessageFault}
@@ -35,6 +40,10 @@ number_of code.SessionOpen = 203
 number_of code.TooManySessions = 204
 number_of code.BadRulesJson = 401
 number_of code.BadRulesShape = 402
+number_of code.BadExpression = 403
+number_of code.NotInProfile = 404
+number_of code.TypeError = 405
+number_of code.UnknownName = 406
 number_of code.TooManyRules = 407
 number_of code.ReadDenied = 501
 number_of code.WriteDenied = 502
@@ -52,6 +61,10 @@ name_of code.SessionOpen = codes "SessionOpen"
 name_of code.TooManySessions = codes "TooManySessions"
 name_of code.BadRulesJson = codes "BadRulesJson"
 name_of code.BadRulesShape = codes "BadRulesShape"
+name_of code.BadExpression = codes "BadExpression"
+name_of code.NotInProfile = codes "NotInProfile"
+name_of code.TypeError = codes "TypeError"
+name_of code.UnknownName = codes "UnknownName"
 name_of code.TooManyRules = codes "TooManyRules"
 name_of code.ReadDenied = codes "ReadDenied"
 name_of code.WriteDenied = codes "WriteDenied"
@@ -126,10 +139,37 @@ message_code message_faults.NoMemory = code.NoMemory
 unfoldable pub fault_text : MessageFault → List ℕ
 fault_text fault = compact_text (plain_data (message_code fault))
 
+-- the pattern of a rule
+abbrev pub pattern_data : RuleName → Data
+pattern_data rule = string (printed_pattern rule.pattern)
+
+-- which of the rules there, and what else is said of it
+abbrev pub rule_members : RuleName → Members → Members
+rule_members rule after = member (codes "rule") (string (kind_name rule.kind)) after
+
+-- a refusal for a rule
+abbrev pub rule_data : RuleName → Code → Data
+rule_data rule c = object (member (codes "at") (pattern_data rule) (refusal_members c (rule_members rule no_members)))
+
+-- a refusal for a byte of a rule's text
+abbrev pub byte_data : RuleName → Code → ℕ → Data
+byte_data rule c byte = object (member (codes "at") (pattern_data rule) (member (codes "byte") (number (unsigned byte)) (refusal_members c (rule_members rule no_members))))
+
+-- a refusal for a name in a rule
+abbrev pub what_data : RuleName → Code → List ℕ → Data
+what_data rule c what = object (member (codes "at") (pattern_data rule) (refusal_members c (rule_members rule (member (codes "what") (string what) no_members))))
+
+abbrev pub rule_fault_data : RuleName → RuleFault → Data
+rule_fault_data rule (rule_faults.BadExpression byte) = byte_data rule code.BadExpression byte
+rule_fault_data rule (rule_faults.NotInProfile left_out) = what_data rule code.NotInProfile (left_out_name left_out)
+rule_fault_data rule rule_faults.TypeError = rule_data rule code.TypeError
+rule_fault_data rule (rule_faults.UnknownName name) = what_data rule code.UnknownName name
+
 abbrev pub rules_fault_data : RulesFault → Data
 rules_fault_data rules_faults.BadRulesJson = plain_data code.BadRulesJson
 rules_fault_data (rules_faults.BadRulesShape pattern) = placed_data code.BadRulesShape (printed_pattern pattern)
 rules_fault_data rules_faults.TooManyRules = plain_data code.TooManyRules
+rules_fault_data (rules_faults.BadRule rule fault) = rule_fault_data rule fault
 rules_fault_data rules_faults.NoMemory = plain_data code.NoMemory
 
 -- the text of a fault of a rules file

@@ -3,14 +3,14 @@
 ghost use Rattle.std.specs.Prelude.{◌≡◌, ◌++◌, codes, option_map, IfOk};
 ghost use Rattle.serde_json.specs.Data.{string, object, member, no_members};
 ghost use Rattle.serde_json.specs.View.{view, members_view};
-ghost use Rattle.sessions.specs.AnswerText.{text, fault_text, rules_fault_text, accepted_text, message_code, refusal_members, plain_data, placed_data, named_data, rules_data, read_denied_data, write_denied_data, accepted_data, refusal_data, rules_fault_data};
+ghost use Rattle.sessions.specs.AnswerText.{text, fault_text, rules_fault_text, accepted_text, message_code, refusal_members, plain_data, placed_data, named_data, rules_data, read_denied_data, write_denied_data, accepted_data, refusal_data, rule_data, byte_data, what_data, rule_fault_data, rules_fault_data};
 
 use crate::code::Code;
 use crate::message::MessageFault;
 use json_tree::{NoMemory, Node, to_json};
 use path_capture::Path;
 use rtdb_core::{Named, NamedRules, Refusal, Reply, Why};
-use rules_reader::RulesFault;
+use rules_reader::{RuleFault, RuleName, RulesFault};
 use serde_json::{Map, Value, json};
 use std::alloc::Global;
 
@@ -134,8 +134,68 @@ fn value_of_rules_fault(alloc: Global, fault: &RulesFault) -> Result<Value, NoMe
             placed(alloc, Code::BadRulesShape, place.as_str())
         }
         RulesFault::TooManyRules => plain(alloc, Code::TooManyRules),
+        RulesFault::BadRule(rule, fault) => value_of_rule_fault(alloc, rule, fault),
         RulesFault::NoMemory => plain(alloc, Code::NoMemory),
     }
+}
+
+fn value_of_rule_fault(alloc: Global, rule: &RuleName, fault: &RuleFault) -> Result<Value, NoMemory>
+    ensures { IfOk result (λ value. view value ≡ rule_fault_data rule.now fault.now) }
+{
+    match fault {
+        RuleFault::BadExpression { byte } => {
+            with_byte(alloc, rule, Code::BadExpression, *byte as u64)
+        }
+        RuleFault::NotInProfile(left_out) => {
+            with_name(alloc, rule, Code::NotInProfile, left_out.name())
+        }
+        RuleFault::TypeError => with_rule(alloc, rule, Code::TypeError),
+        RuleFault::UnknownName(name) => with_name(alloc, rule, Code::UnknownName, name.as_str()),
+    }
+}
+
+// A refusal for a rule.
+fn with_rule(alloc: Global, rule: &RuleName, code: Code) -> Result<Value, NoMemory>
+    ensures { IfOk result (λ value. view value ≡ rule_data rule.now code) }
+{
+    let at = rule.pattern.print()?;
+    Ok(json!(in alloc; {
+        "at": at.as_str(),
+        "code": code.number(),
+        "name": code.name(),
+        "ok": false,
+        "rule": rule.kind.name(),
+    })?)
+}
+
+// A refusal for a byte of a rule's text.
+fn with_byte(alloc: Global, rule: &RuleName, code: Code, byte: u64) -> Result<Value, NoMemory>
+    ensures { IfOk result (λ value. view value ≡ byte_data rule.now code byte) }
+{
+    let at = rule.pattern.print()?;
+    Ok(json!(in alloc; {
+        "at": at.as_str(),
+        "byte": byte,
+        "code": code.number(),
+        "name": code.name(),
+        "ok": false,
+        "rule": rule.kind.name(),
+    })?)
+}
+
+// A refusal for a name in a rule.
+fn with_name(alloc: Global, rule: &RuleName, code: Code, what: &str) -> Result<Value, NoMemory>
+    ensures { IfOk result (λ value. view value ≡ what_data rule.now code what.now) }
+{
+    let at = rule.pattern.print()?;
+    Ok(json!(in alloc; {
+        "at": at.as_str(),
+        "code": code.number(),
+        "name": code.name(),
+        "ok": false,
+        "rule": rule.kind.name(),
+        "what": what,
+    })?)
 }
 
 // A refusal with no further member.

@@ -36,8 +36,9 @@ impl From<RulesFault> for HeaderFault {
     }
 }
 
-/// The rules of a header, or its first fault. While nothing is validated, a file that states a
-/// `.validate` is refused as if its root were at fault, after all other faults.
+/// The rules of a header, or its first fault. While nothing is validated and no more than the
+/// literals is judged, a file that states a `.validate`, or a rule that is neither the literal true
+/// nor the literal false, is refused as if its root were at fault, after all other faults.
 #[tactic(auto, unfolding(crate::specs::Message::rules_text))]
 pub fn read_header(alloc: Global, line: &[u8]) -> Result<Rules, HeaderFault>
     ensures { Opens line.now result }
@@ -47,7 +48,7 @@ pub fn read_header(alloc: Global, line: &[u8]) -> Result<Rules, HeaderFault>
         return Err(HeaderFault::Line(MessageFault::BadRequest));
     };
     let rules = compile(alloc, text.as_bytes())?;
-    if rules.states_validate() {
+    if rules.states_unjudged() {
         return Err(HeaderFault::Rules(RulesFault::BadRulesShape(Pattern::new(alloc))));
     }
     Ok(rules)
