@@ -1,6 +1,5 @@
 -- Which refusal a text deserves.
-use Rattle.std.specs.Prelude.{◌≡◌, ℕ, List, ⊤}
-use Rattle.path_capture.specs.Pattern as parts
+use Rattle.std.specs.Prelude.{ℕ, List, ⊤}
 use Rattle.rules_reader.specs.declared.fault.RulesFault.{RulesFault}
 use Rattle.rules_reader.specs.declared.fault.RulesFault.TheVariants.{BadRulesJson, BadRulesShape, TooManyRules, BadRule, NoMemory}
 use Rattle.rules_reader.specs.declared.fault.LeftOut.{LeftOut}
