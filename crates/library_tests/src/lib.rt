@@ -4,13 +4,23 @@
 #![tactic(auto)]
 
 #[cfg(test)]
+mod chat_rules;
+#[cfg(test)]
 mod expressions;
+#[cfg(test)]
+mod game_rules;
 #[cfg(test)]
 mod paths;
 #[cfg(test)]
 mod plain_texts;
 #[cfg(test)]
+mod rule_faults;
+#[cfg(test)]
+mod rules_answers;
+#[cfg(test)]
 mod rules_files;
+#[cfg(test)]
+mod school_rules;
 #[cfg(test)]
 mod sorts;
 #[cfg(test)]
@@ -19,3 +29,5 @@ mod tables;
 mod token_texts;
 #[cfg(test)]
 mod trees;
+#[cfg(test)]
+mod written_rules;

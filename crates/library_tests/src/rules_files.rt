@@ -1,23 +1,12 @@
 //! Rules files: which are accepted, their faults, and which object stands at a path.
+use crate::rules_answers::answer;
 use crate::tables::{LongRow, Row, first_other, first_other_of_long};
+use expr_parser::Expr;
+use expr_types::Checked;
 use path_capture::Path;
-use rules_reader::{RuleNode, RulesFault, compile};
+use rules_reader::{RuleNode, compile};
 use std::alloc::Global;
 use std::test::Fail;
-
-// How many rules a file has, or its fault, with the pattern that it names.
-fn answer(alloc: Global, file: &str) -> Result<String, Fail> {
-    match compile(alloc, file.as_bytes()) {
-        Ok(rules) => Ok(format!(in alloc; "{} rules", rules.count())?),
-        Err(RulesFault::BadRulesShape(pattern)) => {
-            let pattern = pattern.print()?;
-            Ok(format!(in alloc; "BadRulesShape {pattern}")?)
-        }
-        Err(RulesFault::BadRulesJson) => Ok(String::from_str(alloc, "BadRulesJson")?),
-        Err(RulesFault::TooManyRules) => Ok(String::from_str(alloc, "TooManyRules")?),
-        Err(RulesFault::NoMemory) => Err(RulesFault::NoMemory)?,
-    }
-}
 
 const FILES: [Row; 31] = [
     ("{\"rules\":{}}", "0 rules"),
@@ -37,10 +26,7 @@ const FILES: [Row; 31] = [
     ("{\"rules\":{\".indexOn\":\"owner\"}}", "0 rules"),
     ("{\"rules\":{\".indexOn\":[1]}}", "BadRulesShape /"),
     ("{\"rules\":{\".read\":1}}", "BadRulesShape /"),
-    (
-        "{\"rules\":{\"a\":{\".read\":\"true\"}}}",
-        "BadRulesShape /a",
-    ),
+    ("{\"rules\":{\"a\":{\".read\":\"true\"}}}", "1 rules"),
     ("{\"rules\":{\".foo\":true}}", "BadRulesShape /"),
     ("{\"rules\":{},\"x\":1}", "BadRulesShape /"),
     ("{\"rules\":true}", "BadRulesShape /"),
@@ -187,22 +173,34 @@ const FILE: &str =
     "{\"rules\":{\"rooms\":{\"lobby\":{\".read\":false},\"$r\":{\".read\":true,\".write\":true,\".validate\":false,\"a\":{\".write\":false}}}}}";
 
 const PLACES: [Row; 7] = [
-    ("/", "/ None None None"),
-    ("/rooms", "/rooms None None None"),
-    ("/rooms/lobby", "/rooms/lobby Some(false) None None"),
-    ("/rooms/hall", "/rooms/$r Some(true) Some(true) Some(false)"),
-    ("/rooms/hall/a", "/rooms/$r/a None Some(false) None"),
+    ("/", "/ - - -"),
+    ("/rooms", "/rooms - - -"),
+    ("/rooms/lobby", "/rooms/lobby false - -"),
+    ("/rooms/hall", "/rooms/$r true true false"),
+    ("/rooms/hall/a", "/rooms/$r/a - false -"),
     ("/rooms/lobby/a", "none"),
     ("/halls", "none"),
 ];
 
+// The word of a rule that is a literal.
+fn literal(rule: Option<&Checked>) -> &'static str {
+    match rule {
+        Some(checked) => match checked.expr() {
+            Expr::True => "true",
+            Expr::False => "false",
+            _ => "more",
+        },
+        None => "-",
+    }
+}
+
 // The pattern of an object, and its rules.
 fn described(alloc: Global, node: &RuleNode) -> Result<String, Fail> {
     let pattern = node.pattern().print()?;
-    let read = node.read();
-    let write = node.write();
-    let validate = node.validate();
-    Ok(format!(in alloc; "{pattern} {read:?} {write:?} {validate:?}")?)
+    let read = literal(node.read());
+    let write = literal(node.write());
+    let validate = literal(node.validate());
+    Ok(format!(in alloc; "{pattern} {read} {write} {validate}")?)
 }
 
 // The object that stands at a path, or that none does.

@@ -29,7 +29,7 @@ pub fn is_granted(rules: &Rules, access: Access, path: &[Key]) -> bool
     }
     let mut node = root;
     for key in path {
-        match node.step(key) {
+        match node.step(key.text()) {
             Some(next) => node = next,
             None => return false,
         }
@@ -54,7 +54,7 @@ pub fn named_rules(
     let mut node = rules.root();
     name(node, access, &mut named)?;
     for key in path {
-        match node.step(key) {
+        match node.step(key.text()) {
             Some(next) => node = next,
             None => return Ok(NamedRules::of_vec(named)),
         }

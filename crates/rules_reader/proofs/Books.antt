@@ -1,20 +1,19 @@
 -- What a book has at a pattern, where its parts are known.
-use Rattle.std.proofs.Common.{◌≡◌, ◌≢◌, ℕ, Bool, true, false, cond, ◌&&◌, List, [], ◌∷◌, ◌++◌, map, Some, None, Option, unwrap_or, is_some, IsSome, sym, ap, ◌∙◌, refl}
-use Rattle.std.specs.List.{flat_map}
+use Rattle.std.proofs.Common.{◌≡◌, ℕ, Bool, true, false, cond, ◌&&◌, List, [], ◌∷◌, ◌++◌, map, Some, None, Option, unwrap_or, sym, ap, ◌∙◌, refl}
 use Rattle.std.specs.FinMap as map_of
 use Rattle.std.specs.FinMap.{find, is_sorted}
-use Rattle.std.specs.Cmp.{first_so, second_so}
+use Rattle.std.specs.Cmp.{second_so}
 use Rattle.std.specs.Str.{bytes_eq}
 use Rattle.std.proofs.lemmas.Bool.{false≢true}
 use Rattle.std.proofs.lemmas.Map.Text.{is_eq-slice_cmp}
 use Rattle.serde_json.specs.Data.{Data, null, boolean, number, string, array, object, Members, no_members, member}
 use Rattle.tree_model.specs.Key.{key_cmp}
-use Rattle.tree_model.specs.Path.{Path, path_cmp}
-use Rattle.tree_model.specs.PathMap.{PathMap, get, sub, under}
+use Rattle.tree_model.specs.Path.{path_cmp}
+use Rattle.tree_model.specs.PathMap.{get, sub, under}
 use Rattle.tree_model.proofs.Choices.{or_else, or_else-None}
 use Rattle.tree_model.proofs.Orders.{paths_total}
 use Rattle.tree_model.proofs.Lookups.{same_tree, get-empty, get-sub}
-use Rattle.tree_model.proofs.Grafts.{find-append, find-under-root, find-under, find_beyond, child_of, spread, find-spread-root, find-spread}
+use Rattle.tree_model.proofs.Grafts.{find-append, find-under, find_beyond, child_of}
 use Rattle.rules_reader.specs.Part.{PartText, Pattern, is_part}
 use Rattle.rules_reader.specs.Book.{Stated, BookOf, TextBook}
 use Rattle.rules_reader.specs.File.{objects, inner_objects, is_object, rule_texts, texts_of}

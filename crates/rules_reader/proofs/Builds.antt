@@ -1,34 +1,30 @@
 -- From the members of an object to the nodes of its keys and captures.
-use Rattle.std.proofs.Common.{◌≡◌, ◌≢◌, ℕ, zero, suc, ◌+◌, ◌<◌, ◌≤◌, Bool, true, false, cond, not, ◌&&◌, ◌||◌, List, [], ◌∷◌, ◌++◌, map, length, Some, None, Option, option_map, option_and_then, is_some, IsSome, is_ok, is_err, Result, Ok, Err, get_or, slice_get, string_bytes, string_cmp, sym, ap, ◌∙◌, subst, refl, arith, append_assoc, append-nil, nat_le, sum_by, min, ◌-◌, ◌^◌}
-use Rattle.std.specs.Prelude.{codes}
+use Rattle.std.proofs.Common.{◌≡◌, ℕ, zero, suc, ◌+◌, ◌<◌, ◌≤◌, Bool, true, false, cond, not, ◌&&◌, List, [], ◌∷◌, ◌++◌, map, length, Some, None, option_map, is_ok, is_err, Result, Ok, Err, get_or, slice_get, string_bytes, string_cmp, sym, ap, ◌∙◌, subst, refl, arith, sum_by, min, ◌-◌, ◌^◌}
 use Rattle.std.specs.List.{filter, AllByRecursion}
 use Rattle.std.specs.List.Sorted.{IsStrictlySortedBy}
 use Rattle.std.specs.Map.{keys_of}
-use Rattle.std.specs.FinMap as map_of
 use Rattle.std.specs.FinMap.{is_sorted}
 use Rattle.std.specs.FinMap.Entries.{below_all}
 use Rattle.std.specs.Cmp.{first_so, second_so}
 use Rattle.std.specs.Ordering.{is_lt}
 use Rattle.std.specs.declared.cmp.Ordering.TheVariants.{Less}
 use Rattle.std.proofs.lemmas.Bool.{false≢true, leb-true, le-leb}
-use Rattle.std.proofs.lemmas.List.{map-append}
 use Rattle.std.proofs.lemmas.List.Sums.{sum_by-cons}
 use Rattle.serde_json.specs.Data.{Data, null, boolean, number, string, array, object, Members, no_members, member}
-use Rattle.serde_json.specs.Find.{get, as_bool, as_object}
-use Rattle.serde_json.specs.View.{view, members_view}
+use Rattle.serde_json.specs.Find.{as_object}
+use Rattle.serde_json.specs.View.{members_view}
 use Rattle.serde_json.proofs.Views.{Entry}
 use Rattle.tree_model.specs.Key.{key_cmp}
-use Rattle.tree_model.proofs.Choices.{both_so, neither}
+use Rattle.tree_model.proofs.Choices.{both_so}
 use Rattle.path_capture.specs.declared.pattern.Part.{Part}
-use Rattle.expr_types.specs.Checked.{Checked}
 use Rattle.rules_reader.specs.declared.fault.RulesFault.{RulesFault}
 use Rattle.rules_reader.specs.declared.fault.RulesFault.TheVariants.{BadRulesJson, BadRulesShape, TooManyRules, BadRule, NoMemory}
 use Rattle.rules_reader.specs.Part.{PartText, Pattern, texts, is_capture, is_part}
-use Rattle.rules_reader.specs.Book.{Stated, BookOf, Book, TextBook, RuleOf, rules}
-use Rattle.rules_reader.specs.File.{listed, objects, is_object, rule_texts, texts_of, is_sound, faulty, captures_among, IsLeast}
+use Rattle.rules_reader.specs.Book.{TextBook, rules}
+use Rattle.rules_reader.specs.File.{listed, is_object, texts_of, is_sound, faulty, captures_among, IsLeast}
 use Rattle.rules_reader.specs.Working.Inner.{parts_of, faulty_inner}
 use Rattle.rules_reader.specs.Place.{one_capture_at_most}
-use Rattle.rules_reader.specs.Node.{Point, text_of, books, names, IsChild}
+use Rattle.rules_reader.specs.Node.{Point, text_of}
 use Rattle.rules_reader.specs.Refusal.{Names}
 use Rattle.rules_reader.proofs.Books.{no_objects}
 use Rattle.rules_reader.proofs.Faulty.{faulty_inner-part, faulty_inner-other, least_below}

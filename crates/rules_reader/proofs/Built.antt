@@ -1,14 +1,13 @@
 -- The loop over the members of an object that builds the nodes of its keys and captures.
-use Rattle.std.proofs.Common.{◌≡◌, ℕ, Bool, true, false, cond, ◌&&◌, List, [], ◌∷◌, ◌++◌, map, sym, ap, ◌∙◌, subst, refl, append_assoc, append-nil, ◌+◌, length, arith}
+use Rattle.std.proofs.Common.{◌≡◌, true, false, ◌&&◌, List, [], ◌∷◌, ◌++◌, sym, ap, ◌∙◌, subst, refl, append_assoc, append-nil, ◌+◌, length, arith}
 use Rattle.std.specs.List.{AllByRecursion}
 use Rattle.std.specs.FinMap.{is_sorted}
-use Rattle.std.specs.Cmp.{first_so, second_so}
 use Rattle.std.proofs.lemmas.List.Sums.{sum_by-cons}
 use Rattle.serde_json.specs.Data.{Data, Members, no_members, member}
 use Rattle.tree_model.specs.Key.{key_cmp}
 use Rattle.path_capture.specs.declared.pattern.Part.{Part}
 use Rattle.rules_reader.specs.Part.{PartText, Pattern, is_part}
-use Rattle.rules_reader.specs.Book.{BookOf, TextBook, Book, rules}
+use Rattle.rules_reader.specs.Book.{BookOf, TextBook, rules}
 use Rattle.rules_reader.specs.declared.fault.RulesFault.{RulesFault}
 use Rattle.rules_reader.specs.File.{listed, is_object, texts_of, faulty}
 use Rattle.rules_reader.specs.Working.Inner.{parts_of, faulty_inner}

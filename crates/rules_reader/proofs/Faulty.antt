@@ -1,21 +1,18 @@
 -- The faulty places of an object, and which of them is the least.
-use Rattle.std.proofs.Common.{◌≡◌, ◌≢◌, ℕ, zero, suc, ◌<◌, Bool, true, false, cond, not, ◌&&◌, List, [], ◌∷◌, ◌++◌, map, length, get_or, Some, None, Option, is_some, IsSome, sym, ap, ◌∙◌, subst, refl, arith, append_assoc, append-nil}
-use Rattle.std.specs.List.{filter, AllByRecursion, Contains}
+use Rattle.std.proofs.Common.{◌≡◌, ℕ, zero, suc, ◌<◌, true, false, cond, not, List, [], ◌∷◌, ◌++◌, map, length, get_or, sym, ap, ◌∙◌, subst, refl, arith, append_assoc, append-nil}
+use Rattle.std.specs.List.{filter, AllByRecursion}
 use Rattle.std.specs.FinMap.{is_sorted}
 use Rattle.std.specs.FinMap.Entries.{below_all}
 use Rattle.std.specs.Cmp.{first_so, second_so, tied_itself}
-use Rattle.std.specs.declared.cmp.Ordering.{Ordering}
 use Rattle.std.specs.declared.cmp.Ordering.TheVariants.{Less, Equal, Greater}
 use Rattle.std.specs.Ordering.{is_lt, is_gt, ordering_then}
 use Rattle.std.proofs.lemmas.Bool.{false≢true}
-use Rattle.std.proofs.lemmas.List.{map-append}
 use Rattle.std.proofs.lemmas.List.Elements.{Contains-append_left}
 use Rattle.serde_json.specs.Data.{Data, object, Members, no_members, member}
 use Rattle.tree_model.specs.Key.{Key, key_cmp}
-use Rattle.tree_model.specs.Path.{path_cmp, is_prefix}
+use Rattle.tree_model.specs.Path.{path_cmp}
 use Rattle.tree_model.specs.PathMap.{under}
-use Rattle.tree_model.proofs.Orders.{keys_total, paths_total}
-use Rattle.tree_model.proofs.Paths.{prefix-append, strip-append}
+use Rattle.tree_model.proofs.Orders.{keys_total}
 use Rattle.rules_reader.specs.Part.{PartText, Pattern, is_part}
 use Rattle.rules_reader.specs.File.{listed, objects, inner_objects, is_sound, faulty, IsLeast}
 use Rattle.rules_reader.specs.Working.Inner.{faulty_among, faulty_inner}

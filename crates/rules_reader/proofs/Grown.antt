@@ -20,7 +20,7 @@ use Rattle.tree_model.proofs.Grafts.{child_of, spread}
 use Rattle.rules_reader.specs.Part.{PartText, Pattern, is_capture}
 use Rattle.rules_reader.specs.declared.kind.Kind.TheVariants.{Read, Write, Validate}
 use Rattle.expr_types.specs.Checked.{Checked}
-use Rattle.rules_reader.specs.Book.{Stated, BookOf, Book, RuleOf, rules, stated, own_rules, stated_count}
+use Rattle.rules_reader.specs.Book.{Stated, BookOf, Book, rules, stated, own_rules, stated_count}
 use Rattle.rules_reader.specs.Node.{grown}
 use Rattle.rules_reader.specs.Place.{HasOneCapture, one_capture_at_most}
 use Rattle.rules_reader.proofs.Books.{sub-grown}

@@ -19,3 +19,4 @@ pub mod Built
 pub mod Unreads
 pub mod CaptureNames
 pub mod Compiled
+pub mod Decided

@@ -1,5 +1,5 @@
 -- Which pattern stands at a path, one key after another; and that there is at most one.
-use Rattle.std.proofs.Common.{◌≡◌, ◌≢◌, ℕ, zero, suc, ◌+◌, ◌<◌, ◌≤◌, ◌⊎◌, inl, inr, Bool, true, false, cond, not, List, [], ◌∷◌, ◌++◌, length, take, drop, get_or, Some, None, Option, is_some, IsSome, sym, ap, ◌∙◌, subst, refl, arith, append_assoc, length-append, append-nil}
+use Rattle.std.proofs.Common.{◌≡◌, ℕ, zero, suc, ◌<◌, ◌≤◌, inl, inr, true, false, cond, not, List, [], ◌∷◌, ◌++◌, length, take, drop, get_or, is_some, IsSome, sym, ap, ◌∙◌, refl, arith, length-append}
 use Rattle.std.specs.FinMap as map_of
 use Rattle.std.specs.Str.{bytes_eq}
 use Rattle.std.proofs.lemmas.Bool.{false≢true}
@@ -11,8 +11,8 @@ use Rattle.tree_model.specs.Path.{Path}
 use Rattle.tree_model.specs.PathMap.{PathMap, get, is_null, exists, sub}
 use Rattle.tree_model.proofs.Choices.{true_is_not_false}
 use Rattle.tree_model.proofs.Orders.{same_key}
-use Rattle.tree_model.proofs.Lookups.{get-sub, sub-sub}
-use Rattle.tree_model.proofs.Existence.{exists-sub, exists_above, found_at_or_below}
+use Rattle.tree_model.proofs.Lookups.{sub-sub}
+use Rattle.tree_model.proofs.Existence.{exists-sub, exists_above}
 use Rattle.rules_reader.specs.Part.{PartText, Pattern, is_capture}
 use Rattle.rules_reader.specs.Book.{Book}
 use Rattle.rules_reader.specs.Place.{matches, StandsAt, HasOneCapture}

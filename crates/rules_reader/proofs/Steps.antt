@@ -1,5 +1,5 @@
 -- One key further down: the child of the key, else that of the capture.
-use Rattle.std.proofs.Common.{◌≡◌, ◌≢◌, ℕ, zero, suc, ◌+◌, ◌≤◌, ◌<◌, Bool, true, false, cond, not, ◌&&◌, ◌||◌, ◌==◌, List, [], ◌∷◌, ◌++◌, map, length, get_or, slice_get, Option, Some, None, option_map, unwrap_or, is_some, IsSome, Bor, Result, Ok, Err, MatchResult, sym, ap, ◌∙◌, subst, inl, inr, refl, add-one, arith}
+use Rattle.std.proofs.Common.{◌≡◌, ◌≢◌, ℕ, zero, suc, ◌<◌, Bool, true, false, cond, not, ◌&&◌, ◌||◌, ◌==◌, List, [], ◌∷◌, ◌++◌, length, get_or, slice_get, Option, Some, None, option_map, unwrap_or, is_some, Bor, Result, Ok, Err, MatchResult, sym, ap, ◌∙◌, subst, inl, inr, refl, add-one, arith}
 use Rattle.std.specs.List.{AllByRecursion, list_any, list_all}
 use Rattle.std.specs.FinMap as map_of
 use Rattle.std.specs.declared.cmp.Ordering.{Ordering}
@@ -15,10 +15,11 @@ use Rattle.std.proofs.lemmas.Bool.{cases_lt, false≢true}
 use Rattle.std.proofs.lemmas.Map.Text.{is_eq-slice_cmp}
 use Rattle.std.proofs.lemmas.List.Sorted.{searchable_from_sorted}
 use Rattle.tree_model.specs.Key.{Key, key_cmp, is_key, is_key_byte}
-use Rattle.tree_model.specs.PathMap.{get, sub, exists}
+use Rattle.tree_model.specs.PathMap.{get, exists}
+use Rattle.tree_model.proofs.Existence.{exists_above}
 use Rattle.tree_model.proofs.Choices.{true_is_not_false, not_true, both_so, or_right}
 use Rattle.tree_model.proofs.Orders.{keys_total, exact_keys, tied_key, same_key, bytes_eq-self}
-use Rattle.tree_model.proofs.Grafts.{find_beyond, child_of}
+use Rattle.tree_model.proofs.Grafts.{find_beyond}
 use Rattle.path_capture.specs.declared.pattern.Part.{Part}
 use Rattle.path_capture.specs.Name.{is_name}
 use Rattle.expr_types.specs.Checked.{Checked}
@@ -26,6 +27,7 @@ use Rattle.rules_reader.specs.Part.{PartText, Pattern, is_capture}
 use Rattle.rules_reader.specs.Book.{Stated, Book}
 use Rattle.rules_reader.specs.Place.{matches}
 use Rattle.rules_reader.specs.Node.{Point, Steps, NoneMatches, grown, text_of, books, names, IsChild, IsNode, IsCaptureAt}
+use Rattle.rules_reader.specs.Working.NodeFalls.{get-grown}
 use Rattle.rules_reader.specs.Working.Stepped.{points, point_at, first_of, stepped}
 use Rattle.rules_reader.proofs.Books.{sub-grown}
 use Rattle.rules_reader.proofs.Standing.{exists-below}
@@ -91,6 +93,17 @@ searched key cs (Err i) s within parted =
       | inr after ↦ let more = parts.1 j d after inside in cc
     ])
 
+-- the child that is found has this text
+pub found_text : (key : Key) (cs : List (Part × Point)) (i : ℕ) (d : Part × Point) → IsBinarySearchResult (λ c. key_cmp (text_of c.0) key) cs (Ok i) → d ≡ get_or cs i d → text_of d.0 ≡ key
+found_text key cs i d is at = exact_keys (text_of d.0) key (ap (λ (c : Part × Point). key_cmp (text_of c.0) key) at ∙ is d)
+
+-- where the text of the child is that of a capture, and where it is not
+pub own_text : (cs : List (Part × Point)) (key : Key) (d : Part × Point) (o : Option ℕ) (n : ℕ) → d ≡ get_or cs n d → is_capture key ≡ true → find key_cmp key (points cs) ≡ Some (get_or cs n d).1 → None ≡ stepped cs o key
+own_text cs key d o n at sign found = sym (λ i. first_of (sign i) (found i) (point_at cs o))
+
+pub no_text_of_a_capture : (cs : List (Part × Point)) (key : Key) (d : Part × Point) (o : Option ℕ) (n : ℕ) → d ≡ get_or cs n d → is_capture key ≡ false → find key_cmp key (points cs) ≡ Some (get_or cs n d).1 → Some d.1 ≡ stepped cs o key
+no_text_of_a_capture cs key d o n at sign found = ap (λ (c : Part × Point). Some c.1) at ∙ sym (λ i. first_of (sign i) (found i) (point_at cs o))
+
 -- ---- what the child is
 
 find-books : (key : PartText) (cs : List (Part × Point)) → find key_cmp key (books cs) ≡ option_map (λ p. p.book) (find key_cmp key (points cs))
@@ -138,8 +151,8 @@ no_part own children key sorted none = not_true _ (λ e.
     let is : option_map (λ (q : Point). q.book) None ≡ Some found.0 = ap (option_map (λ q. q.book)) (sym none) ∙ sym (find-books key children) ∙ found.1 in cc)
 
 -- the child of a key
-pub key_steps : (own : Stated Checked) (at : Pattern) (children : List (Part × Point)) (place : Option ℕ) (key : Key) (p : Point) → is_key key ≡ true → IsNode at own children place → find key_cmp key (points children) ≡ Some p → Steps (record { at = at; book = grown own (books children) }) key p
-key_steps own at children place key p lawful n found = steps_to own at children place key p key n found (ap (λ b. cond b (not (exists (grown own (books children)) (key ∷ []))) (bytes_eq key key)) (key_is_no_capture key lawful) ∙ bytes_eq-self key)
+pub key_steps : (own : Stated Checked) (at : Pattern) (children : List (Part × Point)) (place : Option ℕ) (key : Key) (p : Point) → is_capture key ≡ false → IsNode at own children place → find key_cmp key (points children) ≡ Some p → Steps (record { at = at; book = grown own (books children) }) key p
+key_steps own at children place key p sign n found = steps_to own at children place key p key n found (ap (λ b. cond b (not (exists (grown own (books children)) (key ∷ []))) (bytes_eq key key)) sign ∙ bytes_eq-self key)
 
 -- the child at a place is found under its text
 at_place : (children : List (Part × Point)) (i : ℕ) (p : Point) → is_sorted key_cmp (points children) ≡ true → option_map (λ c. is_capture (text_of c.0)) (slice_get children i) ≡ Some true → option_map (λ c. c.1) (slice_get children i) ≡ Some p → (text : PartText) × (find key_cmp text (points children) ≡ Some p) × (is_capture text ≡ true)
@@ -170,16 +183,17 @@ capture_steps own at children i key p n none h =
     steps_to own at children (Some i) key p found.0 n found.1 (ap (λ b. cond b (not (exists (grown own (books children)) (key ∷ []))) (bytes_eq found.0 key)) found.2 ∙ ap not (no_part own children key n.ascending none))
 
 -- where a step leads
-pub stepped_to : (own : Stated Checked) (at : Pattern) (children : List (Part × Point)) (place : Option ℕ) (key : Key) (p : Point) → is_key key ≡ true → IsNode at own children place → stepped children place key ≡ Some p → Steps (record { at = at; book = grown own (books children) }) key p
-stepped_to own at children place key p lawful n h =
-    elim (find key_cmp key (points children)) as (λ o. find key_cmp key (points children) ≡ o → first_of o (point_at children place) ≡ Some p → Steps (record { at = at; book = grown own (books children) }) key p) [
-      | None ↦ λ none g. by_capture place n none g
-      | (Some q) ↦ λ e g. key_steps own at children place key p lawful n (e ∙ g)
-    ] refl h
+pub stepped_to : (own : Stated Checked) (at : Pattern) (children : List (Part × Point)) (place : Option ℕ) (key : Key) (p : Point) → IsNode at own children place → stepped children place key ≡ Some p → Steps (record { at = at; book = grown own (books children) }) key p
+stepped_to own at children place key p n h = by_text (find key_cmp key (points children)) (is_capture key) refl refl h
   where
     by_capture : (o : Option ℕ) → IsNode at own children o → find key_cmp key (points children) ≡ None → point_at children o ≡ Some p → Steps (record { at = at; book = grown own (books children) }) key p
     by_capture None m none g = cc
     by_capture (Some i) m none g = capture_steps own at children i key p m none g
+
+    by_text : (o : Option Point) (b : Bool) → find key_cmp key (points children) ≡ o → is_capture key ≡ b → first_of b o (point_at children place) ≡ Some p → Steps (record { at = at; book = grown own (books children) }) key p
+    by_text None b e c g = by_capture place n e g
+    by_text (Some q) true e c g = cc
+    by_text (Some q) false e c g = key_steps own at children place key p c n (e ∙ g)
 
 -- ---- where there is no step
 
@@ -199,23 +213,42 @@ no_place children (Some i) c h = absurd (gone (slice_get children i) c h)
     gone None e f = cc
     gone (Some x) e f = cc
 
-first_none : (a b : Option Point) → first_of a b ≡ None → (a ≡ None) × (b ≡ None)
-first_none None b h = (refl, h)
-first_none (Some x) b h = cc
-
-pub not_stepped : (own : Stated Checked) (at : Pattern) (children : List (Part × Point)) (place : Option ℕ) (key : Key) → IsNode at own children place → stepped children place key ≡ None → NoneMatches (grown own (books children)) key
-not_stepped own at children place key n h part m = not_true _ (λ e.
-    let none = first_none _ _ h in
+-- no part matches the text: there is no child of it and no capture
+none_is_there : (own : Stated Checked) (at : Pattern) (children : List (Part × Point)) (place : Option ℕ) (key : Key) → IsNode at own children place → find key_cmp key (points children) ≡ None → point_at children place ≡ None → NoneMatches (grown own (books children)) key
+none_is_there own at children place key n no_key no_capture part m = not_true _ (λ e.
     let found = exists_found (books children) part [] (ap (λ b. exists b []) (sym (sub-grown own (books children) part n.ascending)) ∙ exists-below (grown own (books children)) (part ∷ []) [] ∙ e) in
-    clash none.0 none.1 found.0 (find key_cmp part (points children)) refl (sym (find-books part children) ∙ found.1))
+    clash found.0 (find key_cmp part (points children)) refl (sym (find-books part children) ∙ found.1))
   where
-    clash : find key_cmp key (points children) ≡ None → point_at children place ≡ None → (b : Book) (o : Option Point) → find key_cmp part (points children) ≡ o → option_map (λ q. q.book) o ≡ Some b → ⊥
-    clash no_key no_capture b None is e = cc
-    clash no_key no_capture b (Some p) is e =
+    clash : (b : Book) (o : Option Point) → find key_cmp part (points children) ≡ o → option_map (λ q. q.book) o ≡ Some b → ⊥
+    clash b None is e = cc
+    clash b (Some p) is e =
         elim (is_capture part) as (λ c. is_capture part ≡ c → cond c (not (exists (grown own (books children)) (key ∷ []))) (bytes_eq part key) ≡ true → ⊥) [
           | true ↦ λ c _. true_is_not_false _ (any_capture children part p is c) (no_place children place n.capture no_capture)
           | false ↦ λ _ g. let same = ap (λ t. find key_cmp t (points children)) (same_key part key g) in cc
         ] refl m
+
+-- no part matches the text of a capture that is a child: this one does not, since it is there, and no other is a capture
+its_own_text : (own : Stated Checked) (at : Pattern) (children : List (Part × Point)) (place : Option ℕ) (key : Key) (q : Point) → IsNode at own children place → find key_cmp key (points children) ≡ Some q → is_capture key ≡ true → NoneMatches (grown own (books children)) key
+its_own_text own at children place key q n found sign part m =
+    elim (is_capture part) as (λ c. is_capture part ≡ c → cond c (not (exists (grown own (books children)) (key ∷ []))) (bytes_eq part key) ≡ true → exists (grown own (books children)) (part ∷ []) ≡ false) [
+      | true ↦ λ _ g. absurd (true_is_not_false _ there (not_so _ g))
+      | false ↦ λ c g. absurd (true_is_not_false _ sign (ap is_capture (sym (same_key part key g)) ∙ c))
+    ] refl m
+  where
+    there : exists (grown own (books children)) (key ∷ []) ≡ true
+    there = exists_above (grown own (books children)) (key ∷ []) [] (ap is_some (get-grown own (books children) key [] n.ascending ∙ ap (λ (o : Option Book). get (unwrap_or o map_of.empty) []) (find-books key children ∙ ap (option_map (λ x. x.book)) found)) ∙ (found_child at key children q n.each found).2.listed)
+
+    not_so : (b : Bool) → not b ≡ true → b ≡ false
+    not_so true h = sym h
+    not_so false h = refl
+
+pub not_stepped : (own : Stated Checked) (at : Pattern) (children : List (Part × Point)) (place : Option ℕ) (key : Key) → IsNode at own children place → stepped children place key ≡ None → NoneMatches (grown own (books children)) key
+not_stepped own at children place key n h = by_text (find key_cmp key (points children)) (is_capture key) refl refl h
+  where
+    by_text : (o : Option Point) (b : Bool) → find key_cmp key (points children) ≡ o → is_capture key ≡ b → first_of b o (point_at children place) ≡ None → NoneMatches (grown own (books children)) key
+    by_text None b e c g = none_is_there own at children place key n e g
+    by_text (Some q) true e c g = its_own_text own at children place key q n e c
+    by_text (Some q) false e c g = cc
 
 -- ---- what the search for a child gives
 

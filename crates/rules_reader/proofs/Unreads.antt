@@ -1,5 +1,5 @@
 -- Why a text was not read as a rule.
-use Rattle.std.proofs.Common.{◌≡◌, ◌⊎◌, inl, inr, ℕ, List, subst, sym, ap, ◌∙◌}
+use Rattle.std.proofs.Common.{◌≡◌, ◌⊎◌, inl, inr, ℕ, List, subst}
 use Rattle.expr_parser.specs.Tree.{Tree}
 use Rattle.expr_parser.specs.Text.{SpellsExpression}
 use Rattle.expr_types.specs.declared.fault.TypeFault.{TypeFault}

@@ -1,5 +1,5 @@
 -- A rules file: its objects, what they state, and what is wrong with them.
-use Rattle.std.specs.Prelude.{◌≡◌, ℕ, ◌≤◌, ◌<◌, ◌+◌, ◌&&◌, List, [], ◌∷◌, ◌++◌, map, length, filter, filter_map, Bool, true, false, not, nat_le, nat_lt, if◌then◌else◌, Option, Some, None, is_some, option_and_then, codes, Contains}
+use Rattle.std.specs.Prelude.{◌≡◌, ℕ, ◌≤◌, ◌<◌, ◌&&◌, List, [], ◌∷◌, ◌++◌, map, length, filter, Bool, true, false, not, nat_le, nat_lt, if◌then◌else◌, Option, Some, None, is_some, option_and_then, codes, Contains}
 use Rattle.std.specs.List.{list_all, list_any, AllByRecursion}
 use Rattle.std.specs.Option.{option_map_or}
 use Rattle.std.specs.FinMap as map_of
@@ -9,10 +9,9 @@ use Rattle.serde_json.specs.Data.{Data, null, boolean, number, string, array, ob
 use Rattle.serde_json.specs.Find.{get_member, as_str, as_object}
 use Rattle.serde_json.specs.Read.{read}
 use Rattle.tree_model.specs.declared.limits.TheConstants.{MAX_DEPTH}
-use Rattle.tree_model.specs.Key.{is_key}
 use Rattle.tree_model.specs.Path.{path_cmp}
 use Rattle.tree_model.specs.PathMap.{under}
-use Rattle.rules_reader.specs.Part.{PartText, Pattern, is_capture, is_part}
+use Rattle.rules_reader.specs.Part.{Pattern, is_capture, is_part}
 use Rattle.rules_reader.specs.declared.limits.TheConstants.{MAX_FILE_BYTES, MAX_RULES}
 use Rattle.rules_reader.specs.declared.fault.RuleFault.{RuleFault}
 use Rattle.rules_reader.specs.Book.{Stated, Book, TextBook, kind_name, rules}

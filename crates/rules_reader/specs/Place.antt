@@ -1,10 +1,10 @@
 -- Rule place: which pattern of a book stands at a path.
-use Rattle.std.specs.Prelude.{◌≡◌, ◌≢◌, ℕ, ◌<◌, ◌++◌, List, [], ◌∷◌, length, take, zip, filter_map, codes, Bool, true, not, if◌then◌else◌, Option, Some, None, slice_index_or, nat_le, filter}
+use Rattle.std.specs.Prelude.{◌≡◌, ◌≢◌, ℕ, ◌<◌, ◌++◌, List, [], ◌∷◌, length, take, zip, filter_map, codes, Bool, true, not, if◌then◌else◌, Some, None, slice_index_or, nat_le, filter}
 use Rattle.std.specs.FinMap as map_of
 use Rattle.std.specs.Str.{bytes_eq}
 use Rattle.tree_model.specs.Key.{Key}
 use Rattle.tree_model.specs.Path.{Path}
-use Rattle.tree_model.specs.PathMap.{get, exists, sub}
+use Rattle.tree_model.specs.PathMap.{exists}
 use Rattle.path_capture.specs.Name.{is_name}
 use Rattle.rules_reader.specs.Part.{PartText, Pattern, is_capture, bare_name}
 use Rattle.rules_reader.specs.Book.{BookOf}

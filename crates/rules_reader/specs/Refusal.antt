@@ -1,9 +1,10 @@
 -- Which refusal a text deserves.
-use Rattle.std.specs.Prelude.{◌≡◌, ℕ, List, ⊤}
-use Rattle.path_capture.specs.Pattern as parts
+use Rattle.std.specs.Prelude.{ℕ, List, ⊤}
 use Rattle.rules_reader.specs.declared.fault.RulesFault.{RulesFault}
 use Rattle.rules_reader.specs.declared.fault.RulesFault.TheVariants.{BadRulesJson, BadRulesShape, TooManyRules, BadRule, NoMemory}
+use Rattle.rules_reader.specs.declared.fault.RuleFault.{RuleFault}
 use Rattle.rules_reader.specs.declared.fault.LeftOut.{LeftOut}
+use Rattle.rules_reader.specs.declared.kind.Kind.{Kind}
 use Rattle.rules_reader.specs.declared.fault.LeftOut.TheVariants.{Sign, Name}
 use Rattle.expr_tokens.specs.Excluded.{name_of}
 use Rattle.rules_reader.specs.Part.{Pattern, texts}
@@ -23,6 +24,21 @@ Refuses bytes (BadRulesShape p) = IsBadShape bytes (texts p)
 Refuses bytes TooManyRules = HasTooManyRules bytes
 Refuses bytes (BadRule rule fault) = HasBadRule bytes (texts rule.pattern) rule.kind fault
 Refuses bytes NoMemory = ⊤
+
+-- what a refusal says: it names patterns by the texts of their parts
+pub data Reason : Type 0 where
+  no_json : Reason
+  bad_shape : (at : Pattern) → Reason
+  too_many_rules : Reason
+  bad_rule : (at : Pattern) (kind : Kind) (fault : RuleFault) → Reason
+  no_memory : Reason
+
+abbrev pub reason : RulesFault → Reason
+reason BadRulesJson = no_json
+reason (BadRulesShape p) = bad_shape (texts p)
+reason TooManyRules = too_many_rules
+reason (BadRule rule fault) = bad_rule (texts rule.pattern) rule.kind fault
+reason NoMemory = no_memory
 
 -- a refusal for the least of some faulty patterns, or for want of memory
 abbrev pub Names : List Pattern → RulesFault → Type 0

@@ -1,5 +1,5 @@
 -- Which expressions the texts of rules spell, and why one is no rule.
-use Rattle.std.specs.Prelude.{◌≡◌, ℕ, ◌++◌, List, [], ◌∷◌, filter_map, Option, Some, None, ⊤, if◌then◌else◌}
+use Rattle.std.specs.Prelude.{◌≡◌, ℕ, ◌++◌, List, ◌∷◌, filter_map, Option, Some, None, ⊤, if◌then◌else◌}
 use Rattle.std.specs.List.{AllByRecursion}
 use Rattle.expr_tokens.specs.declared.fault.ExprFault.TheVariants as text_fault
 use Rattle.expr_parser.specs.Tree.{Tree}

@@ -1,8 +1,10 @@
 //! From the bytes of a rules file to its rules.
-ghost use Rattle.std.specs.Prelude.{◌≡◌, ◌<◌, ◌≤◌, ◌⊎◌, true, length, Some, None, option_map, IfOk, IfErr, IfSome, IsErrOf};
+ghost use Rattle.std.specs.Prelude.{◌≡◌, ◌≢◌, ◌<◌, ◌≤◌, ℕ, List, ◌⊎◌, true, length, Some, None, option_map, IfOk, IfErr, IfSome, IsErrOf};
 ghost use Rattle.serde_json.specs.View.{view};
 ghost use Rattle.rules_reader.specs.File.{is_object, json_of, ReadsAs, top, States};
-ghost use Rattle.rules_reader.specs.Refusal.{Refuses};
+ghost use Rattle.rules_reader.specs.Refusal.{Refuses, reason};
+ghost use Rattle.rules_reader.specs.Book.{Book};
+ghost use Rattle.rules_reader.specs.declared.fault.RulesFault.{RulesFault as RulesFaultValue};
 
 use crate::fault::RulesFault;
 use crate::limits::{MAX_FILE_BYTES, MAX_RULES};
@@ -78,3 +80,11 @@ pub fn compile(alloc: Global, bytes: &[u8]) -> Result<Rules, RulesFault>
     root.law();
     Ok(Rules::of_root(root, count))
 }
+
+/// A file states at most one book, or is refused for at most one reason, and never both; but for want
+/// of memory. It does nothing.
+pub fn a_file_has_one_answer()
+    ensures one_book { (bytes : List ℕ) (a b : Book) → States bytes a → States bytes b → a ≡ b }
+    ensures one_reason { (bytes : List ℕ) (d e : RulesFaultValue) → Refuses bytes d → Refuses bytes e → d ≢ RulesFault.NoMemory → e ≢ RulesFault.NoMemory → reason d ≡ reason e }
+    ensures never_both { (bytes : List ℕ) (book : Book) (fault : RulesFaultValue) → States bytes book → Refuses bytes fault → fault ≡ RulesFault.NoMemory }
+{}

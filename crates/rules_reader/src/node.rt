@@ -16,8 +16,8 @@ ghost use Rattle.rules_reader.specs.Working.Stepped.{stepped};
 use crate::kind::Kind;
 use crate::rule::RuleSet;
 use expr_types::Checked;
-use json_tree::Key;
 use path_capture::{Part, Pattern};
+use std::cmp::Ordering;
 use std::marker::Model;
 
 /// An object of a rules file: its pattern, the rules that stand there, and what is below. Contracts
@@ -74,13 +74,12 @@ impl RuleNode {
     }
 
     /// The node one key further down: that of the key itself, else that of the capture, else none.
-    /// It takes no memory; log w of w keys. (Guide "Core syntax", using $ variables to capture path
-    /// segments.)
-    pub fn step(&self, key: &Key) -> Option<&RuleNode>
+    /// The key is a text, so that a walk over a tree copies none. It takes no memory; log w of w
+    /// keys. (Guide "Core syntax", using $ variables to capture path segments.)
+    pub fn step(&self, key: &str) -> Option<&RuleNode>
         ensures found { IfSome result (λ node. Steps self.now key.now node.now) }
         ensures none { IfNone result (NoneMatches self.now.book key.now) }
     {
-        key.text();
         child_of(&self.children, self.capture, key)
     }
 
@@ -159,17 +158,35 @@ fn some_states_unjudged(children: &Vec<(Part, RuleNode)>) -> bool
 fn child_of<'a>(
     children: &'a Vec<(Part, RuleNode)>,
     capture: Option<usize>,
-    key: &Key,
+    key: &str,
 ) -> Option<&'a RuleNode>
     requires ascending { is_sorted key_cmp (books children.now.items) ≡ true }
     requires capture { IsCaptureAt children.now.items capture }
     ensures { option_map (λ node. node.now) result ≡ stepped children.now.items capture key.now }
 {
-    match children.binary_search_by(|child| child.0.compare_key(key)) {
-        Ok(place) => Some(&children[place].1),
+    match children.binary_search_by(|child| compare(&child.0, key)) {
+        Ok(place) => if is_capture(&children[place].0) {
+            None
+        } else {
+            Some(&children[place].1)
+        },
         Err(_) => match capture {
             Some(place) => Some(&children[place].1),
             None => None,
+        },
+    }
+}
+
+// Where the text of a part stands beside a text, by their bytes.
+fn compare(part: &Part, text: &str) -> Ordering
+    ensures { result ≡ key_cmp (text_of part.now) text.now }
+{
+    match part {
+        Part::Literal(key) => key.text().cmp(text),
+        Part::Capture(name) => match text.as_bytes() {
+            [b'$', rest @ ..] => name.text().as_bytes().cmp(rest),
+            [first, ..] => b'$'.cmp(first),
+            [] => Ordering::Greater,
         },
     }
 }

@@ -112,7 +112,7 @@ fn node_at<'a>(root: &'a RuleNode, path: &[Key]) -> Option<&'a RuleNode>
 {
     let mut node = root;
     for key in path {
-        node = node.step(key)?;
+        node = node.step(key.text())?;
     }
     Some(node)
 }

@@ -1,5 +1,5 @@
 -- What is read below the keys and captures of an object.
-use Rattle.std.specs.Prelude.{◌≡◌, ◌++◌, ℕ, List, [], ◌∷◌, map, flat_map, length, ⊤}
+use Rattle.std.specs.Prelude.{◌≡◌, ◌++◌, ℕ, List, [], ◌∷◌, flat_map, length, ⊤}
 use Rattle.std.specs.List.{sum_by}
 use Rattle.std.specs.FinMap as map_of
 use Rattle.rules_reader.specs.Part.{PartText, Pattern}

@@ -1,9 +1,9 @@
 -- Which child of a node a key leads to.
-use Rattle.std.specs.Prelude.{ℕ, List, map, Option, Some, None, option_map, option_and_then, slice_get}
+use Rattle.std.specs.Prelude.{ℕ, Bool, true, false, List, map, Option, Some, None, option_map, slice_get}
 use Rattle.std.specs.FinMap.{find}
 use Rattle.tree_model.specs.Key.{Key, key_cmp}
 use Rattle.path_capture.specs.declared.pattern.Part.{Part}
-use Rattle.rules_reader.specs.Part.{PartText}
+use Rattle.rules_reader.specs.Part.{PartText, is_capture}
 use Rattle.rules_reader.specs.Node.{Point, text_of}
 
 -- the children by the texts of their parts
@@ -14,10 +14,11 @@ abbrev pub point_at : List (Part × Point) → Option ℕ → Option Point
 point_at children None = None
 point_at children (Some i) = option_map (λ c. c.1) (slice_get children i)
 
--- the child of the key, else the one at the place of the capture
-abbrev pub first_of : Option Point → Option Point → Option Point
-first_of None other = other
-first_of (Some point) other = Some point
+-- the child of a text, unless this is that of a capture; where there is none, the one at the place of the capture
+abbrev pub first_of : Bool → Option Point → Option Point → Option Point
+first_of capture None other = other
+first_of true (Some point) other = None
+first_of false (Some point) other = Some point
 
 abbrev pub stepped : List (Part × Point) → Option ℕ → Key → Option Point
-stepped children capture key = first_of (find key_cmp key (points children)) (point_at children capture)
+stepped children capture key = first_of (is_capture key) (find key_cmp key (points children)) (point_at children capture)

@@ -1,10 +1,10 @@
-use Rattle.std.proofs.Common.{◌≡◌, ◌≤◌, ◌^◌, ◌-◌, [], Some, min, length, sym, ap, subst, ◌∙◌, arith}
+use Rattle.std.proofs.Common.{◌≡◌, ◌≤◌, ◌^◌, ◌-◌, [], min, length, sym, ap, subst, ◌∙◌, arith}
 use Rattle.std.proofs.lemmas.Result.{err_from_is_err_and}
 use Rattle.serde_json.specs.View.{view}
 use Rattle.path_capture.specs.Pattern as parts
-use Rattle.rules_reader.specs.Part.{Pattern, texts}
+use Rattle.rules_reader.specs.Part.{texts}
 use Rattle.rules_reader.specs.Book.{rules}
-use Rattle.rules_reader.specs.File.{top, faulty, texts_of}
+use Rattle.rules_reader.specs.File.{faulty, texts_of}
 use Rattle.rules_reader.specs.Spelled.{IsSpelled}
 use Rattle.rules_reader.specs.Refusal.{Blames}
 use Rattle.rules_reader.proofs.Named.{names_once}

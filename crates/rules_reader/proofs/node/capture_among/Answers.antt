@@ -1,4 +1,4 @@
-use Rattle.std.proofs.Common.{◌≡◌, Some, true, option_map, slice_get, sym, ap, ◌∙◌, arith}
+use Rattle.std.proofs.Common.{option_map, slice_get, sym, ap, ◌∙◌, arith}
 use Rattle.path_capture.specs.declared.pattern.Part.{Part}
 use Rattle.rules_reader.specs.Part.{is_capture}
 use Rattle.rules_reader.specs.Node.{Point, text_of}

@@ -1,12 +1,11 @@
-use Rattle.std.proofs.Common.{◌≡◌, true, cond, List, [], ◌∷◌, ◌++◌, string_bytes, map, length, ◌+◌, Some, sym, ap, subst, ◌∙◌, arith}
+use Rattle.std.proofs.Common.{◌≡◌, true, List, [], ◌∷◌, ◌++◌, string_bytes, length, ◌+◌, sym, ap, subst, ◌∙◌}
 use Rattle.std.proofs.lemmas.Result.{err_from_is_err_and}
-use Rattle.std.specs.FinMap.{is_sorted}
 use Rattle.serde_json.specs.View.{view, members_view}
 use Rattle.serde_json.proofs.Views.{view-Object}
 use Rattle.rules_reader.specs.Part.{PartText, Pattern, texts, is_part}
 use Rattle.rules_reader.specs.Book.{own_rules, rules as rules_of}
-use Rattle.rules_reader.specs.File.{is_object, rule_texts, texts_of, faulty}
-use Rattle.rules_reader.specs.Working.Inner.{parts_of, faulty_inner}
+use Rattle.rules_reader.specs.File.{rule_texts, texts_of, faulty}
+use Rattle.rules_reader.specs.Working.Inner.{parts_of}
 use Rattle.rules_reader.specs.Working.Read.{rules_below}
 use Rattle.rules_reader.specs.Refusal.{Blames}
 use Rattle.std.specs.List.{AllByRecursion}
@@ -17,7 +16,7 @@ use Rattle.rules_reader.proofs.Books.{texts_of-object}
 use Rattle.rules_reader.proofs.Grown.{length-rules-grown}
 use Rattle.rules_reader.proofs.Builds.{listed_ascend, parts_ascend, part_found}
 use Rattle.rules_reader.proofs.Built.{Built, built_start, built_push, built_blamed, built_end, none_below}
-use Rattle.rules_reader.proofs.RulesBelow.{rules-object, blames_front, blames_behind, lawful_append, spelled_grown, sorted_same, own_lawful, spelled_lawful, own_count, few_names, is_sound-of, faulty_inner-none}
+use Rattle.rules_reader.proofs.RulesBelow.{rules-object, blames_front, blames_behind, lawful_append, spelled_grown, sorted_same, own_lawful, spelled_lawful, own_count, few_names, is_sound-of}
 use Rattle.rules_reader.proofs.objects.+build.Goals as goal
 
 pub build-returns-in_err-own-clause-fault : goal.build-returns-in_err-own-clause-fault

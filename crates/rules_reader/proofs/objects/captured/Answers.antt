@@ -1,5 +1,5 @@
 use Rattle.std.proofs.Common.{sym, ap, ◌∙◌, cond, Some, None}
-use Rattle.rules_reader.specs.Part.{is_capture, bare_name}
+use Rattle.rules_reader.specs.Part.{bare_name}
 use Rattle.rules_reader.specs.Spelled.{captured}
 use Rattle.rules_reader.specs.Node.{text_of}
 use Rattle.rules_reader.proofs.Steps.{key_is_no_capture}

@@ -1,4 +1,3 @@
-use Rattle.std.proofs.Common.{◌≡◌}
 use Rattle.std.proofs.lemmas.Result.{err_from_is_err_and}
 use Rattle.rules_reader.specs.Part.{texts}
 use Rattle.rules_reader.specs.File.{rule_texts}

@@ -1,5 +1,4 @@
-use Rattle.std.proofs.Common.{◌≡◌, [], ◌∷◌, Some, sym, ap, ◌∙◌, subst, refl, append-nil}
-use Rattle.path_capture.specs.Pattern as parts
+use Rattle.std.proofs.Common.{[], ap, subst}
 use Rattle.rules_reader.specs.Part.{texts}
 use Rattle.rules_reader.specs.Book.{stated}
 use Rattle.rules_reader.specs.Spelled.{IsFirstBad}

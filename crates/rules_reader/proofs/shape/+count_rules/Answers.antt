@@ -1,20 +1,18 @@
-use Rattle.std.proofs.Common.{◌≡◌, ◌+◌, ◌-◌, ◌^◌, true, cond, List, [], ◌∷◌, ◌++◌, min, length, string_bytes, sym, ap, subst, ◌∙◌, arith}
+use Rattle.std.proofs.Common.{◌≡◌, ◌+◌, ◌-◌, ◌^◌, true, [], ◌∷◌, ◌++◌, min, length, string_bytes, sym, ap, subst, ◌∙◌, arith}
 use Rattle.std.proofs.lemmas.Result.{err_from_is_err_and}
-use Rattle.std.specs.FinMap.{is_sorted}
 use Rattle.serde_json.specs.View.{view, members_view}
 use Rattle.serde_json.proofs.Views.{view-Object}
-use Rattle.tree_model.specs.Key.{key_cmp}
 use Rattle.rules_reader.specs.Part.{PartText, Pattern, texts, is_part}
 use Rattle.rules_reader.specs.Book.{rules, stated_count}
 use Rattle.rules_reader.specs.File.{rule_texts, texts_of, faulty, IsLeast}
-use Rattle.rules_reader.specs.Working.Inner.{parts_of, faulty_inner}
+use Rattle.rules_reader.specs.Working.Inner.{parts_of}
 use Rattle.rules_reader.specs.Working.Read.{rule_count}
 use Rattle.rules_reader.specs.Node.{text_of}
 use Rattle.rules_reader.specs.Refusal.{Names}
 use Rattle.rules_reader.proofs.Books.{texts_of-object}
 use Rattle.rules_reader.proofs.Grown.{length-rules-grown}
 use Rattle.rules_reader.proofs.Faulty.{faulty-sound, least_here}
-use Rattle.rules_reader.proofs.Builds.{Counted, counted_start, counted_more, counted_refused, counted_end, listed_ascend, parts_ascend, part_found}
+use Rattle.rules_reader.proofs.Builds.{Counted, counted_start, counted_more, counted_refused, listed_ascend, parts_ascend, part_found}
 use Rattle.rules_reader.proofs.shape.+count_rules.Goals as goal
 
 -- ---- an object

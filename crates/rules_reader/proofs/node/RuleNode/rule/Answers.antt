@@ -1,4 +1,4 @@
-use Rattle.std.proofs.Common.{◌≡◌, [], Some, ◌∙◌, sym, ap, option_map}
+use Rattle.std.proofs.Common.{[], Some, ◌∙◌, sym, ap, option_map}
 use Rattle.tree_model.specs.PathMap.{get}
 use Rattle.rules_reader.specs.Book.{stated_for}
 use Rattle.rules_reader.specs.Node.{Point, books}

@@ -1,6 +1,5 @@
-use Rattle.std.proofs.Common.{◌≡◌, sym, ap, subst, ◌∙◌, Some, None}
-use Rattle.tree_model.specs.Key.{Key, is_key}
-use Rattle.rules_reader.specs.Node.{Point, Steps, NoneMatches, IsNode}
+use Rattle.std.proofs.Common.{subst}
+use Rattle.rules_reader.specs.Node.{Point, Steps, NoneMatches}
 use Rattle.rules_reader.specs.Part.{texts}
 use Rattle.rules_reader.specs.Working.Stepped.{stepped}
 use Rattle.rules_reader.proofs.Steps.{stepped_to, not_stepped, if_some, if_none}
@@ -11,7 +10,7 @@ returns-clause-found c =
     let node = c.self.inside in
     let key = c.args.key.now in
     if_some (λ p. Steps c.args.self.now key p) c.child_of.result (stepped node.children.items node.capture key) c.child_of.ensures (λ p e.
-    subst (λ (from : Point). Steps from key p) c.self.view_is (stepped_to node.rules (texts node.pattern) node.children.items node.capture key p c.text.ensures.lawful c.self.invariant e))
+    subst (λ (from : Point). Steps from key p) c.self.view_is (stepped_to node.rules (texts node.pattern) node.children.items node.capture key p c.self.invariant e))
 
 pub returns-clause-none : goal.returns-clause-none
 returns-clause-none c =
