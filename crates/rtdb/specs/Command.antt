@@ -35,6 +35,20 @@ pub record IsChecked (bytes out : List ℕ) (status : ℕ) : Type 0 where
   pub printed : out ≡ as_line (answer_text answer)
   pub status_is : status ≡ answer_status answer
 
+-- a file was checked, whose bytes are these where they are known
+abbrev pub IsAnswered : Option (List ℕ) → Option (List ℕ) → Option (List ℕ) → ℕ → Type 0
+IsAnswered known before after status = (bytes out : List ℕ) × IfSome known (λ it. bytes ≡ it) × Appends before after out × IsChecked bytes out status
+
+-- a file was not checked: its bytes are not known, and it could not be read; or the output has failed; or memory was wanted
+abbrev pub IsUnanswered : Option (List ℕ) → Option (List ℕ) → Option (List ℕ) → Bool → ℕ → Type 0
+IsUnanswered known before after has_failed status =
+    ((status ≡ failed) × (known ≡ None) × Appends before after [])
+    ⊎ (((status ≡ failed) × (has_failed ≡ true)) ⊎ ((status ≡ no_memory) × Appends before after []))
+
+-- a file was checked, or there is a reason why not
+abbrev pub HasChecked : Option (List ℕ) → Option (List ℕ) → Option (List ℕ) → Bool → ℕ → Type 0
+HasChecked known before after has_failed status = IsAnswered known before after status ⊎ IsUnanswered known before after has_failed status
+
 -- ---- what is told of the streams
 
 -- the input that was left before the command, what its source tells after it, what was written before it and after it, and whether the output has failed
@@ -45,20 +59,6 @@ pub record Streams : Type 0 where
   pub after : Option (List ℕ)
   pub has_failed : Bool
 
--- a file was checked, whose bytes are these where they are known
-abbrev pub IsAnswered : Option (List ℕ) → Streams → ℕ → Type 0
-IsAnswered known streams status = (bytes out : List ℕ) × IfSome known (λ it. bytes ≡ it) × Appends streams.before streams.after out × IsChecked bytes out status
-
--- a file was not checked: its bytes are not known, and it could not be read; or the output has failed; or memory was wanted
-abbrev pub IsUnanswered : Option (List ℕ) → Streams → ℕ → Type 0
-IsUnanswered known streams status =
-    ((status ≡ failed) × (known ≡ None) × Appends streams.before streams.after [])
-    ⊎ (((status ≡ failed) × (streams.has_failed ≡ true)) ⊎ ((status ≡ no_memory) × Appends streams.before streams.after []))
-
--- a file was checked, or there is a reason why not
-abbrev pub HasChecked : Option (List ℕ) → Streams → ℕ → Type 0
-HasChecked known streams status = IsAnswered known streams status ⊎ IsUnanswered known streams status
-
 -- a script was run, to an end that the status names
 abbrev pub HasRun : Streams → ℕ → Type 0
 HasRun streams status =
@@ -67,5 +67,5 @@ HasRun streams status =
 
 -- what was wanted is done
 abbrev pub HasDone : (List ℕ → Option (List ℕ)) → Wanted → Streams → ℕ → Type 0
-HasDone known (checks name) streams status = HasChecked (known name) streams status
+HasDone known (checks name) streams status = HasChecked (known name) streams.before streams.after streams.has_failed status
 HasDone known runs streams status = HasRun streams status

@@ -1,8 +1,7 @@
 //! What the program does for the words of its command line.
-ghost use Rattle.std.specs.Prelude.{◌≡◌, ◌≢◌, ℕ, ◌⊎◌, List, [], Option, map, string_bytes, true, false, IfOk};
+ghost use Rattle.std.specs.Prelude.{◌≡◌, ◌≢◌, ℕ, ◌⊎◌, List, [], map, string_bytes, true, false, IfOk};
 ghost use Rattle.std.specs.Io.KnownBytes.{Appends};
 ghost use Rattle.clap.specs.Words.{fault_of};
-ghost use Rattle.sessions.specs.Ends.{SourceTells};
 ghost use Rattle.sessions.specs.Said.{as_line};
 ghost use Rattle.rtdb.specs.Order.{the_program, Wanted, AreOrder};
 ghost use Rattle.rtdb.specs.Status.{bad_line, failed, no_memory, status_of};
@@ -107,7 +106,7 @@ fn check<F: Files, W: Sink, E: io::Write>(
     faults: &mut E,
 ) -> u8
     requires { W.failed output.old ≡ false }
-    ensures checked { (input : Option (List ℕ)) (source : SourceTells) → HasChecked (F.bytes files.now name.now) (record { left = input; source = source; before = W.written output.old; after = W.written output.new; has_failed = W.failed output.new }) result }
+    ensures checked { HasChecked (F.bytes files.now name.now) (W.written output.old) (W.written output.new) (W.failed output.new) result }
     ensures broken { W.failed output.new ≡ true → result ≡ failed }
 {
     match files.read(alloc, name) {
