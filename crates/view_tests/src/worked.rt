@@ -94,6 +94,35 @@ fn writes_propose_a_tree(rt: HostRuntime) -> Result<(), Fail> {
     Ok(())
 }
 
+const OVERLAPS: [Row; 9] = [
+    ("/a=1 | /b=2 | /b/c=3 | /d=4", "overlap"),
+    ("/a=1 | /a-b=2 | /a/b=3", "overlap"),
+    ("/d=1 | /b/c=2 | /a=3 | /b=4", "overlap"),
+    ("/b=1 | /b=2", "overlap"),
+    ("/a=1 | /=2", "overlap"),
+    ("/a=1 | /b/c=2 | /b/d=3 | /bc=4", "apart"),
+    ("/d=1 | /b/c=2 | /a=3 | /b/a=4", "apart"),
+    ("/b/c=1 | /a=2", "apart"),
+    ("/=1", "apart"),
+];
+
+fn overlapping(alloc: Global, question: &str) -> Result<String, Fail> {
+    let writes = writes_of(alloc, question)?;
+    let answer = if overlaps(&writes) {
+        "overlap"
+    } else {
+        "apart"
+    };
+    Ok(String::from_str(alloc, answer)?)
+}
+
+#[test]
+fn which_writes_overlap(rt: HostRuntime) -> Result<(), Fail> {
+    let other = first_other(rt.alloc(), &OVERLAPS, overlapping)?;
+    assert_eq!(rt; other.as_str(), "");
+    Ok(())
+}
+
 const BASE: &str = "{\"b\":{\"c\":1},\"d\":\"x\",\"f\":3}";
 
 const WRITES: &str = "/b/e=2 | /d=null | /a=true";
