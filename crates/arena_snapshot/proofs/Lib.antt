@@ -14,3 +14,4 @@ pub mod Views
 pub mod Apart
 pub mod Keeping
 pub mod Neighbours
+pub mod Leaving

@@ -121,7 +121,8 @@ fn lay_below<'a>(
     Ok(layer.finish())
 }
 
-fn stored<'a>(node: Option<&'a Node>) -> Option<View<'a>>
+// The stored tree of an optional node.
+pub(crate) fn stored<'a>(node: Option<&'a Node>) -> Option<View<'a>>
     ensures { result ≡ non_null (node_or_null node.entry) }
 {
     match node {

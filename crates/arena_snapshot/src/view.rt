@@ -123,8 +123,15 @@ impl<'a> View<'a> {
     pub fn at(&self, path: &Path) -> Option<View<'a>>
         ensures { result ≡ non_null (sub self.now path.now) }
     {
+        self.below(path.keys())
+    }
+
+    // The tree below these keys.
+    pub(crate) fn below(&self, keys: &[Key]) -> Option<View<'a>>
+        ensures { result ≡ non_null (sub self.now keys.now) }
+    {
         let mut view = self.share();
-        for key in path.keys() {
+        for key in keys {
             view = view.child(key.text())?;
         }
         view.law();

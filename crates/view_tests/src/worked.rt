@@ -1,6 +1,6 @@
 //! Worked values: the proposed trees of the definitions, and what a view says of them.
 use crate::cases::{Row, first_other, tree_of, writes_of};
-use arena_snapshot::{View, copy_out, kept, overlaps, overlay, same};
+use arena_snapshot::{View, copy_out, is_changed, kept, overlaps, overlay, same};
 use bumpalo::Bump;
 use json_tree::to_json;
 use path_capture::Path;
@@ -196,6 +196,48 @@ fn compared(alloc: Global, question: &str) -> Result<String, Fail> {
 #[test]
 fn which_views_are_the_same(rt: HostRuntime) -> Result<(), Fail> {
     let other = first_other(rt.alloc(), &PAIRS, compared)?;
+    assert_eq!(rt; other.as_str(), "");
+    Ok(())
+}
+
+const STORED: &str = "{\"a\":{\"b\":{\"c\":1},\"d\":\"x\"},\"e\":5}";
+
+const CHANGES: [Row; 14] = [
+    ("/a of /e=6", "the same"),
+    ("/e of /e=6", "changed"),
+    ("/ of /e=6", "changed"),
+    ("/a of /a/b/c=1 | /a/d=\"x\"", "the same"),
+    ("/a of /a/b/c=1 | /a/d=\"y\"", "changed"),
+    ("/a/b of /a/b/c=1 | /a/d=\"y\"", "the same"),
+    ("/a/b of /a={\"b\":{\"c\":1}}", "the same"),
+    ("/a/b of /a={\"c\":1}", "changed"),
+    ("/a/b/c of /={\"c\":1}", "changed"),
+    ("/e/f of /e/g=1", "the same"),
+    ("/e of /e/g=1", "changed"),
+    ("/e of /e/g=null", "the same"),
+    ("/f/g of /f=null", "the same"),
+    ("/ of /=null", "changed"),
+];
+
+fn changed(alloc: Global, question: &str) -> Result<String, Fail> {
+    let (path, writes) = question.split_once(" of ").ok_or("no path")?;
+    let path = Path::parse(alloc, path)?;
+    let writes = writes_of(alloc, writes)?;
+    let base = tree_of(alloc, STORED)?;
+    if overlaps(&writes) {
+        return Ok(String::from_str(alloc, "overlap")?);
+    }
+    let answer = if is_changed(base.as_ref(), &writes, &path) {
+        "changed"
+    } else {
+        "the same"
+    };
+    Ok(String::from_str(alloc, answer)?)
+}
+
+#[test]
+fn what_writes_change(rt: HostRuntime) -> Result<(), Fail> {
+    let other = first_other(rt.alloc(), &CHANGES, changed)?;
     assert_eq!(rt; other.as_str(), "");
     Ok(())
 }
