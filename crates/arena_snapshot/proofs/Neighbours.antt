@@ -111,9 +111,9 @@ any_pair (w ∷ []) k d low h = absurd (omega arith)
 any_pair (w ∷ x ∷ ws) zero d low h = ap (λ b. (b || list_any (do_overlap w) ws) || overlaps (x ∷ ws)) h
 any_pair (w ∷ x ∷ ws) (suc k) d low h = or_right (list_any (do_overlap w) (x ∷ ws)) (overlaps (x ∷ ws)) (any_pair (x ∷ ws) k d (omega arith) h)
 
--- ---- as far as a place
+-- ---- as far as an index
 
--- each write below the place comes before the next
+-- each write below the index comes before the next
 abbrev pub AreBefore : List Write → ℕ → Type 0
 AreBefore ws n = (k : ℕ) (d : Write) → suc k < n → suc k < length ws → IsBefore (get_or ws k d) (get_or ws (suc k) d)
 

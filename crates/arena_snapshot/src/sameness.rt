@@ -46,7 +46,7 @@ fn have_same_children(view: &View, other: &View) -> bool
     true
 }
 
-// Whether the children at a place have the same key and are the same.
+// Whether the children at an index have the same key and are the same.
 #[cycle(same)]
 fn have_same_child(view: &View, other: &View, i: usize) -> bool
     ensures same { OnTrue result (slice_get (entries_of view.now) i ≡ slice_get (entries_of other.now) i) }

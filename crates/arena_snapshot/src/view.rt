@@ -177,7 +177,7 @@ impl<'a> View<'a> {
         }
     }
 
-    // The child at a place, with its key.
+    // The child at an index, with its key.
     pub(crate) fn entry_at(&self, i: usize) -> Option<(&'a Key, View<'a>)>
         ensures { option_map (λ entry. (entry.0.now, entry.1)) result
             ≡ slice_get (entries_of self.now) i }

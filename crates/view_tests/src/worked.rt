@@ -242,12 +242,12 @@ fn what_writes_change(rt: HostRuntime) -> Result<(), Fail> {
     Ok(())
 }
 
-// The child at one place of the proposed tree, kept.
-fn kept_at(alloc: Global, place: usize) -> Result<String, Fail> {
+// The child at one index of the proposed tree, kept.
+fn kept_at(alloc: Global, index: usize) -> Result<String, Fail> {
     let base = tree_of(alloc, BASE)?;
     let arena = Bump::new(alloc);
     let view = View::stored(base.as_ref().ok_or("null")?);
-    let kept = kept(&arena, &view, std::slice::from_ref(&place))?;
+    let kept = kept(&arena, &view, std::slice::from_ref(&index))?;
     described(alloc, kept.as_ref())
 }
 
