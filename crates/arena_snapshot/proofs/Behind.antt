@@ -1,4 +1,4 @@
--- Which patches stand before the child at a place, and where that child stands among the stored ones.
+-- Which patches stand before the child at an index, and where that child stands among the stored ones.
 use Rattle.std.proofs.Common.{◌≡◌, ◌≢◌, ℕ, zero, suc, ◌-◌, ◌≤◌, ◌<◌, ◌⊎◌, inl, inr, true, false, not, ◌&&◌, ◌||◌, nat_lt, nat_eq, List, [], ◌∷◌, map, length, get_or, Some, None, Option, is_some, sym, ap, ◌∙◌, subst, refl, arith}
 use Rattle.std.specs.List.{slice_get, AllByRecursion}
 use Rattle.std.specs.List.Sorted.{IsPartitionedBy}
@@ -24,7 +24,7 @@ use Rattle.arena_snapshot.specs.Working.Changing.{child_found}
 use Rattle.arena_snapshot.specs.Working.Patches.{change_of, is_behind, IsPlaced, ArePatches}
 use Rattle.arena_snapshot.specs.declared.view.Patch.{Patch}
 use Rattle.arena_snapshot.proofs.Sums.{entries_sorted, find-entries, width-total}
-use Rattle.arena_snapshot.proofs.Ranks.{rank_low, rank_high, before_at, at_place, key_at, width-entries, before_trans, not_before_itself, stored_place}
+use Rattle.arena_snapshot.proofs.Ranks.{rank_low, rank_high, before_at, at_index, key_at, width-entries, before_trans, not_before_itself, stored_index}
 
 from_behind : (a i : ℕ) (o : Option Tree) → (nat_lt a i || (nat_eq a i && not (is_some o))) ≡ true → (a < i) ⊎ ((a ≡ i) × (o ≡ None))
 from_behind a i None h = grind (arith, nat_tests)
@@ -69,7 +69,7 @@ module _ (t : Tree) (ps : List Patch) (wide : ℕ) (h : ArePatches t ps wide) wh
   new = changed t (map change_of ps)
 
   placed : (m : ℕ) (d : Patch) → m < length ps → IsPlaced t (changed t (map change_of ps)) (get_or ps m d)
-  placed m d low = all_from_recursion (IsPlaced t (changed t (map change_of ps))) ps h.places m d low
+  placed m d low = all_from_recursion (IsPlaced t (changed t (map change_of ps))) ps h.indices m d low
 
   child_is : (m : ℕ) (d : Patch) → m < length ps → non_null (sub (changed t (map change_of ps)) ((get_or ps m d).key.now ∷ [])) ≡ (get_or ps m d).child
   child_is m d low =
@@ -83,22 +83,22 @@ module _ (t : Tree) (ps : List Patch) (wide : ℕ) (h : ArePatches t ps wide) wh
     within : i < length (entries_of (changed t (map change_of ps)))
     within = let wide_is = h.width in omega (arith, width-entries (changed t (map change_of ps)))
 
-    -- the key of the child at the place
+    -- the key of the child at the index
     abbrev key : Key
     key = (get_or (entries_of (changed t (map change_of ps))) i ([], null)).0
 
     pub key_is : slice_get (child_keys (changed t (map change_of ps))) i ≡ Some key
     key_is = key_at (changed t (map change_of ps)) i ([], null) within
 
-    key_place : before key (changed t (map change_of ps)) ≡ i
-    key_place = before_at (entries_of (changed t (map change_of ps))) i ([], null) (entries_sorted (changed t (map change_of ps))) within
+    key_index : before key (changed t (map change_of ps)) ≡ i
+    key_index = before_at (entries_of (changed t (map change_of ps))) i ([], null) (entries_sorted (changed t (map change_of ps))) within
 
     key_some : sub (changed t (map change_of ps)) (key ∷ []) ≢ null
     key_some =
         let found = find_at key (entries_of (changed t (map change_of ps))) i ([], null) (entries_sorted (changed t (map change_of ps))) within (tied_itself keys_total key) in
         (tree_from_some _ _ (sym found ∙ find-entries (changed t (map change_of ps)) key)).1
 
-    -- the place is at most as far as a key that is not before it
+    -- the index is at most as far as a key that is not before it
     at_most : (k : Key) → is_before key k ≡ false → before k (changed t (map change_of ps)) ≤ i
     at_most k g = rank_high k (entries_of (changed t (map change_of ps))) i ([], null) (entries_sorted (changed t (map change_of ps))) within g
 
@@ -110,7 +110,7 @@ module _ (t : Tree) (ps : List Patch) (wide : ℕ) (h : ArePatches t ps wide) wh
           | Less ↦ λ _. refl
           | Equal ↦ λ e.
               let same : p.key.now ≡ key = exact_keys p.key.now key e in
-              let at : before p.key.now (changed t (map change_of ps)) ≡ i = ap (λ l. before l (changed t (map change_of ps))) same ∙ key_place in
+              let at : before p.key.now (changed t (map change_of ps)) ≡ i = ap (λ l. before l (changed t (map change_of ps))) same ∙ key_index in
               elim (from_behind p.before i p.child behind) [
                 | inl less ↦ absurd (omega arith)
                 | inr none ↦ absurd (key_some (null_if_none (sub (changed t (map change_of ps)) (key ∷ [])) (ap (λ l. non_null (sub (changed t (map change_of ps)) (l ∷ []))) (sym same) ∙ child_is m d inside ∙ none.1)))
@@ -134,9 +134,9 @@ module _ (t : Tree) (ps : List Patch) (wide : ℕ) (h : ArePatches t ps wide) wh
               elim (equal_or_less p.before i (omega arith)) [ inl same ↦ to_behind p.before i None (inr (same, refl)) | inr less ↦ to_behind p.before i None (inl less) ]
           | (Some u) ↦ λ is.
               let e : Key × Tree = ([], null) in
-              let at = at_place p.key.now u (entries_of (changed t (map change_of ps))) e (entries_sorted (changed t (map change_of ps))) (find-entries (changed t (map change_of ps)) p.key.now ∙ child_is m d inside ∙ is) in
+              let at = at_index p.key.now u (entries_of (changed t (map change_of ps))) e (entries_sorted (changed t (map change_of ps))) (find-entries (changed t (map change_of ps)) p.key.now ∙ child_is m d inside ∙ is) in
               let less = rank_low key (entries_of (changed t (map change_of ps))) (before p.key.now (changed t (map change_of ps))) e (entries_sorted (changed t (map change_of ps))) at.0 (ap (λ l. is_before l key) at.1 ∙ low_key) in
-              to_behind p.before i (Some u) (inl (let place = key_place in omega arith))
+              to_behind p.before i (Some u) (inl (let index = key_index in omega arith))
         ] refl
 
     pub partitioned : IsPartitionedBy (is_behind i) ps
@@ -146,7 +146,7 @@ module _ (t : Tree) (ps : List Patch) (wide : ℕ) (h : ArePatches t ps wide) wh
           | inr less ↦ before_behind m d (omega arith) (before_trans (get_or ps m d).key.now (get_or ps n d).key.now key (ascending ps m n d h.changes.ascending less inside) (behind_before n d inside behind))
         ]
 
-    -- a patch that stands at the place
+    -- a patch that stands at the index
     pub at_patch : (m : ℕ) (d : Patch) → m < length ps → is_behind i (get_or ps m d) ≡ false → (get_or ps m d).before ≡ i → Some (get_or ps m d).key.now ≡ slice_get (child_keys (changed t (map change_of ps))) i
     at_patch m d inside ahead same =
         let p = get_or ps m d in
@@ -154,11 +154,11 @@ module _ (t : Tree) (ps : List Patch) (wide : ℕ) (h : ArePatches t ps wide) wh
         elim p.child as (λ o. p.child ≡ o → Some p.key.now ≡ slice_get (child_keys (changed t (map change_of ps))) i) [
           | None ↦ λ none. absurd ((not_behind p.before i p.child ahead).1 same none)
           | (Some u) ↦ λ is.
-              let at = at_place p.key.now u (entries_of (changed t (map change_of ps))) ([], null) (entries_sorted (changed t (map change_of ps))) (find-entries (changed t (map change_of ps)) p.key.now ∙ child_is m d inside ∙ is) in
+              let at = at_index p.key.now u (entries_of (changed t (map change_of ps))) ([], null) (entries_sorted (changed t (map change_of ps))) (find-entries (changed t (map change_of ps)) p.key.now ∙ child_is m d inside ∙ is) in
               sym (key_is ∙ ap Some (ap (λ j. (get_or (entries_of (changed t (map change_of ps))) j ([], null)).0) (sym (sym here ∙ same)) ∙ at.1))
         ] refl
 
-    -- a stored child, between the patches before the place and the next one
+    -- a stored child, between the patches before the index and the next one
     pub at_stored : (m : ℕ) (d : Patch) → m < length ps → ((n : ℕ) → n < m → is_behind i (get_or ps n d) ≡ true) → is_behind i (get_or ps m d) ≡ false → (get_or ps m d).before ≢ i
         → ((i ≤ (get_or ps m d).before) × ((get_or ps m d).before - i ≤ (get_or ps m d).stored_before)) × (slice_get (child_keys t) ((get_or ps m d).stored_before - ((get_or ps m d).before - i)) ≡ slice_get (child_keys (changed t (map change_of ps))) i)
     at_stored m d inside all ahead other =
@@ -167,7 +167,7 @@ module _ (t : Tree) (ps : List Patch) (wide : ℕ) (h : ArePatches t ps wide) wh
         let there = (placed m d inside).stored in
         let far = (not_behind p.before i p.child ahead).0 in
         let lower : is_before key p.key.now ≡ true = lower_key p.key.now (omega arith) in
-        let made = stored_place t (map change_of ps) key (λ l. is_before l p.key.now) i h.changes (λ l low_key. before_trans l key p.key.now low_key lower) (each_change _ ps (all_by_recursion _ ps apart)) lower key_some key_place (omega arith) in
+        let made = stored_index t (map change_of ps) key (λ l. is_before l p.key.now) i h.changes (λ l low_key. before_trans l key p.key.now low_key lower) (each_change _ ps (all_by_recursion _ ps apart)) lower key_some key_index (omega arith) in
         let fits = made.0 in
         ((omega arith, omega arith), (λ j. slice_get (child_keys t) (there j - (here j - i))) ∙ made.1 ∙ sym key_is)
       where
@@ -198,7 +198,7 @@ module _ (t : Tree) (ps : List Patch) (wide : ℕ) (h : ArePatches t ps wide) wh
     pub at_end : ((n : ℕ) (d : Patch) → n < length ps → is_behind i (get_or ps n d) ≡ true)
         → (wide - i ≤ length (child_keys t)) × (slice_get (child_keys t) (length (child_keys t) - (wide - i)) ≡ slice_get (child_keys (changed t (map change_of ps))) i)
     at_end all =
-        let made = stored_place t (map change_of ps) key (λ l. true) i h.changes (λ l low_key. refl) (each_change _ ps (all_by_recursion _ ps (λ n d inside. inl (behind_before n d inside (all n d inside))))) refl key_some key_place (let wide_is = h.width in omega (arith, width-total (changed t (map change_of ps)))) in
+        let made = stored_index t (map change_of ps) key (λ l. true) i h.changes (λ l low_key. refl) (each_change _ ps (all_by_recursion _ ps (λ n d inside. inl (behind_before n d inside (all n d inside))))) refl key_some key_index (let wide_is = h.width in omega (arith, width-total (changed t (map change_of ps)))) in
         let fits = made.0 in
         let new_width : wide ≡ total one (changed t (map change_of ps)) = h.width ∙ width-total (changed t (map change_of ps)) in
         let old_width : length (child_keys t) ≡ total one t = width-total t in

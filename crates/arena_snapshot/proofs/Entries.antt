@@ -80,7 +80,7 @@ children_room t deep k d within =
     let le = all_from_recursion F (entries_of t) (children_depth t) k d within in
     omega arith
 
--- lists of one length that have the same at each place are one
+-- lists of one length that have the same at each index are one
 pub same_entries_at : (es fs : Entries) → length es ≡ length fs → ((i : ℕ) → i < length es → slice_get es i ≡ slice_get fs i) → es ≡ fs
 same_entries_at [] [] long h = refl
 same_entries_at [] (f ∷ fs) long h = absurd (omega arith)

@@ -52,12 +52,12 @@ changed-null es s = same_below _ _ (get-changed-root null (map put es) (get-null
     laid t none None = none
     laid t none (Some u) = refl
 
--- ---- the children at places
+-- ---- the children at indices
 
-abbrev pub at_places : Tree → List ℕ → Entries
-at_places t places = filter_map (slice_get (entries_of t)) places
+abbrev pub at_indices : Tree → List ℕ → Entries
+at_indices t indices = filter_map (slice_get (entries_of t)) indices
 
--- a child stands behind those at earlier places
+-- a child stands behind those at earlier indices
 entry_before : (es : Entries) (p q : ℕ) (f e : Key × Tree) → is_sorted key_cmp es ≡ true → p < q → Some f ≡ slice_get es p → Some e ≡ slice_get es q → key_cmp f.0 e.0 ≡ Less
 entry_before [] p q f e s less is_f is_e = cc
 entry_before (x ∷ es) p zero f e s less is_f is_e = absurd (omega arith)
@@ -67,28 +67,28 @@ entry_before (x ∷ es) zero (suc q) f e s less is_f is_e =
     (λ i. key_cmp (same i).0 (at.1 i).0) ∙ less_of (key_cmp x.0 (get_or es q e).0) (above_first x es q e (first_so (below_all key_cmp x.0 es) _ s) at.0)
 entry_before (x ∷ es) (suc p) (suc q) f e s less is_f is_e = entry_before es p q f e (second_so _ _ s) (omega arith) is_f is_e
 
-pub behind_all : (t : Tree) (places : List ℕ) (q : ℕ) (e : Key × Tree) → AllByRecursion (λ p. p < q) places → Some e ≡ slice_get (entries_of t) q → AllBefore e.0 (map put (at_places t places))
+pub behind_all : (t : Tree) (indices : List ℕ) (q : ℕ) (e : Key × Tree) → AllByRecursion (λ p. p < q) indices → Some e ≡ slice_get (entries_of t) q → AllBefore e.0 (map put (at_indices t indices))
 behind_all t [] q e less is = tt
-behind_all t (p ∷ places) q e less is =
-    elim (slice_get (entries_of t) p) as (λ o. slice_get (entries_of t) p ≡ o → AllBefore e.0 (map put (cons_option o (at_places t places)))) [
-      | None ↦ λ _. behind_all t places q e less.1 is
-      | (Some f) ↦ λ at. (entry_before (entries_of t) p q f e (entries_sorted t) less.0 (sym at) is, behind_all t places q e less.1 is)
+behind_all t (p ∷ indices) q e less is =
+    elim (slice_get (entries_of t) p) as (λ o. slice_get (entries_of t) p ≡ o → AllBefore e.0 (map put (cons_option o (at_indices t indices)))) [
+      | None ↦ λ _. behind_all t indices q e less.1 is
+      | (Some f) ↦ λ at. (entry_before (entries_of t) p q f e (entries_sorted t) less.0 (sym at) is, behind_all t indices q e less.1 is)
     ] refl
 
-pub earlier : (places : List ℕ) (i : ℕ) (d : ℕ) → StrictlyAscend places → i < length places → AllByRecursion (λ p. p < get_or places i d) (take i places)
-earlier places i d h low = go i places (λ j less. h j i d less low) (omega arith)
+pub earlier : (indices : List ℕ) (i : ℕ) (d : ℕ) → StrictlyAscend indices → i < length indices → AllByRecursion (λ p. p < get_or indices i d) (take i indices)
+earlier indices i d h low = go i indices (λ j less. h j i d less low) (omega arith)
   where
-    go : (n : ℕ) (ps : List ℕ) → ((j : ℕ) → j < n → get_or ps j d < get_or places i d) → n ≤ length ps → AllByRecursion (λ p. p < get_or places i d) (take n ps)
+    go : (n : ℕ) (ps : List ℕ) → ((j : ℕ) → j < n → get_or ps j d < get_or indices i d) → n ≤ length ps → AllByRecursion (λ p. p < get_or indices i d) (take n ps)
     go zero ps all le = tt
     go (suc n) [] all le = tt
     go (suc n) (p ∷ ps) all le = (all 0 (omega arith), go n ps (λ j less. all (suc j) (omega arith)) (omega arith))
 
--- one place more
-pub places_next : (t : Tree) (places : List ℕ) (i q : ℕ) (o : Option (Key × Tree)) → i < length places → q ≡ get_or places i q → o ≡ slice_get (entries_of t) q → at_places t (take (i + 1) places) ≡ at_places t (take i places) ++ cons_option o []
-places_next t places i q o low at is =
-    ap (at_places t) (take_next places i q low at)
-    ∙ filter_map-append (slice_get (entries_of t)) (take i places) (q ∷ [])
-    ∙ ap (λ x. at_places t (take i places) ++ cons_option x []) (sym is)
+-- one index more
+pub indices_next : (t : Tree) (indices : List ℕ) (i q : ℕ) (o : Option (Key × Tree)) → i < length indices → q ≡ get_or indices i q → o ≡ slice_get (entries_of t) q → at_indices t (take (i + 1) indices) ≡ at_indices t (take i indices) ++ cons_option o []
+indices_next t indices i q o low at is =
+    ap (at_indices t) (take_next indices i q low at)
+    ∙ filter_map-append (slice_get (entries_of t)) (take i indices) (q ∷ [])
+    ∙ ap (λ x. at_indices t (take i indices) ++ cons_option x []) (sym is)
 
 -- ---- lawful children
 
@@ -99,19 +99,19 @@ lawful_children t h = each_subtree IsLawfulChild t (λ k some. record {
   depth = (let less = depth-sub t k some in let deep = depth_within t h in omega arith);
 })
 
-lawful_at : (t : Tree) → IsLawful t → (places : List ℕ) → AllByRecursion IsLawfulChild (at_places t places)
+lawful_at : (t : Tree) → IsLawful t → (indices : List ℕ) → AllByRecursion IsLawfulChild (at_indices t indices)
 lawful_at t h [] = tt
-lawful_at t h (p ∷ places) =
-    elim (slice_get (entries_of t) p) as (λ o. slice_get (entries_of t) p ≡ o → AllByRecursion IsLawfulChild (cons_option o (at_places t places))) [
-      | None ↦ λ _. lawful_at t h places
+lawful_at t h (p ∷ indices) =
+    elim (slice_get (entries_of t) p) as (λ o. slice_get (entries_of t) p ≡ o → AllByRecursion IsLawfulChild (cons_option o (at_indices t indices))) [
+      | None ↦ λ _. lawful_at t h indices
       | (Some e) ↦ λ at.
           let here = entry_low (entries_of t) p e (sym at) in
-          (subst IsLawfulChild (sym here.1) (all_from_recursion IsLawfulChild (entries_of t) (lawful_children t h) p e here.0), lawful_at t h places)
+          (subst IsLawfulChild (sym here.1) (all_from_recursion IsLawfulChild (entries_of t) (lawful_children t h) p e here.0), lawful_at t h indices)
     ] refl
 
-pub kept_lawful : (t : Tree) (places : List ℕ) → IsLawful t → is_sorted key_cmp (map put (at_places t places)) ≡ true → IsLawful (changed null (map put (at_places t places)))
-kept_lawful t places h s = subst IsLawful (sym (changed-null (at_places t places) s)) (IsLawful-graft (at_places t places) (sym (sorted-put (at_places t places)) ∙ s) (lawful_at t h places))
+pub kept_lawful : (t : Tree) (indices : List ℕ) → IsLawful t → is_sorted key_cmp (map put (at_indices t indices)) ≡ true → IsLawful (changed null (map put (at_indices t indices)))
+kept_lawful t indices h s = subst IsLawful (sym (changed-null (at_indices t indices) s)) (IsLawful-graft (at_indices t indices) (sym (sorted-put (at_indices t indices)) ∙ s) (lawful_at t h indices))
 
-pub kept_is : (t : Tree) (places : List ℕ) → is_sorted key_cmp (map put (at_places t places)) ≡ true → changed null (map put (at_places t places)) ≡ kept t places
+pub kept_is : (t : Tree) (indices : List ℕ) → is_sorted key_cmp (map put (at_indices t indices)) ≡ true → changed null (map put (at_indices t indices)) ≡ kept t indices
 unfolding kept
-kept_is t places s = changed-null (at_places t places) s
+kept_is t indices s = changed-null (at_indices t indices) s

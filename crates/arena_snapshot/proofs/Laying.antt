@@ -55,8 +55,8 @@ module _ (t : Tree) (ps : List Patch) (sizes : Sizes) (h : IsLayer t ps sizes) (
       omega (arith, same, share-le one (changed t (map change_of ps)) k, width-total (changed t (map change_of ps)))
 
   -- where the new child stands
-  pub place_is : (length (child_keys t) - before k t ≤ sizes.width) × (sizes.width - (length (child_keys t) - before k t) ≡ before k (changed t (map change_of ps)))
-  place_is =
+  pub index_is : (length (child_keys t) - before k t ≤ sizes.width) × (sizes.width - (length (child_keys t) - before k t) ≡ before k (changed t (map change_of ps)))
+  index_is =
       let even = between k (λ l. true) (λ l low. refl) t (map change_of ps) h.patches.changes (apart (map change_of ps) behind) in
       let new : sizes.width ≡ total one (changed t (map change_of ps)) = h.patches.width ∙ width-total (changed t (map change_of ps)) in
       let old : length (child_keys t) ≡ total one t = width-total t in
@@ -87,7 +87,7 @@ module _ (t : Tree) (ps : List Patch) (sizes : Sizes) (h : IsLayer t ps sizes) (
         nothing None = refl
         nothing (Some u) = ap one_if high
 
-    -- the patches keep their places
+    -- the patches keep their indices
     still : (rs : List Patch) → AllBefore k (map change_of rs) → AllByRecursion (IsPlaced t (changed t (map change_of ps))) rs → AllByRecursion (IsPlaced t (changed t (map change_of ps ++ (k, o) ∷ []))) rs
     still [] b a = tt
     still (r ∷ rs) b a = (record { stored = a.0.stored; here = a.0.here ∙ sym (unmoved r.key.now (ap is_lt (keys_total.antisymm k r.key.now ∙ ap ordering_reverse b.0))) }, still rs b.1 a.1)
@@ -112,7 +112,7 @@ module _ (t : Tree) (ps : List Patch) (sizes : Sizes) (h : IsLayer t ps sizes) (
           record {
             patches = record {
               changes = subst (AreChanges t) (sym changes_are) (record { root = h.patches.changes.root; ascending = ascends; each = each });
-              places = subst (λ ds. AllByRecursion (IsPlaced t (changed t ds)) qs) (sym changes_are) (subst (λ rs. AllByRecursion (IsPlaced t (changed t (map change_of ps ++ (k, o) ∷ []))) rs) (sym pushed_is) (all_push (IsPlaced t (changed t (map change_of ps ++ (k, o) ∷ []))) ps p (still ps behind h.patches.places) placed));
+              indices = subst (λ ds. AllByRecursion (IsPlaced t (changed t ds)) qs) (sym changes_are) (subst (λ rs. AllByRecursion (IsPlaced t (changed t (map change_of ps ++ (k, o) ∷ []))) rs) (sym pushed_is) (all_push (IsPlaced t (changed t (map change_of ps ++ (k, o) ∷ []))) ps p (still ps behind h.patches.indices) placed));
               width = new_width ∙ ap (λ ds. length (child_keys (changed t ds))) (sym changes_are);
             };
             fits = omega arith;
@@ -128,7 +128,7 @@ no_layer t ps sizes none root count width fits =
     record {
       patches = record {
         changes = subst (AreChanges t) (sym cs) (record { root = root; ascending = refl; each = tt });
-        places = subst (AllByRecursion (IsPlaced t (changed t (map change_of ps)))) (sym none) tt;
+        indices = subst (AllByRecursion (IsPlaced t (changed t (map change_of ps)))) (sym none) tt;
         width = width ∙ sym (width-total t) ∙ ap (λ u. length (child_keys u)) (sym same);
       };
       fits = omega arith;

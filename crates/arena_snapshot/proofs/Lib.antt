@@ -13,3 +13,5 @@ pub mod Entries
 pub mod Views
 pub mod Apart
 pub mod Keeping
+pub mod Neighbours
+pub mod Leaving

@@ -1,4 +1,4 @@
--- How many children stand before a key, and which key stands at a place.
+-- How many children stand before a key, and which key stands at an index.
 use Rattle.std.proofs.Common.{◌≡◌, ◌≢◌, ℕ, zero, suc, ◌+◌, ◌-◌, ◌≤◌, ◌<◌, ◌⊎◌, inl, inr, Bool, true, false, cond, not, ◌&&◌, List, [], ◌∷◌, map, length, get_or, Some, None, sym, ap, ◌∙◌, refl, arith}
 use Rattle.std.specs.List.{slice_get, sum_by, AllByRecursion}
 use Rattle.std.specs.Ordering.{is_lt, eq_by_cmp}
@@ -62,7 +62,7 @@ either : (b : Bool) → (b ≡ true) ⊎ (b ≡ false)
 either true = inl refl
 either false = inr refl
 
--- the keys before b are those at the first places
+-- the keys before b are those at the first indices
 pub rank_low : (b : Key) (es : Entries) (i : ℕ) (d : Key × Tree) → is_sorted key_cmp es ≡ true → i < length es → is_before (get_or es i d).0 b ≡ true → i < count_before b es
 rank_low b [] i d s low h = absurd (omega arith)
 rank_low b (e ∷ es) zero d s low h = omega (arith, counts_first b e es h)
@@ -96,23 +96,23 @@ before_at (e ∷ es) (suc i) d s low = omega (arith, counts_first (get_or es i d
 
 -- where a key is found
 record Found (k : Key) (es : Entries) : Type 0 where
-  place : ℕ
-  low : place < length es
-  is : (d : Key × Tree) → (get_or es place d).0 ≡ k
+  index : ℕ
+  low : index < length es
+  is : (d : Key × Tree) → (get_or es index d).0 ≡ k
 
 found : (k : Key) (u : Tree) (es : Entries) → find key_cmp k es ≡ Some u → Found k es
 found k u [] h = cc
 found k u (e ∷ es) h =
     elim (eq_by_cmp key_cmp k e.0) as (λ b. eq_by_cmp key_cmp k e.0 ≡ b → cond b (Some e.1) (find key_cmp k es) ≡ Some u → Found k (e ∷ es)) [
-      | true ↦ λ same _. record { place = 0; low = omega arith; is = λ d. sym (tied_key k e.0 same) }
-      | false ↦ λ _ g. let rest = found k u es g in record { place = suc rest.place; low = (let low = rest.low in omega arith); is = rest.is }
+      | true ↦ λ same _. record { index = 0; low = omega arith; is = λ d. sym (tied_key k e.0 same) }
+      | false ↦ λ _ g. let rest = found k u es g in record { index = suc rest.index; low = (let low = rest.low in omega arith); is = rest.is }
     ] refl h
 
 -- a key that is found stands behind those before it
-pub at_place : (k : Key) (u : Tree) (es : Entries) (d : Key × Tree) → is_sorted key_cmp es ≡ true → find key_cmp k es ≡ Some u → (count_before k es < length es) × ((get_or es (count_before k es) d).0 ≡ k)
-at_place k u es d s h =
+pub at_index : (k : Key) (u : Tree) (es : Entries) (d : Key × Tree) → is_sorted key_cmp es ≡ true → find key_cmp k es ≡ Some u → (count_before k es < length es) × ((get_or es (count_before k es) d).0 ≡ k)
+at_index k u es d s h =
     let at = found k u es h in
-    let is : count_before k es ≡ at.place = ap (λ l. count_before l es) (sym (at.is d)) ∙ before_at es at.place d s at.low in
+    let is : count_before k es ≡ at.index = ap (λ l. count_before l es) (sym (at.is d)) ∙ before_at es at.index d s at.low in
     let low = at.low in
     (omega arith, ap (λ i. (get_or es i d).0) is ∙ at.is d)
 
@@ -132,13 +132,13 @@ unfolding child_keys
 width-entries t = length-map (entries_of t) (λ e. e.0)
 
 -- a key of a child stands behind those before it
-pub child_place : (t : Tree) (k : Key) → sub t (k ∷ []) ≢ null → slice_get (child_keys t) (before k t) ≡ Some k
-child_place t k some =
+pub child_index : (t : Tree) (k : Key) → sub t (k ∷ []) ≢ null → slice_get (child_keys t) (before k t) ≡ Some k
+child_index t k some =
     let d : Key × Tree = (k, null) in
-    let at = at_place k (sub t (k ∷ [])) (entries_of t) d (entries_sorted t) (find-entries t k ∙ non_null-some (sub t (k ∷ [])) some) in
+    let at = at_index k (sub t (k ∷ [])) (entries_of t) d (entries_sorted t) (find-entries t k ∙ non_null-some (sub t (k ∷ [])) some) in
     key_at t (before k t) d at.0 ∙ ap Some at.1
 
--- ---- places among stored keys, and among those of a tree of which a few children are other ones
+-- ---- indices among stored keys, and among those of a tree of which a few children are other ones
 
 abbrev pub upto : (Key → Bool) → Key → Tree → ℕ
 upto upper l u = one_if (upper l)
@@ -199,14 +199,14 @@ module _ (x : Key) (upper : Key → Bool) (over : (l : Key) → is_before l x �
         some_is_none : Some (sub (changed t cs) (x ∷ [])) ≡ non_null null → ⊥
         some_is_none e = let none = e ∙ non_null-null in cc
 
--- the stored place of a key that stands at i
-pub stored_place : (t : Tree) (cs : List Change) (x : Key) (upper : Key → Bool) (i : ℕ) → AreChanges t cs → ((l : Key) → is_before l x ≡ true → upper l ≡ true)
+-- the stored index of a key that stands at i
+pub stored_index : (t : Tree) (cs : List Change) (x : Key) (upper : Key → Bool) (i : ℕ) → AreChanges t cs → ((l : Key) → is_before l x ≡ true → upper l ≡ true)
     → AllByRecursion (λ (c : Change). (is_before c.0 x ≡ true) ⊎ (upper c.0 ≡ false)) cs → upper x ≡ true → sub (changed t cs) (x ∷ []) ≢ null → before x (changed t cs) ≡ i → i ≤ total (upto upper) (changed t cs)
     → (total (upto upper) (changed t cs) - i ≤ total (upto upper) t) × (slice_get (child_keys t) (total (upto upper) t - (total (upto upper) (changed t cs) - i)) ≡ Some x)
-stored_place t cs x upper i h over apart under some at low =
+stored_index t cs x upper i h over apart under some at low =
     let same = between x upper over t cs h apart in
-    let place : total (upto upper) t - (total (upto upper) (changed t cs) - i) ≡ before x t = omega arith in
-    (omega arith, ap (slice_get (child_keys t)) place ∙ child_place t x (child_is_stored x upper over t cs h apart under some))
+    let index : total (upto upper) t - (total (upto upper) (changed t cs) - i) ≡ before x t = omega arith in
+    (omega arith, ap (slice_get (child_keys t)) index ∙ child_index t x (child_is_stored x upper over t cs h apart under some))
 
 -- ---- stored keys, as the code reads them
 

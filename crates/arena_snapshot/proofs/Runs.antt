@@ -105,7 +105,7 @@ starts k q = ap (λ b. is_some (cond b (Some q) None)) (bytes_eq-self k)
 starts_not : (k l : Key) (q : Path) → is_prefix (k ∷ []) (l ∷ q) ≡ false → bytes_eq k l ≡ false
 starts_not k l q h = elim (bytes_eq k l) as (λ b. is_some (cond b (Some q) None) ≡ false → b ≡ false) [ true ↦ λ g. absurd (false≢true (sym g)) | false ↦ λ _. refl ] h
 
--- the run of writes that begin with the key k, from the place n on
+-- the run of writes that begin with the key k, from the index n on
 pub record IsRun (ws : List Write) (n : ℕ) (k : Key) (xs : List Write) : Type 0 where
   pub low : n < length ws
   pub rest : Path

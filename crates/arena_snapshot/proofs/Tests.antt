@@ -1,5 +1,5 @@
 -- What a test says.
-use Rattle.std.proofs.Common.{◌≡◌, Bool, true, false, refl}
+use Rattle.std.proofs.Common.{◌≡◌, Bool, true, false, not, refl}
 use Rattle.std.specs.Bool.{OnTrue, OnFalse}
 use Rattle.std.proofs.lemmas.Bool.{false≢true}
 
@@ -14,3 +14,12 @@ on_false false P h = h refl
 pub from_true : (b : Bool) (P : Type 0) → OnTrue b P → b ≡ true → P
 from_true true P h is = h
 from_true false P h is = absurd (false≢true is)
+
+-- of what is tested by its opposite
+pub other_of : (b : Bool) (A P : Type 0) → OnFalse b (A → ⊥) → (P → A) → OnTrue (not b) (P → ⊥)
+other_of true A P differs h = tt
+other_of false A P differs h = λ p. differs (h p)
+
+pub same_of : (b : Bool) (A P : Type 0) → OnTrue b A → (A → P) → OnFalse (not b) P
+same_of true A P same h = h same
+same_of false A P same h = tt

@@ -3,5 +3,6 @@ pub mod Change
 pub mod Changing
 pub mod Patches
 pub mod Layer
+pub mod Leaving
 pub mod Left
 pub mod ViewFalls

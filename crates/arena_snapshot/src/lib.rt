@@ -6,6 +6,7 @@
 #![tactic(auto)]
 
 mod copies;
+mod difference;
 mod layer;
 mod overlapping;
 mod patches;
@@ -16,6 +17,7 @@ mod sizes;
 mod view;
 
 pub use copies::copy_out;
+pub use difference::is_changed;
 pub use overlapping::overlaps;
 pub use proposal::overlay;
 pub use sameness::same;

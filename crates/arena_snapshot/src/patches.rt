@@ -1,4 +1,4 @@
-//! Patches in the order of their keys: which child stands at a key, and which key at a place.
+//! Patches in the order of their keys: which child stands at a key, and which key at an index.
 ghost use Rattle.std.specs.Prelude.{◌≡◌, ◌<◌, ◌≤◌, ◌∷◌, [], true, false, length, map, option_map, slice_get};
 ghost use Rattle.std.specs.Bool.{OnTrue, OnFalse};
 ghost use Rattle.std.specs.List.Sorted.{IsSearchInRange, IsBinarySearchResult, IsPartitionedBy, IsPartitionPoint};
@@ -69,7 +69,7 @@ pub(crate) fn stored_before(base: Option<&Node>, key: &Key) -> usize
     low
 }
 
-// Whether the child at a place stands before a key.
+// Whether the child at an index stands before a key.
 fn is_before(base: Option<&Node>, i: usize, key: &Key) -> bool
     requires { i < length (child_keys (node_or_null base)) }
     ensures lower { OnTrue result (i < before key.now (node_or_null base.entry)) }
@@ -92,8 +92,8 @@ pub(crate) fn child_of<'a>(
     ensures { result ≡ non_null (sub
         (changed (node_or_null base.entry) (map change_of patches.now)) (name.now ∷ [])) }
 {
-    match place_of(patches, name) {
-        Ok(place) => match &patches[place].child {
+    match index_of(patches, name) {
+        Ok(index) => match &patches[index].child {
             Some(child) => Some(child.share()),
             None => None,
         },
@@ -102,7 +102,7 @@ pub(crate) fn child_of<'a>(
 }
 
 // Where the patch of this key is, or where it would go, by a binary search.
-fn place_of(patches: &[Patch], name: &str) -> Result<usize, usize>
+fn index_of(patches: &[Patch], name: &str) -> Result<usize, usize>
     ensures bound { IsSearchInRange result (length patches.now) }
     ensures position { IsBinarySearchResult (λ patch. key_cmp patch.key.now name.now)
         patches.now result }
@@ -110,7 +110,7 @@ fn place_of(patches: &[Patch], name: &str) -> Result<usize, usize>
     patches.binary_search_by(|patch| patch.key.text().cmp(name))
 }
 
-// The key at a place: that of a patch, or a stored one, as far before the next patch in the patched
+// The key at an index: that of a patch, or a stored one, as far before the next patch in the patched
 // node as it is in the node below.
 pub(crate) fn key_of<'a>(
     base: Option<&'a Node>,
@@ -136,7 +136,7 @@ pub(crate) fn key_of<'a>(
     stored_key(base, patch.stored_before - (patch.before - i))
 }
 
-// How many patches stand before a place, and none of them at it.
+// How many patches stand before an index, and none of them at it.
 fn count_behind(patches: &[Patch], i: usize) -> usize
     requires { IsPartitionedBy (is_behind i) patches.now }
     ensures bound { result ≤ length patches.now }
@@ -146,7 +146,7 @@ fn count_behind(patches: &[Patch], i: usize) -> usize
     patches.partition_point(|patch| is_behind(patch, i))
 }
 
-// Whether a place lies behind a patch.
+// Whether an index lies behind a patch.
 fn is_behind(patch: &Patch, i: usize) -> bool
     ensures { result ≡ is_behind i patch.now }
 {

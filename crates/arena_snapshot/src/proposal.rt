@@ -121,7 +121,8 @@ fn lay_below<'a>(
     Ok(layer.finish())
 }
 
-fn stored<'a>(node: Option<&'a Node>) -> Option<View<'a>>
+// The stored tree of an optional node.
+pub(crate) fn stored<'a>(node: Option<&'a Node>) -> Option<View<'a>>
     ensures { result ≡ non_null (node_or_null node.entry) }
 {
     match node {
@@ -186,7 +187,7 @@ fn key_of<'a>(write: &'a Write, depth: usize) -> &'a Key
     &write.at().keys()[depth]
 }
 
-// Where the writes end that stand from a place on and go on with this key.
+// Where the writes end that stand from an index on and go on with this key.
 fn run_end(writes: &[&Write], start: usize, depth: usize, key: &Key) -> usize
     requires { start ≤ length writes.now }
     ensures order { start ≤ result }

@@ -10,6 +10,8 @@ use json_tree::Leaf;
 
 /// Whether both are the same tree. It stops at the first difference: trees of another count or width
 /// differ at once, and else the children are compared in the order of their keys. It takes no memory.
+/// Of a stored tree and what writes propose of it, [`crate::is_changed`] tells without comparing what
+/// they share.
 #[cycle(same)]
 pub fn same(view: &View, other: &View) -> bool
     ensures same { OnTrue result (view.now ≡ other.now) }
@@ -44,7 +46,7 @@ fn have_same_children(view: &View, other: &View) -> bool
     true
 }
 
-// Whether the children at a place have the same key and are the same.
+// Whether the children at an index have the same key and are the same.
 #[cycle(same)]
 fn have_same_child(view: &View, other: &View, i: usize) -> bool
     ensures same { OnTrue result (slice_get (entries_of view.now) i ≡ slice_get (entries_of other.now) i) }

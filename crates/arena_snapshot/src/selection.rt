@@ -8,20 +8,20 @@ use crate::view::View;
 use bumpalo::Bump;
 use json_tree::NoMemory;
 
-/// The tree of the children at these places, if there is one: for n places, n growths of one list in
+/// The tree of the children at these indices, if there is one: for n indices, n growths of one list in
 /// the arena at most, and a binary search for each. The children themselves are borrowed.
 pub fn kept<'a>(
     bump: &'a Bump,
     view: &View<'a>,
-    places: &[usize],
+    indices: &[usize],
 ) -> Result<Option<View<'a>>, NoMemory>
-    requires { StrictlyAscend places.now }
-    ensures { IfOk result (λ view_of_kept. view_of_kept ≡ non_null (kept view.now places.now)) }
+    requires { StrictlyAscend indices.now }
+    ensures { IfOk result (λ view_of_kept. view_of_kept ≡ non_null (kept view.now indices.now)) }
 {
     view.law();
     let mut layer = Layer::new(bump, None)?;
-    for place in places {
-        if let Some((key, child)) = view.entry_at(*place) {
+    for index in indices {
+        if let Some((key, child)) = view.entry_at(*index) {
             layer.push(key, Some(child))?;
         }
     }

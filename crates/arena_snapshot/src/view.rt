@@ -123,8 +123,15 @@ impl<'a> View<'a> {
     pub fn at(&self, path: &Path) -> Option<View<'a>>
         ensures { result ≡ non_null (sub self.now path.now) }
     {
+        self.below(path.keys())
+    }
+
+    // The tree below these keys.
+    pub(crate) fn below(&self, keys: &[Key]) -> Option<View<'a>>
+        ensures { result ≡ non_null (sub self.now keys.now) }
+    {
         let mut view = self.share();
-        for key in path.keys() {
+        for key in keys {
             view = view.child(key.text())?;
         }
         view.law();
@@ -170,7 +177,7 @@ impl<'a> View<'a> {
         }
     }
 
-    // The child at a place, with its key.
+    // The child at an index, with its key.
     pub(crate) fn entry_at(&self, i: usize) -> Option<(&'a Key, View<'a>)>
         ensures { option_map (λ entry. (entry.0.now, entry.1)) result
             ≡ slice_get (entries_of self.now) i }

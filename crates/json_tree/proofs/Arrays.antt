@@ -191,35 +191,35 @@ graft-permutation cs ds moved apart = same_tree _ _ at
 pub ascending-permutation : (cs ds : List Child) → IsPermutation cs ds → AreApart cs → IsSortedBy before ds → is_sorted key_cmp ds ≡ true
 ascending-permutation cs ds moved apart h = ascending_from ds (ordered ds h) (apart-permutation cs ds moved apart)
 
--- ---- the places of an array are apart
+-- ---- the indices of an array are apart
 
-other_place : (i j : ℕ) → i < j → j < 2 ^ 64 → bytes_eq (decimal i) (decimal j) ≡ false
-other_place i j less within =
+other_index : (i j : ℕ) → i < j → j < 2 ^ 64 → bytes_eq (decimal i) (decimal j) ≡ false
+other_index i j less within =
     elim (bytes_eq (decimal i) (decimal j)) as (λ b. (b ≡ true → decimal i ≡ decimal j) → b ≡ false) [
       | true ↦ λ same. let e = decimal_injective i j (omega arith) within (same refl) in absurd (omega arith)
       | false ↦ λ _. refl
     ] (same_key (decimal i) (decimal j))
 
--- a place before i is not among those from i on
-no_earlier_place : (m i : ℕ) (vs : List Value) → m < i → i + length vs ≤ 2 ^ 64 → times (decimal m) (children_of (members_at i (items_view vs))) ≡ 0
-no_earlier_place m i [] less within = refl
-no_earlier_place m i (v ∷ vs) less within =
-    let rest = no_earlier_place m (suc i) vs (omega arith) (omega arith) in
+-- an index before i is not among those from i on
+no_earlier_index : (m i : ℕ) (vs : List Value) → m < i → i + length vs ≤ 2 ^ 64 → times (decimal m) (children_of (members_at i (items_view vs))) ≡ 0
+no_earlier_index m i [] less within = refl
+no_earlier_index m i (v ∷ vs) less within =
+    let rest = no_earlier_index m (suc i) vs (omega arith) (omega arith) in
     by_null (λ b. times (decimal m) (cond b (children_of (members_at (suc i) (items_view vs))) ((decimal i, of_json (view v)) ∷ children_of (members_at (suc i) (items_view vs)))) ≡ 0) (of_json (view v))
     (λ _. rest)
-    (λ _. times-cons (decimal m) (decimal i, of_json (view v)) (children_of (members_at (suc i) (items_view vs))) ∙ ap (λ b. cond b 1 0 + times (decimal m) (children_of (members_at (suc i) (items_view vs)))) (other_place m i less (omega arith)) ∙ (let e = rest in omega arith))
+    (λ _. times-cons (decimal m) (decimal i, of_json (view v)) (children_of (members_at (suc i) (items_view vs))) ∙ ap (λ b. cond b 1 0 + times (decimal m) (children_of (members_at (suc i) (items_view vs)))) (other_index m i less (omega arith)) ∙ (let e = rest in omega arith))
 
-pub places_apart : (i : ℕ) (vs : List Value) → i + length vs ≤ 2 ^ 64 → AreApart (children_of (members_at i (items_view vs)))
-places_apart i [] within k = omega arith
-places_apart i (v ∷ vs) within k =
-    let rest = places_apart (suc i) vs (omega arith) k in
+pub indices_apart : (i : ℕ) (vs : List Value) → i + length vs ≤ 2 ^ 64 → AreApart (children_of (members_at i (items_view vs)))
+indices_apart i [] within k = omega arith
+indices_apart i (v ∷ vs) within k =
+    let rest = indices_apart (suc i) vs (omega arith) k in
     let more = children_of (members_at (suc i) (items_view vs)) in
     by_null (λ b. times k (cond b more ((decimal i, of_json (view v)) ∷ more)) ≤ 1) (of_json (view v))
     (λ _. rest)
     (λ _.
     let total = times-cons k (decimal i, of_json (view v)) more in
     let le : cond (bytes_eq k (decimal i)) 1 0 + times k more ≤ 1 = elim (bytes_eq k (decimal i)) as (λ b. (b ≡ true → k ≡ decimal i) → cond b 1 0 + times k more ≤ 1) [
-      | true ↦ λ same. let none : times k more ≡ 0 = ap (λ l. times l more) (same refl) ∙ no_earlier_place i (suc i) vs (omega arith) (omega arith) in omega arith
+      | true ↦ λ same. let none : times k more ≡ 0 = ap (λ l. times l more) (same refl) ∙ no_earlier_index i (suc i) vs (omega arith) (omega arith) in omega arith
       | false ↦ λ _. omega arith
     ] (same_key k (decimal i)) in
     omega arith)
@@ -230,14 +230,14 @@ module _ (vs : List Value) (built sorted : List Child) (is : built ≡ children_
   moved_from : IsPermutation (children_of (members_at 0 (items_view vs))) sorted
   moved_from = subst (λ cs. IsPermutation cs sorted) is moved
 
-  apart_in_places : AreApart (children_of (members_at 0 (items_view vs)))
-  apart_in_places = places_apart 0 vs (omega arith)
+  apart_in_indices : AreApart (children_of (members_at 0 (items_view vs)))
+  apart_in_indices = indices_apart 0 vs (omega arith)
 
   pub array_ascending : IsSortedBy before sorted → is_sorted key_cmp sorted ≡ true
-  array_ascending h = ascending-permutation _ sorted moved_from apart_in_places h
+  array_ascending h = ascending-permutation _ sorted moved_from apart_in_indices h
 
   pub array_tree : graft sorted ≡ of_json (array (items_view vs))
-  array_tree = graft-permutation _ sorted moved_from apart_in_places ∙ graft-children_of (members_at 0 (items_view vs)) ∙ of_json-array (items_view vs)
+  array_tree = graft-permutation _ sorted moved_from apart_in_indices ∙ graft-children_of (members_at 0 (items_view vs)) ∙ of_json-array (items_view vs)
 
   pub array_room : levels_of_items (items_view vs) ≤ MAX_DEPTH + 1 → All (λ c. depth c.1 < MAX_DEPTH) sorted
   array_room h = All-permutation (λ c. depth c.1 < MAX_DEPTH) _ sorted moved_from (all_from_recursion (λ c. depth c.1 < MAX_DEPTH) _ (children_have_room (members_at 0 (items_view vs)) (subst (λ n. n ≤ MAX_DEPTH + 1) (sym (levels-members_at 0 (items_view vs))) h)))

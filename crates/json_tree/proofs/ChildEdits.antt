@@ -25,7 +25,7 @@ use Rattle.json_tree.proofs.Proposing.{proposed-graft, removed-null, empty_graft
 
 -- ---- the child of a key
 
--- d is the child at the place i, and the name is its key
+-- d is the child at the index i, and the name is its key
 pub record StandsAt (cs : List (Key × Tree)) (i : ℕ) (d : Key × Tree) (name : Key) : Type 0 where
   pub children : AreLawfulChildren cs
   pub within : i < length cs
@@ -100,7 +100,7 @@ module _ {cs : List (Key × Tree)} {i : ℕ} {d : Key × Tree} {name : Key} (h :
 
 -- ---- a key that no child has
 
--- no child has the name as its key, and i is the place where it would go
+-- no child has the name as its key, and i is the index where it would go
 pub record IsMissing (cs : List (Key × Tree)) (i : ℕ) (name : Key) : Type 0 where
   pub children : AreLawfulChildren cs
   pub none : find key_cmp name cs ≡ None

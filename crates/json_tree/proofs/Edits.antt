@@ -29,7 +29,7 @@ same_key_at cs i d name is = ap (λ k. key_cmp k name) is ∙ tied_itself keys_t
 -- ---- the value of a child is set
 
 module _ {X : Type 0} (d : Key × X) (v : X) where
-  -- the child at a place, with this value
+  -- the child at an index, with this value
   abbrev pub set_value : List (Key × X) → ℕ → List (Key × X)
   set_value cs i = set cs i ((get_or cs i d).0, v)
 
@@ -56,7 +56,7 @@ module _ {X : Type 0} (d : Key × X) (v : X) where
 
 -- ---- a child is inserted
 
--- the keys before a place are below the name, and those from it on above
+-- the keys before an index are below the name, and those from it on above
 pub record IsGap {X : Type 0} (name : Key) (cs : List (Key × X)) (i : ℕ) : Type 0 where
   pub within : i ≤ length cs
   pub before : (j : ℕ) (d : Key × X) → j < length cs → j < i → key_cmp (get_or cs j d).0 name ≡ Less

@@ -50,7 +50,7 @@ digits_may_stand n h = decimal_by_steps (λ _ ds. list_all is_key_byte ds ≡ tr
     (λ d small. both_so _ _ (digit_may_stand d small) refl)
     (λ m ds _ front. list_all-append is_key_byte ds ((48 + m % 10) ∷ []) ∙ both_so _ _ front (both_so _ _ (digit_may_stand (m % 10) (omega arith)) refl)) n h
 
--- the digits of a place in an array are a lawful key
+-- the digits of an index in an array are a lawful key
 pub is_key-decimal : (n : ℕ) → n < 2 ^ 64 → is_key (decimal n) ≡ true
 is_key-decimal n h =
     is_key-utf8 (decimal n) (IsUtf8-from_ascii (decimal n) (IsAscii-decimal n h))

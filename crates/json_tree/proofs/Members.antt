@@ -94,7 +94,7 @@ pub graft-children_of : (ms : Members) → graft (children_of ms) ≡ of_json (o
 unfolding graft of_json
 graft-children_of ms = same_tree _ _ (λ q. map_of.get-from_entries paths_total (spread (children_of ms)) q ∙ find-children ms q ∙ sym (map_of.get-from_entries paths_total (pairs_of_members ms) q))
 
--- ---- an array is the object of its places
+-- ---- an array is the object of its indices
 
 pairs-members_at : (i : ℕ) (ds : Items) → pairs_of_members (members_at i ds) ≡ pairs_of_items i ds
 pairs-members_at i no_items = refl

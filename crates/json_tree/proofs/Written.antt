@@ -97,7 +97,7 @@ below_at k [] i d h inside = absurd (omega arith)
 below_at k (c ∷ cs) zero d h inside = first_so _ _ h
 below_at k (c ∷ cs) (suc i) d h inside = below_at k cs i d (second_so (is_lt (key_cmp k c.0)) _ h) (omega arith)
 
--- in order, those before a place are below it
+-- in order, those before an index are below it
 pub all_below : (cs : List (Key × Tree)) (i : ℕ) (d : Key × Tree) → is_sorted key_cmp cs ≡ true → i < length cs → AllByRecursion (λ e. is_lt (key_cmp e.0 (get_or cs i d).0) ≡ true) (take i cs)
 all_below [] i d h inside = absurd (omega arith)
 all_below (c ∷ cs) zero d h inside = tt

@@ -172,7 +172,7 @@ fn build(alloc: Global, value: &Value) -> Result<Option<Node>, NoMemory>
     }
 }
 
-// The children of an array, in the order of their places.
+// The children of an array, in the order of their indices.
 #[cycle(build)]
 fn build_items(alloc: Global, items: &Vec<Value>) -> Result<Vec<(Key, Node)>, NoMemory>
     requires lawful { are_lawful_items (items_view items.now.items) ≡ true }
@@ -181,10 +181,10 @@ fn build_items(alloc: Global, items: &Vec<Value>) -> Result<Vec<(Key, Node)>, No
         (λ children. children.items ≡ children_of (members_at 0 (items_view items.now.items))) }
 {
     let mut children = Vec::with_capacity(alloc, items.len())?;
-    for (place, item) in items.iter().enumerate() {
+    for (index, item) in items.iter().enumerate() {
         let built = build(alloc, item)?;
         if let Some(node) = built {
-            children.push((Key::of_index(alloc, place)?, node))?;
+            children.push((Key::of_index(alloc, index)?, node))?;
         }
     }
     Ok(children)

@@ -22,9 +22,9 @@ pub fn what_is_written_is_read_back()
     ensures lawful { (t : Tree) → IsLawful t → IsTrue (is_lawful (value_of t)) }
 {}
 
-/// An array is the object of its places, what is null or empty is nothing, and objects nest.
+/// An array is the object of its indices, what is null or empty is nothing, and objects nest.
 pub fn what_a_value_describes()
-    ensures places { of_json (array (item empty (item (string (codes "x")) no_items))) ≡ map_of.from_entries ((codes "1" ∷ [], words (codes "x")) ∷ []) }
+    ensures indices { of_json (array (item empty (item (string (codes "x")) no_items))) ≡ map_of.from_entries ((codes "1" ∷ [], words (codes "x")) ∷ []) }
     ensures nested { of_json (object (member (codes "a") (object (member (codes "b") (boolean true) no_members)) no_members)) ≡ map_of.from_entries ((codes "a" ∷ codes "b" ∷ [], truth true) ∷ []) }
     ensures nothing { of_json empty ≡ null }
     ensures no_members { of_json (object (member (codes "a") (array no_items) no_members)) ≡ null }

@@ -92,7 +92,7 @@ impl Key {
         })
     }
 
-    // The key of a place in an array: its decimal digits.
+    // The key of an index in an array: its decimal digits.
     pub(crate) fn of_index(alloc: Global, index: usize) -> Result<Key, NoMemory>
         ensures { IfOk result (λ key. key ≡ decimal index) }
     {

@@ -49,11 +49,11 @@ impl Number {
 
 /// A text of at most 65,536 bytes. Contracts see its bytes. (This project's profile.)
 #[derive(Debug, Drop)]
-pub struct Text {
+pub struct LeafText {
     held: String,
 }
 
-impl Model for Text {
+impl Model for LeafText {
     ghost use Rattle.std.specs.Prelude.{◌≡◌, ℕ, List, true, string_bytes};
     ghost use Rattle.tree_model.specs.Primitive.{is_text};
 
@@ -64,7 +64,7 @@ impl Model for Text {
     ghost invariant = { λ text. is_text (string_bytes text.held) ≡ true };
 }
 
-impl Text {
+impl LeafText {
     /// The text itself.
     pub fn as_str(&self) -> &str
         ensures bytes { result.now ≡ self.now }
@@ -74,11 +74,11 @@ impl Text {
     }
 
     // The text of these bytes, in one growth.
-    fn new(alloc: Global, text: &str) -> Result<Text, NoMemory>
+    fn new(alloc: Global, text: &str) -> Result<LeafText, NoMemory>
         requires { length text.now ≤ MAX_TEXT_BYTES }
         ensures { IfOk result (λ held. held ≡ text.now) }
     {
-        Ok(Text {
+        Ok(LeafText {
             held: String::from_str(alloc, text)?,
         })
     }
@@ -89,7 +89,7 @@ impl Text {
 pub enum Leaf {
     Truth(bool),
     Whole(Number),
-    Words(Text),
+    Words(LeafText),
 }
 
 impl Leaf {
@@ -101,7 +101,7 @@ impl Leaf {
         requires { length text.now ≤ MAX_TEXT_BYTES }
         ensures { IfOk result (λ leaf. primitive_of leaf ≡ words text.now) }
     {
-        Ok(Leaf::Words(Text::new(alloc, text)?))
+        Ok(Leaf::Words(LeafText::new(alloc, text)?))
     }
 
     /// The same leaf once more. A text takes one growth.

@@ -19,7 +19,7 @@ pub use json_laws::{
     what_a_tree_is_written_as, what_a_value_describes, what_is_written_is_read_back,
 };
 pub use key::{Key, KeyFault, is_lawful_key};
-pub use leaf::{Leaf, Number, Text};
+pub use leaf::{Leaf, LeafText, Number};
 pub use memory::NoMemory;
 pub use node::Node;
 pub use puts::put;

@@ -207,14 +207,14 @@ fn child_of<'a>(children: &'a Vec<(Key, Node)>, name: &str) -> Option<&'a Node>
     ensures { option_map (λ node. node.now) result
         ≡ non_null (sub (graft children.now.items) (name.now ∷ [])) }
 {
-    match place_of(children, name) {
-        Ok(place) => Some(&children[place].1),
+    match index_of(children, name) {
+        Ok(index) => Some(&children[index].1),
         Err(_) => None,
     }
 }
 
 // Where the child of this key is, or where it would go, by a binary search.
-pub(crate) fn place_of(children: &Vec<(Key, Node)>, name: &str) -> Result<usize, usize>
+pub(crate) fn index_of(children: &Vec<(Key, Node)>, name: &str) -> Result<usize, usize>
     ensures bound { IsSearchInRange result (length children.now.items) }
     ensures position { IsBinarySearchResult (λ child. key_cmp child.0 name.now)
         children.now.items result }

@@ -11,7 +11,7 @@ ghost use Rattle.json_tree.specs.Working.Share.{Exchanges};
 
 use crate::key::Key;
 use crate::memory::NoMemory;
-use crate::node::{Kind, Node, place_of};
+use crate::node::{Kind, Node, index_of};
 use crate::share::{Exchange, NO_EXCHANGE, NO_SHARE, share_of, sizes_after};
 use std::alloc::Global;
 use tree_model::MAX_DEPTH;
@@ -112,17 +112,17 @@ fn insert_below(
         ≡ proposed (graft children.old.items) ((key ∷ reverse keys.old.items, value) ∷ [])) }
     ensures err { OnErr result (children.new.items ≡ children.old.items) }
 {
-    match place_of(children, key.text()) {
-        Ok(place) => {
-            let before = share_of(&children[place].1);
-            insert(alloc, &mut children[place].1, keys, value)?;
-            let after = share_of(&children[place].1);
+    match index_of(children, key.text()) {
+        Ok(index) => {
+            let before = share_of(&children[index].1);
+            insert(alloc, &mut children[index].1, keys, value)?;
+            let after = share_of(&children[index].1);
             Ok(Exchange { before, after })
         }
-        Err(place) => {
+        Err(index) => {
             let below = chain(alloc, keys, value)?;
             let after = share_of(&below);
-            children.insert(place, (key, below))?;
+            children.insert(index, (key, below))?;
             Ok(Exchange {
                 before: NO_SHARE,
                 after,
@@ -204,18 +204,18 @@ fn remove_below(children: &mut Vec<(Key, Node)>, key: &Key, rest: &[Key]) -> Opt
     ensures left { OnSome result (graft children.new.items
         ≡ proposed (graft children.old.items) ((key.now ∷ rest.now, null) ∷ [])) }
 {
-    match place_of(children, key.text()) {
-        Ok(place) => {
-            let before = share_of(&children[place].1);
-            if !remove(&mut children[place].1, rest) {
-                let after = share_of(&children[place].1);
+    match index_of(children, key.text()) {
+        Ok(index) => {
+            let before = share_of(&children[index].1);
+            if !remove(&mut children[index].1, rest) {
+                let after = share_of(&children[index].1);
                 return Some(Exchange { before, after });
             }
             let is_only_child = children.len() == 1;
             if is_only_child {
                 return None;
             }
-            children.remove(place);
+            children.remove(index);
             Some(Exchange {
                 before,
                 after: NO_SHARE,

@@ -1,12 +1,10 @@
-//! The tests of the libraries below the database: what no clause of theirs says, that each call that
-//! allocates can succeed, and worked values. They stand in a crate of their own, since a crate with
+//! The tests of trees, paths and rules files: what no clause of these libraries says, that each call
+//! that allocates can succeed, and worked values. They stand in a crate of their own, since a crate with
 //! tests is proved twice.
 #![tactic(auto)]
 
 #[cfg(test)]
 mod chat_rules;
-#[cfg(test)]
-mod expressions;
 #[cfg(test)]
 mod game_rules;
 #[cfg(test)]
@@ -22,11 +20,7 @@ mod rules_files;
 #[cfg(test)]
 mod school_rules;
 #[cfg(test)]
-mod sorts;
-#[cfg(test)]
 mod tables;
-#[cfg(test)]
-mod token_texts;
 #[cfg(test)]
 mod trees;
 #[cfg(test)]

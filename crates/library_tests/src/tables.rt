@@ -3,10 +3,10 @@ use std::alloc::{AllocError, Global};
 use std::test::Fail;
 
 /// A question and its answer.
-pub type Row = (&'static str, &'static str);
+pub(crate) type Row = (&'static str, &'static str);
 
 /// A long question, by its front, a piece, how often that is repeated, and its back; and its answer.
-pub type LongRow = (
+pub(crate) type LongRow = (
     &'static str,
     &'static str,
     usize,
@@ -15,7 +15,7 @@ pub type LongRow = (
 );
 
 /// The first row with another answer, and that answer; else nothing.
-pub fn first_other<F: Fn(Global, &str) -> Result<String, Fail>>(
+pub(crate) fn first_other<F: Fn(Global, &str) -> Result<String, Fail>>(
     alloc: Global,
     rows: &[Row],
     answer: F,
@@ -32,7 +32,7 @@ pub fn first_other<F: Fn(Global, &str) -> Result<String, Fail>>(
 }
 
 /// The same of long questions.
-pub fn first_other_of_long<F: Fn(Global, &str) -> Result<String, Fail>>(
+pub(crate) fn first_other_of_long<F: Fn(Global, &str) -> Result<String, Fail>>(
     alloc: Global,
     rows: &[LongRow],
     answer: F,
@@ -50,7 +50,7 @@ pub fn first_other_of_long<F: Fn(Global, &str) -> Result<String, Fail>>(
 }
 
 /// A text with a piece that is repeated.
-pub fn long(
+pub(crate) fn long(
     alloc: Global,
     front: &str,
     piece: &str,

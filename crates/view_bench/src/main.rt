@@ -3,7 +3,7 @@
 #![tactic(auto)]
 
 use anyhow::{Context, Result};
-use arena_snapshot::{View, overlaps, overlay};
+use arena_snapshot::{View, is_changed, overlaps, overlay, same};
 use bumpalo::Bump;
 use json_tree::{Node, from_json};
 use path_capture::{Path, Write};
@@ -15,6 +15,9 @@ use std::time::Instant;
 
 // How often each operation is made.
 const TIMES: u32 = 10_000;
+
+// How many writes an update has.
+const UPDATES: [u32; 3] = [1, 10, 100];
 
 fn main(rt: HostRuntime) -> Result<()> {
     let mut asked = false;
@@ -34,9 +37,16 @@ fn time_width(rt: &(impl Clock + Print), alloc: Global, width: u32) -> Result<()
     let write = write_of(alloc, "/k7/text", "\"hello\"")?;
     let mut arena = Bump::new(alloc);
     let start = Instant::now(rt)?;
-    let made = overlay_often(&mut arena, base.as_ref(), &write);
+    let made = lay_often(
+        &mut arena,
+        base.as_ref(),
+        std::slice::from_ref(&write),
+        TIMES,
+    );
     let laying = start.elapsed(rt)?;
     println!(rt; "width {width}: {TIMES} times overlay {laying:?} (made {made})")?;
+    time_updates(rt, alloc, base.as_ref(), width)?;
+    time_comparing(rt, alloc, base.as_ref(), &write)?;
     time_readers(rt, &arena, base.as_ref(), &write)
 }
 
@@ -63,6 +73,118 @@ fn time_readers(
     Ok(())
 }
 
+// How long updates of several writes take, in as many rounds as make `TIMES` writes.
+fn time_updates(
+    rt: &(impl Clock + Print),
+    alloc: Global,
+    base: Option<&Node>,
+    width: u32,
+) -> Result<()> {
+    for count in UPDATES {
+        let writes = writes_of(alloc, width, count)?;
+        time_update(rt, alloc, base, &writes, TIMES / count.max(1))?;
+    }
+    Ok(())
+}
+
+fn time_update(
+    rt: &(impl Clock + Print),
+    alloc: Global,
+    base: Option<&Node>,
+    writes: &[Write],
+    rounds: u32,
+) -> Result<()> {
+    let mut arena = Bump::new(alloc);
+    let start = Instant::now(rt)?;
+    let apart = test_often(writes, rounds);
+    let testing = start.elapsed(rt)?;
+    let made = lay_often(&mut arena, base, writes, rounds);
+    let both = start.elapsed(rt)?;
+    println!(rt;
+        "  {rounds} times {} writes: overlaps {testing:?} ({apart}), then with overlay {both:?} in all ({made})",
+        writes.len()
+    )?;
+    Ok(())
+}
+
+// How often so many writes were found not to overlap.
+fn test_often(writes: &[Write], rounds: u32) -> u32 {
+    let mut apart = 0u32;
+    for _ in 0..rounds {
+        if !overlaps(writes) {
+            apart = apart.saturating_add(1);
+        }
+    }
+    apart
+}
+
+// How long it takes to find out whether a write changes what stands beside it, at it and above it, and
+// to compare the stored tree with itself.
+fn time_comparing(
+    rt: &(impl Clock + Print),
+    alloc: Global,
+    base: Option<&Node>,
+    write: &Write,
+) -> Result<()> {
+    for path in ["/k8", "/k7", "/"] {
+        time_asking(rt, base, write, &Path::parse(alloc, path)?, path)?;
+    }
+    let start = Instant::now(rt)?;
+    let is_same = is_same_as_itself(base);
+    let comparing = start.elapsed(rt)?;
+    println!(rt; "  once same of the stored tree and itself {comparing:?} ({is_same})")?;
+    Ok(())
+}
+
+fn time_asking(
+    rt: &(impl Clock + Print),
+    base: Option<&Node>,
+    write: &Write,
+    place: &Path,
+    path: &str,
+) -> Result<()> {
+    let start = Instant::now(rt)?;
+    let changed = ask_often(base, write, place);
+    let asking = start.elapsed(rt)?;
+    println!(rt; "  {TIMES} times is_changed at {path} {asking:?} (changed {changed})")?;
+    Ok(())
+}
+
+fn is_same_as_itself(base: Option<&Node>) -> bool {
+    match base {
+        Some(node) => same(&View::stored(node), &View::stored(node)),
+        None => true,
+    }
+}
+
+fn ask_often(base: Option<&Node>, write: &Write, path: &Path) -> u32 {
+    let writes = std::slice::from_ref(write);
+    let mut changed = 0u32;
+    if overlaps(writes) {
+        return changed;
+    }
+    for _ in 0..TIMES {
+        if is_changed(base, writes, path) {
+            changed = changed.saturating_add(1);
+        }
+    }
+    changed
+}
+
+// So many writes of a primitive two keys deep, spread over the children of a node of this width, in
+// the order of their locations.
+fn writes_of(alloc: Global, width: u32, count: u32) -> Result<Vec<Write>> {
+    let mut writes = Vec::new(alloc);
+    let step = width / count.max(1);
+    for i in 0..count {
+        let key = i.saturating_mul(step);
+        let path = format!(in alloc; "/k{key}/text")?;
+        writes.push(write_of(alloc, path.as_str(), "\"hello\"")?)?;
+    }
+    writes.sort_unstable_by(|a, b| a.at().compare(b.at()));
+    Ok(writes)
+}
+
 // An object of so many objects.
 fn object_of(alloc: Global, width: u32) -> Result<String, AllocError> {
     let mut text = String::from_str(alloc, "{\"a\":0")?;
@@ -84,10 +206,10 @@ fn write_of(alloc: Global, path: &str, value: &str) -> Result<Write> {
 }
 
 // How many of the overlays were made, each in an arena that is reset.
-fn overlay_often(arena: &mut Bump, base: Option<&Node>, write: &Write) -> u32 {
+fn lay_often(arena: &mut Bump, base: Option<&Node>, writes: &[Write], rounds: u32) -> u32 {
     let mut made = 0u32;
-    for _ in 0..TIMES {
-        if is_laid(arena, base, write) {
+    for _ in 0..rounds {
+        if is_laid(arena, base, writes) {
             made = made.saturating_add(1);
         }
         if arena.reset().is_err() {
@@ -97,8 +219,7 @@ fn overlay_often(arena: &mut Bump, base: Option<&Node>, write: &Write) -> u32 {
     made
 }
 
-fn is_laid(arena: &Bump, base: Option<&Node>, write: &Write) -> bool {
-    let writes = std::slice::from_ref(write);
+fn is_laid(arena: &Bump, base: Option<&Node>, writes: &[Write]) -> bool {
     !overlaps(writes) && overlay(arena, base, writes).is_ok()
 }
 

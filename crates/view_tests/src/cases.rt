@@ -6,10 +6,10 @@ use std::alloc::Global;
 use std::test::Fail;
 
 /// A question and its answer.
-pub type Row = (&'static str, &'static str);
+pub(crate) type Row = (&'static str, &'static str);
 
 /// The first row with another answer, and that answer; else nothing.
-pub fn first_other<F: Fn(Global, &str) -> Result<String, Fail>>(
+pub(crate) fn first_other<F: Fn(Global, &str) -> Result<String, Fail>>(
     alloc: Global,
     rows: &[Row],
     answer: F,
@@ -26,7 +26,7 @@ pub fn first_other<F: Fn(Global, &str) -> Result<String, Fail>>(
 }
 
 /// The tree of a JSON text.
-pub fn tree_of(alloc: Global, text: &str) -> Result<Option<Node>, Fail> {
+pub(crate) fn tree_of(alloc: Global, text: &str) -> Result<Option<Node>, Fail> {
     let value = Value::from_str(alloc, text)?;
     match from_json(alloc, &value) {
         Ok(tree) => Ok(tree),
@@ -36,7 +36,7 @@ pub fn tree_of(alloc: Global, text: &str) -> Result<Option<Node>, Fail> {
 }
 
 /// The writes behind the bars.
-pub fn writes_of(alloc: Global, text: &str) -> Result<Vec<Write>, Fail> {
+pub(crate) fn writes_of(alloc: Global, text: &str) -> Result<Vec<Write>, Fail> {
     let mut writes = Vec::new(alloc);
     for piece in text.split('|') {
         writes.push(write_of(alloc, piece.trim())?)?;

@@ -1,6 +1,6 @@
 //! Worked values: the proposed trees of the definitions, and what a view says of them.
 use crate::cases::{Row, first_other, tree_of, writes_of};
-use arena_snapshot::{View, copy_out, kept, overlaps, overlay, same};
+use arena_snapshot::{View, copy_out, is_changed, kept, overlaps, overlay, same};
 use bumpalo::Bump;
 use json_tree::to_json;
 use path_capture::Path;
@@ -94,6 +94,35 @@ fn writes_propose_a_tree(rt: HostRuntime) -> Result<(), Fail> {
     Ok(())
 }
 
+const OVERLAPS: [Row; 9] = [
+    ("/a=1 | /b=2 | /b/c=3 | /d=4", "overlap"),
+    ("/a=1 | /a-b=2 | /a/b=3", "overlap"),
+    ("/d=1 | /b/c=2 | /a=3 | /b=4", "overlap"),
+    ("/b=1 | /b=2", "overlap"),
+    ("/a=1 | /=2", "overlap"),
+    ("/a=1 | /b/c=2 | /b/d=3 | /bc=4", "apart"),
+    ("/d=1 | /b/c=2 | /a=3 | /b/a=4", "apart"),
+    ("/b/c=1 | /a=2", "apart"),
+    ("/=1", "apart"),
+];
+
+fn overlapping(alloc: Global, question: &str) -> Result<String, Fail> {
+    let writes = writes_of(alloc, question)?;
+    let answer = if overlaps(&writes) {
+        "overlap"
+    } else {
+        "apart"
+    };
+    Ok(String::from_str(alloc, answer)?)
+}
+
+#[test]
+fn which_writes_overlap(rt: HostRuntime) -> Result<(), Fail> {
+    let other = first_other(rt.alloc(), &OVERLAPS, overlapping)?;
+    assert_eq!(rt; other.as_str(), "");
+    Ok(())
+}
+
 const BASE: &str = "{\"b\":{\"c\":1},\"d\":\"x\",\"f\":3}";
 
 const WRITES: &str = "/b/e=2 | /d=null | /a=true";
@@ -171,12 +200,54 @@ fn which_views_are_the_same(rt: HostRuntime) -> Result<(), Fail> {
     Ok(())
 }
 
-// The child at one place of the proposed tree, kept.
-fn kept_at(alloc: Global, place: usize) -> Result<String, Fail> {
+const STORED: &str = "{\"a\":{\"b\":{\"c\":1},\"d\":\"x\"},\"e\":5}";
+
+const CHANGES: [Row; 14] = [
+    ("/a of /e=6", "the same"),
+    ("/e of /e=6", "changed"),
+    ("/ of /e=6", "changed"),
+    ("/a of /a/b/c=1 | /a/d=\"x\"", "the same"),
+    ("/a of /a/b/c=1 | /a/d=\"y\"", "changed"),
+    ("/a/b of /a/b/c=1 | /a/d=\"y\"", "the same"),
+    ("/a/b of /a={\"b\":{\"c\":1}}", "the same"),
+    ("/a/b of /a={\"c\":1}", "changed"),
+    ("/a/b/c of /={\"c\":1}", "changed"),
+    ("/e/f of /e/g=1", "the same"),
+    ("/e of /e/g=1", "changed"),
+    ("/e of /e/g=null", "the same"),
+    ("/f/g of /f=null", "the same"),
+    ("/ of /=null", "changed"),
+];
+
+fn changed(alloc: Global, question: &str) -> Result<String, Fail> {
+    let (path, writes) = question.split_once(" of ").ok_or("no path")?;
+    let path = Path::parse(alloc, path)?;
+    let writes = writes_of(alloc, writes)?;
+    let base = tree_of(alloc, STORED)?;
+    if overlaps(&writes) {
+        return Ok(String::from_str(alloc, "overlap")?);
+    }
+    let answer = if is_changed(base.as_ref(), &writes, &path) {
+        "changed"
+    } else {
+        "the same"
+    };
+    Ok(String::from_str(alloc, answer)?)
+}
+
+#[test]
+fn what_writes_change(rt: HostRuntime) -> Result<(), Fail> {
+    let other = first_other(rt.alloc(), &CHANGES, changed)?;
+    assert_eq!(rt; other.as_str(), "");
+    Ok(())
+}
+
+// The child at one index of the proposed tree, kept.
+fn kept_at(alloc: Global, index: usize) -> Result<String, Fail> {
     let base = tree_of(alloc, BASE)?;
     let arena = Bump::new(alloc);
     let view = View::stored(base.as_ref().ok_or("null")?);
-    let kept = kept(&arena, &view, std::slice::from_ref(&place))?;
+    let kept = kept(&arena, &view, std::slice::from_ref(&index))?;
     described(alloc, kept.as_ref())
 }
 

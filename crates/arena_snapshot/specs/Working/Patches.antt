@@ -14,14 +14,14 @@ pub record IsPlaced (old new : Tree) (p : Patch) : Type 0 where
   pub stored : p.stored_before ≡ before p.key.now old
   pub here : p.before ≡ before p.key.now new
 
--- the place i lies behind the patch: at it stands a child behind the patch's key
+-- the index i lies behind the patch: at it stands a child behind the patch's key
 abbrev pub is_behind : ℕ → Patch → Bool
 is_behind i p = nat_lt p.before i || (nat_eq p.before i && not (is_some p.child))
 
--- patches that may stand over a tree, each with its places, and the width of what they make
+-- patches that may stand over a tree, each with its indices, and the width of what they make
 pub record ArePatches (t : Tree) (ps : List Patch) (wide : ℕ) : Type 0 where
   pub changes : AreChanges t (map change_of ps)
-  pub places : AllByRecursion (IsPlaced t (changed t (map change_of ps))) ps
+  pub indices : AllByRecursion (IsPlaced t (changed t (map change_of ps))) ps
   pub width : wide ≡ length (child_keys (changed t (map change_of ps)))
 
 -- the parts of a patched node, with its count up to the greatest `usize`

@@ -6,7 +6,7 @@ use Rattle.tree_model.specs.PathMap.{is_null}
 use Rattle.tree_model.specs.Tree.{Tree}
 use Rattle.json_tree.specs.Json.{of_json}
 
--- an array from the place i on, as members
+-- an array from the index i on, as members
 abbrev pub members_at : ℕ → Items → Members
 members_at i no_items = no_members
 members_at i (item d ds) = member (decimal i) d (members_at (suc i) ds)

@@ -10,17 +10,17 @@ pub returns-in-Some : goal.returns-in-Some
 returns-in-Some c =
     let ps = c.args.patches.now in
     let name = c.args.name.now in
-    let held : Patch = c.index-patches-place.result in
-    let found = searched name ps (Ok c.in-Ok.place) c.requires.ascending c.in-Ok.ensures.bound c.in-Ok.ensures.position held in
-    ap Some c.share.ensures ∙ sym c.in-Some.is ∙ sym (child_found (node_or_null c.args.base) (map change_of ps) name (get_or ps c.in-Ok.place held).child c.requires found)
+    let held : Patch = c.index-patches-index.result in
+    let found = searched name ps (Ok c.in-Ok.index) c.requires.ascending c.in-Ok.ensures.bound c.in-Ok.ensures.position held in
+    ap Some c.share.ensures ∙ sym c.in-Some.is ∙ sym (child_found (node_or_null c.args.base) (map change_of ps) name (get_or ps c.in-Ok.index held).child c.requires found)
 
 pub returns-in-None : goal.returns-in-None
 returns-in-None c =
     let ps = c.args.patches.now in
     let name = c.args.name.now in
-    let held : Patch = c.index-patches-place.result in
-    let found = searched name ps (Ok c.in-Ok.place) c.requires.ascending c.in-Ok.ensures.bound c.in-Ok.ensures.position held in
-    sym c.in-None.is ∙ sym (child_found (node_or_null c.args.base) (map change_of ps) name (get_or ps c.in-Ok.place held).child c.requires found)
+    let held : Patch = c.index-patches-index.result in
+    let found = searched name ps (Ok c.in-Ok.index) c.requires.ascending c.in-Ok.ensures.bound c.in-Ok.ensures.position held in
+    sym c.in-None.is ∙ sym (child_found (node_or_null c.args.base) (map change_of ps) name (get_or ps c.in-Ok.index held).child c.requires found)
 
 pub returns-in-Err : goal.returns-in-Err
 returns-in-Err c =

@@ -72,21 +72,21 @@ build-returns-in_ok-children-in-Array t c =
     let tree = array_tree vs c.in_ok-children-in-Array.children.items c.sort.new.children.items c.in_ok-children-in-Array.ensures c.sort.ensures.permutation short in
     IfOk-weaker c.parent.result _ _ (λ node is. is ∙ ap non_null (tree ∙ ap of_json (sym (ap view c.in-Array.is ∙ view-Array c.in-Array.items)))) c.parent.ensures
 
-pub build_items-loop-place-preserved : goal.build_items-loop-place-preserved
-build_items-loop-place-preserved t c =
+pub build_items-loop-index-preserved : goal.build_items-loop-index-preserved
+build_items-loop-index-preserved t c =
     let vs = c.deref-item-items.result.now in
-    let i = c.loop-place.place in
+    let i = c.loop-index.index in
     let v = c.item-item.result in
     let all = children_of (members_at 0 (items_view c.args.items.now.items)) in
-    let done = c.loop-place.children.items in
+    let done = c.loop-index.children.items in
     elim c.match-built.branch [
       | build_items-in-Some+in_ok-of_index+in_ok-push w ↦
-          item_some done all vs i v (omega arith) c.item-item.is c.loop-place.invariant w.in_ok-of_index.field-0 w.in-Some.node c.match-built.children.items w.in_ok-of_index.ensures
+          item_some done all vs i v (omega arith) c.item-item.is c.loop-index.invariant w.in_ok-of_index.field-0 w.in-Some.node c.match-built.children.items w.in_ok-of_index.ensures
           (ap (λ children. children.items) w.children-is ∙ w.in_ok-push.ensures.items)
           (sym w.in-Some.is ∙ c.in_ok-built.ensures)
       | build_items-in_default w ↦
           subst (λ children. ItemsBuilt children.items (i + 1) (items_view (drop (i + 1) vs)) all) (sym w.children-is)
-          (item_none done all vs i v (omega arith) c.item-item.is c.loop-place.invariant (sym w.in_default.is ∙ c.in_ok-built.ensures))
+          (item_none done all vs i v (omega arith) c.item-item.is c.loop-index.invariant (sym w.in_default.is ∙ c.in_ok-built.ensures))
     ]
 
 -- ---- an object

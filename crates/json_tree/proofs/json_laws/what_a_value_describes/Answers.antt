@@ -4,9 +4,9 @@ use Rattle.std.specs.Fmt.{digits}
 use Rattle.json_tree.specs.Json.{of_json}
 use Rattle.json_tree.proofs.json_laws.what_a_value_describes.Goals as goal
 
-pub returns-clause-places : goal.returns-clause-places
+pub returns-clause-indices : goal.returns-clause-indices
 unfolding of_json digits
-returns-clause-places c = refl
+returns-clause-indices c = refl
 
 pub returns-clause-nested : goal.returns-clause-nested
 unfolding of_json

@@ -9,7 +9,7 @@ pub returns-in-Ok : goal.returns-in-Ok
 returns-in-Ok c =
     let items = c.args.children.now.items in
     let name = c.args.name.now in
-    let found = searched name items (Ok c.in-Ok.place) c.requires.ascending c.in-Ok.ensures.bound c.in-Ok.ensures.position c.index.result.now in
+    let found = searched name items (Ok c.in-Ok.index) c.requires.ascending c.in-Ok.ensures.bound c.in-Ok.ensures.position c.index.result.now in
     ap (λ (child : Key × Tree). Some child.1) c.index.ensures ∙ sym found ∙ sym (child-graft items name c.requires)
 
 pub returns-in-Err : goal.returns-in-Err

@@ -65,21 +65,21 @@ pub insert_below-returns-in_ok-insert-in-Ok-clause-children : goal.insert_below-
 insert_below-returns-in_ok-insert-in-Ok-clause-children t c =
     let cs = c.args.children.now.items in
     let d : Key × Tree = c.index_mut.result.now in
-    let found : StandsAt cs c.in-Ok.place d c.text.result.now = record { children = c.requires.children; within = c.in-Ok.ensures.bound; at = c.index_mut.ensures.value; tied = c.in-Ok.ensures.position d } in
+    let found : StandsAt cs c.in-Ok.index d c.text.result.now = record { children = c.requires.children; within = c.in-Ok.ensures.bound; at = c.index_mut.ensures.value; tied = c.in-Ok.ensures.position d } in
     let back = length-reverse c.args.keys.now.items in
     let within = c.requires.room in
     let room = room_after c.insert.result d.1 c.insert.new.node (reverse c.args.keys.now.items) c.args.value c.insert.ensures.ok c.insert.ensures.err (depth_there found) (omega arith) in
-    let after = set_there cs c.in-Ok.place (d.0, c.insert.new.node) c.index-in-Ok.result.now c.in-Ok.ensures.bound c.index-in-Ok.ensures in
+    let after = set_there cs c.in-Ok.index (d.0, c.insert.new.node) c.index-in-Ok.result.now c.in-Ok.ensures.bound c.index-in-Ok.ensures in
     children-set found c.insert.new.node (subst (λ (x : Key × Tree). x.1 ≢ null) after c.share_of-after.ensures.some) (subst (λ (x : Key × Tree). IsLawful x.1) after c.share_of-after.ensures.lawful) room
 
 pub insert_below-returns-in_ok-insert-in-Ok-clause-exchange : goal.insert_below-returns-in_ok-insert-in-Ok-clause-exchange
 insert_below-returns-in_ok-insert-in-Ok-clause-exchange t c =
     let cs = c.args.children.now.items in
     let d : Key × Tree = c.index_mut.result.now in
-    let after = set_there cs c.in-Ok.place (d.0, c.insert.new.node) c.index-in-Ok.result.now c.in-Ok.ensures.bound c.index-in-Ok.ensures in
+    let after = set_there cs c.in-Ok.index (d.0, c.insert.new.node) c.index-in-Ok.result.now c.in-Ok.ensures.bound c.index-in-Ok.ensures in
     let before = c.share_of-before.ensures in
     let later = c.share_of-after.ensures in
-    exchanges-set cs c.in-Ok.place _ c.index.result.now d.0 c.insert.new.node c.in-Ok.ensures.bound c.index.ensures
+    exchanges-set cs c.in-Ok.index _ c.index.result.now d.0 c.insert.new.node c.in-Ok.ensures.bound c.index.ensures
     (record { depth = before.depth; count = before.count })
     (subst (λ (x : Key × Tree). IsShareOf x.1 c.share_of-after.result.depth c.share_of-after.result.count) after (record { depth = later.depth; count = later.count }))
 
@@ -87,15 +87,15 @@ pub insert_below-returns-in_ok-insert-in-Ok-clause-ok : goal.insert_below-return
 insert_below-returns-in_ok-insert-in-Ok-clause-ok t c =
     let cs = c.args.children.now.items in
     let d : Key × Tree = c.index_mut.result.now in
-    let found : StandsAt cs c.in-Ok.place d c.text.result.now = record { children = c.requires.children; within = c.in-Ok.ensures.bound; at = c.index_mut.ensures.value; tied = c.in-Ok.ensures.position d } in
+    let found : StandsAt cs c.in-Ok.index d c.text.result.now = record { children = c.requires.children; within = c.in-Ok.ensures.bound; at = c.index_mut.ensures.value; tied = c.in-Ok.ensures.position d } in
     graft-set found (reverse c.args.keys.now.items) c.insert.new.node c.args.value c.in_ok-insert-in-Ok.ensures.ok ∙ ap (λ k. proposed (graft cs) ((k ∷ (reverse c.args.keys.now.items), c.args.value) ∷ [])) c.text.ensures.bytes
 
 pub insert_below-returns-in_ok-insert-in-Err-clause-children : goal.insert_below-returns-in_ok-insert-in-Err-clause-children
 insert_below-returns-in_ok-insert-in-Err-clause-children t c =
     let cs = c.args.children.now.items in
     let below : Tree = c.in_ok-below-in-Err.below in
-    let missing = missing_at cs c.in-Err.place c.text.result.now c.requires.children c.in-Err.ensures.bound c.in-Err.ensures.position in
-    let items = c.in_ok-insert-in-Err.ensures.items ∙ ap (λ k. insert cs c.in-Err.place (k, below)) (sym c.text.ensures.bytes) in
+    let missing = missing_at cs c.in-Err.index c.text.result.now c.requires.children c.in-Err.ensures.bound c.in-Err.ensures.position in
+    let items = c.in_ok-insert-in-Err.ensures.items ∙ ap (λ k. insert cs c.in-Err.index (k, below)) (sym c.text.ensures.bytes) in
     let deep = depth-chain below (reverse c.args.keys.now.items) c.args.value c.in_ok-below-in-Err.ensures in
     let within = c.requires.room in
     let back = length-reverse c.args.keys.now.items in
@@ -107,14 +107,14 @@ pub insert_below-returns-in_ok-insert-in-Err-clause-exchange : goal.insert_below
 insert_below-returns-in_ok-insert-in-Err-clause-exchange t c =
     let cs = c.args.children.now.items in
     let share = c.share_of-after-in-Err.ensures in
-    rw (c.in_ok-insert-in-Err.ensures.items) (exchanges-insert cs c.in-Err.place _ c.args.key c.in_ok-below-in-Err.below refl refl (record { depth = share.depth; count = share.count }))
+    rw (c.in_ok-insert-in-Err.ensures.items) (exchanges-insert cs c.in-Err.index _ c.args.key c.in_ok-below-in-Err.below refl refl (record { depth = share.depth; count = share.count }))
 
 pub insert_below-returns-in_ok-insert-in-Err-clause-ok : goal.insert_below-returns-in_ok-insert-in-Err-clause-ok
 insert_below-returns-in_ok-insert-in-Err-clause-ok t c =
     let cs = c.args.children.now.items in
     let below : Tree = c.in_ok-below-in-Err.below in
-    let missing = missing_at cs c.in-Err.place c.text.result.now c.requires.children c.in-Err.ensures.bound c.in-Err.ensures.position in
-    let items = c.in_ok-insert-in-Err.ensures.items ∙ ap (λ k. insert cs c.in-Err.place (k, below)) (sym c.text.ensures.bytes) in
+    let missing = missing_at cs c.in-Err.index c.text.result.now c.requires.children c.in-Err.ensures.bound c.in-Err.ensures.position in
+    let items = c.in_ok-insert-in-Err.ensures.items ∙ ap (λ k. insert cs c.in-Err.index (k, below)) (sym c.text.ensures.bytes) in
     ap graft items
     ∙ graft-insert missing (reverse c.args.keys.now.items) below c.args.value c.in_ok-below-in-Err.ensures
     ∙ ap (λ k. proposed (graft cs) ((k ∷ (reverse c.args.keys.now.items), c.args.value) ∷ [])) c.text.ensures.bytes

@@ -1,7 +1,7 @@
 use Rattle.std.proofs.Common.{◌-◌, ◌∙◌, refl, arith}
 use Rattle.arena_snapshot.specs.View.{node_or_null}
 use Rattle.arena_snapshot.proofs.Ranks.{before_within}
-use Rattle.arena_snapshot.proofs.Laying.{count_room, width_room, place_is, layer_is}
+use Rattle.arena_snapshot.proofs.Laying.{count_room, width_room, index_is, layer_is}
 use Rattle.arena_snapshot.proofs.layer.Layer.push.Goals as goal
 
 pub overflow_sub-before : goal.overflow_sub-before
@@ -13,7 +13,7 @@ overflow_sub-before c =
 
 pub overflow_sub-before-2 : goal.overflow_sub-before-2
 overflow_sub-before-2 c =
-    let place = (place_is (node_or_null c.args.self.now.base) c.args.self.now.patches.items c.args.self.now.sizes c.requires.layer c.args.key.now c.args.child c.requires.behind).0 in
+    let index = (index_is (node_or_null c.args.self.now.base) c.args.self.now.patches.items c.args.self.now.sizes c.requires.layer c.args.key.now c.args.child c.requires.behind).0 in
     let at = c.stored_before-stored_before.ensures in
     let wide = c.stored_width.ensures in
     omega arith
@@ -26,9 +26,9 @@ exchanged-requires-clause-width c = width_room (node_or_null c.args.self.now.bas
 
 pub returns-clause-layer : goal.returns-clause-layer
 returns-clause-layer c =
-    let place = (place_is (node_or_null c.args.self.now.base) c.args.self.now.patches.items c.args.self.now.sizes c.requires.layer c.args.key.now c.args.child c.requires.behind).1 in
+    let index = (index_is (node_or_null c.args.self.now.base) c.args.self.now.patches.items c.args.self.now.sizes c.requires.layer c.args.key.now c.args.child c.requires.behind).1 in
     layer_is (node_or_null c.args.self.now.base) c.args.self.now.patches.items c.args.self.now.sizes c.requires.layer c.args.key.now c.args.child c.requires.behind c.requires.some
     _ c.push.new.self.items c.in_ok-sizes.sizes c.in_ok-push.ensures.items refl
     c.stored_before-stored_before.ensures
-    ((λ j. c.args.self.now.sizes.width - (c.stored_width.ensures j - c.stored_before-stored_before.ensures j)) ∙ place)
+    ((λ j. c.args.self.now.sizes.width - (c.stored_width.ensures j - c.stored_before-stored_before.ensures j)) ∙ index)
     c.in_ok-sizes.ensures.count c.in_ok-sizes.ensures.width c.in_ok-sizes.ensures.fits

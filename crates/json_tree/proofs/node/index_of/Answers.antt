@@ -3,7 +3,7 @@ use Rattle.std.specs.List.Sorted.{IsBinarySearchResult}
 use Rattle.std.proofs.lemmas.Fn.{always_returns_same}
 use Rattle.tree_model.specs.Key.{Key, key_cmp}
 use Rattle.tree_model.specs.Tree.{Tree}
-use Rattle.json_tree.proofs.node.place_of.Goals as goal
+use Rattle.json_tree.proofs.node.index_of.Goals as goal
 
 pub returns-clause-position : goal.returns-clause-position
 returns-clause-position c =

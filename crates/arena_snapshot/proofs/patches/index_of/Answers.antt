@@ -2,7 +2,7 @@ use Rattle.std.proofs.Common.{rules}
 use Rattle.std.proofs.lemmas.Fn.{always_returns_same}
 use Rattle.tree_model.specs.Key.{key_cmp}
 use Rattle.arena_snapshot.specs.declared.view.Patch.{Patch}
-use Rattle.arena_snapshot.proofs.patches.place_of.Goals as goal
+use Rattle.arena_snapshot.proofs.patches.index_of.Goals as goal
 
 pub returns-clause-position : goal.returns-clause-position
 returns-clause-position c =
