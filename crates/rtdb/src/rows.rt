@@ -10,7 +10,7 @@ pub struct Row {
     pub end: ScriptEnd,
 }
 
-pub const ROWS: [Row; 23] = [
+pub const ROWS: [Row; 25] = [
     Row {
         name: "deeper_grant_stays_deep",
         input: br#"{"rules":"{\"rules\":{\".read\":false,\"a\":{\".read\":false,\"b\":{\".read\":true}}}}"}
@@ -86,10 +86,26 @@ pub const ROWS: [Row; 23] = [
         end: ScriptEnd::BadHeader,
     },
     Row {
-        name: "an expression as text",
+        name: "a literal as text",
         input: br#"{"rules":"{\"rules\":{\"a\":{\".read\":\"true\"}}}"}
 "#,
-        output: br#"{"at":"/a","code":402,"name":"BadRulesShape","ok":false}
+        output: br#"{"ok":true,"rules":1}
+"#,
+        end: ScriptEnd::Finished,
+    },
+    Row {
+        name: "an expression that is not judged yet",
+        input: br#"{"rules":"{\"rules\":{\"a\":{\".read\":\"auth != null\"}}}"}
+"#,
+        output: br#"{"at":"/","code":402,"name":"BadRulesShape","ok":false}
+"#,
+        end: ScriptEnd::BadHeader,
+    },
+    Row {
+        name: "an expression that is none",
+        input: br#"{"rules":"{\"rules\":{\"a\":{\".read\":\"1 +\"}}}"}
+"#,
+        output: br#"{"at":"/a","byte":3,"code":403,"name":"BadExpression","ok":false,"rule":".read"}
 "#,
         end: ScriptEnd::BadHeader,
     },
