@@ -1,5 +1,6 @@
 use Rattle.std.proofs.Common.{◌≡◌, ◌+◌, ◌<◌, ℕ, Bool, false, nat_eq, List, [], ◌∷◌, Some, None, length, drop, slice_get, sym, ap, ◌∙◌, subst, refl, arith}
 use Rattle.std.specs.Borrow.{Bor}
+use Rattle.tree_model.specs.Key.{Key}
 use Rattle.tree_model.specs.Path.{Path}
 use Rattle.tree_model.specs.Tree.{first_key}
 use Rattle.judge.specs.declared.validate.Failure.{Failure}
