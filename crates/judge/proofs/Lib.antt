@@ -6,3 +6,5 @@ pub mod Near
 pub mod Deciding
 pub mod Places
 pub mod Refusing
+pub mod Decided
+pub mod Tops

@@ -3,12 +3,13 @@ ghost use Rattle.std.specs.Prelude.{◌≡◌, [], ◌∷◌, map, IfOk, MatchOp
 ghost use Rattle.tree_model.specs.Write.{location, proposed};
 ghost use Rattle.path_capture.specs.Write.{tree_or_null};
 ghost use Rattle.evaluator.specs.Asked.{asked_of};
-ghost use Rattle.judge.specs.Question.{scene_of};
+ghost use Rattle.judge.specs.Question.{scene_of, access_at};
 ghost use Rattle.rules_reader.specs.declared.kind.Kind.TheVariants.{Write as WriteKind, Validate as ValidateKind};
 ghost use Rattle.tree_model.specs.Tree.{IsLawful};
 ghost use Rattle.judge.specs.Failing.{IsValid};
 ghost use Rattle.judge.specs.Judging.{IsReadVerdict, IsWriteVerdict, MayWriteAll};
-ghost use Rattle.judge.specs.Working.Standing.{StandsAtRoot, coming_of};
+ghost use Rattle.judge.specs.Working.Standing.{StandsAtRoot, AsksFor, question_of, coming_of};
+ghost use Rattle.evaluator.specs.Env.{access_of};
 ghost use Rattle.judge.specs.Working.Locations.{paths, PathsAscend};
 
 use crate::grant::{named, refused_from};
@@ -39,22 +40,37 @@ pub fn judge_read<'a>(
 ) -> Result<Verdict, NoMemory>
     ensures { IfOk result (IsReadVerdict (scene_of scene.now) (asked_of asked.now) path.now) }
 {
-    let access = Access::Reads(asked);
+    let locations = alone(bump, path)?;
+    judge_alone(alloc, bump, scene, path, asked, locations.as_slice())
+}
+
+// The same, of the path as the only one in a list.
+fn judge_alone<'a>(
+    alloc: Global,
+    bump: &'a Bump,
+    scene: &'a Scene<'a>,
+    path: &Path,
+    asked: &'a Asked<'a>,
+    locations: &'a [&'a Path],
+) -> Result<Verdict, NoMemory>
+    requires { paths locations.now ≡ path.now ∷ [] }
+    ensures { IfOk result (IsReadVerdict (scene_of scene.now) (asked_of asked.now) path.now) }
+{
+    let _path = path;
     let asking = Asking {
         bump,
         scene,
-        access,
+        access: Access::Reads(asked),
         kind: Kind::Read,
     };
-    let spot = Spot {
-        rule: scene.rules.root(),
-        here: root_of(bump, &scene.old)?,
-        access,
-    };
-    let locations = alone(bump, path)?;
+    let spot = at_root(&asking)?;
     let mut captures = Captures::new(alloc);
-    match refused_from(alloc, &asking, &spot, locations, &mut captures)? {
-        Some(denial) => Ok(Verdict::ReadDenied(named(alloc, &denial.seen)?)),
+    let denial = refused_from(alloc, &asking, &spot, locations, &mut captures)?;
+    match denial {
+        Some(denial) => {
+            let rules = named(alloc, denial.seen.as_slice())?;
+            Ok(Verdict::ReadDenied(rules))
+        }
         None => Ok(Verdict::Granted),
     }
 }
@@ -81,7 +97,7 @@ pub fn judge_write<'a>(
 {
     let mut locations = locations_of(bump, writes)?;
     sort(&mut locations);
-    judge_ordered(alloc, bump, scene, &coming, &locations)
+    judge_ordered(alloc, bump, scene, &coming, locations.as_slice())
 }
 
 // The same, of locations in their order.
@@ -95,29 +111,28 @@ fn judge_ordered<'a>(
     requires { PathsAscend (paths locations.now) }
     ensures { IfOk result (IsWriteVerdict (scene_of scene.now) (tree_or_null coming.now) (paths locations.now)) }
 {
-    let access = Access::Writes(root_of(bump, coming)?);
-    let spot = Spot {
-        rule: scene.rules.root(),
-        here: root_of(bump, &scene.old)?,
-        access,
-    };
+    law_of(coming);
+    let root = root_of(bump, coming)?;
     let asking = Asking {
         bump,
         scene,
-        access,
+        access: Access::Writes(root),
         kind: Kind::Write,
     };
-    if let Some(denied) = write_denied(alloc, &asking, &spot, locations)? {
-        return Ok(denied);
+    let spot = at_root(&asking)?;
+    let refused = write_denied(alloc, &asking, &spot, locations)?;
+    if let Some(verdict) = refused {
+        return Ok(verdict);
     }
-    let asking = Asking {
+    let validating = Asking {
         bump,
         scene,
-        access,
+        access: Access::Writes(root),
         kind: Kind::Validate,
     };
-    if let Some(denied) = validate_denied(alloc, &asking, &spot, locations)? {
-        return Ok(denied);
+    let failed = validate_denied(alloc, &validating, &spot, locations)?;
+    if let Some(verdict) = failed {
+        return Ok(verdict);
     }
     Ok(Verdict::Granted)
 }
@@ -135,9 +150,10 @@ fn write_denied<'a>(
     ensures { IfOk result (λ denied. MatchOption denied (MayWriteAll (scene_of asking.now.scene.now) (coming_of asking.now) (paths locations.now)) (IsWriteVerdict (scene_of asking.now.scene.now) (coming_of asking.now) (paths locations.now))) }
 {
     let mut captures = Captures::new(alloc);
-    match refused_from(alloc, asking, spot, locations, &mut captures)? {
+    let denial = refused_from(alloc, asking, spot, locations, &mut captures)?;
+    match denial {
         Some(denial) => {
-            let rules = named(alloc, &denial.seen)?;
+            let rules = named(alloc, denial.seen.as_slice())?;
             let location = denial.location.copy(alloc)?;
             Ok(Some(Verdict::WriteDenied(location, rules)))
         }
@@ -160,14 +176,40 @@ fn validate_denied<'a>(
     ensures { IfOk result (λ denied. MatchOption denied (IsValid (scene_of asking.now.scene.now) (coming_of asking.now) (paths locations.now)) (IsWriteVerdict (scene_of asking.now.scene.now) (coming_of asking.now) (paths locations.now))) }
 {
     let mut captures = Captures::new(alloc);
-    match towards(alloc, asking, spot, locations, &mut captures)? {
+    let failure = towards(alloc, asking, spot, locations, &mut captures)?;
+    match failure {
         Some(failure) => {
-            let place = place_of(alloc, &failure.keys)?;
+            let place = place_of(alloc, failure.keys.as_slice())?;
             let pattern = failure.pattern.copy()?;
             let why = failure.why;
             Ok(Some(Verdict::ValidateDenied(place, pattern, why)))
         }
         None => Ok(None),
+    }
+}
+
+// Where a walk begins: at the root.
+fn at_root<'a>(asking: &Asking<'a>) -> Result<Spot<'a>, NoMemory>
+    requires asks { AsksFor asking.now.kind (question_of asking.now).request }
+    requires root { access_of asking.now.access ≡ access_at (question_of asking.now).request [] }
+    ensures { IfOk result (StandsAtRoot asking.now) }
+{
+    let rule = asking.scene.rules.root();
+    let here = root_of(asking.bump, &asking.scene.old)?;
+    Ok(Spot {
+        rule,
+        here,
+        access: asking.access,
+    })
+}
+
+// What holds of a view holds of the tree, also where there is none.
+fn law_of(view: &Option<View>)
+    ensures { IsLawful (tree_or_null view.now) }
+{
+    match view {
+        Some(view) => view.law(),
+        None => {}
     }
 }
 
@@ -185,12 +227,13 @@ fn root_of<'a>(
     Ok(bump.try_alloc(Snapshot::root(view))?)
 }
 
-// One location, as a list of locations in the arena.
-fn alone<'a>(bump: &'a Bump, path: &'a Path) -> Result<&'a [&'a Path], NoMemory>
-    ensures { IfOk result (λ locations. paths locations.now ≡ path.now ∷ []) }
+// One location, as a list of locations.
+fn alone<'a>(bump: &'a Bump, path: &'a Path) -> Result<Vec<&'a Path, &'a Bump>, NoMemory>
+    ensures { IfOk result (λ locations. paths locations.items ≡ path.now ∷ []) }
 {
-    let locations = bump.try_alloc([path])?;
-    Ok(locations.as_slice())
+    let mut locations = Vec::with_capacity(bump, 1)?;
+    locations.push(path)?;
+    Ok(locations)
 }
 
 // The location of each write.
