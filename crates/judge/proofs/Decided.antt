@@ -33,6 +33,9 @@ answer_of_rule q kind path pattern a one h =
     ∙ ap (option_map {U = Answer} (λ (rule : Checked). (pattern, outcome rule.tree (env_at q pattern path)))) h.states
     ∙ ap (λ (o : Outcome). Some (pattern, o)) h.is
 
+some_same : {A : Type 0} (x y : A) → Some x ≡ Some y → x ≡ y
+some_same x y e = cc
+
 find_passes : {A : Type 0} (test : A → Bool) (xs : List A) (y : A) → find test xs ≡ Some y → test y ≡ true
 find_passes test [] y h = cc
 find_passes test (x ∷ xs) y h = elim (test x) as (λ b. test x ≡ b → cond b (Some x) (find test xs) ≡ Some y → test y ≡ true) [
@@ -49,10 +52,7 @@ rule_of_answer q kind path pattern a h = by_pattern (standing q.scene.book path)
   where
     by_rule : (p : Pattern) (o : Option Checked) → option_and_then (stated_for kind) (get q.scene.book p) ≡ o → stands_at q.scene.book path p ≡ true → option_map {U = Answer} (λ (rule : Checked). (p, outcome rule.tree (env_at q p path))) o ≡ Some (pattern, a) → Answers q kind path pattern a
     by_rule p None s stands e = cc
-    by_rule p (Some rule) s stands e = subst (λ (x : Answer). Answers q kind path x.0 x.1) (same e) record { stands = does_stand q.scene.book path p stands; rule = rule; states = s; is = refl }
-      where
-        same : Some (p, outcome rule.tree (env_at q p path)) ≡ Some (pattern, a) → (p, outcome rule.tree (env_at q p path)) ≡ (pattern, a)
-        same g = cc
+    by_rule p (Some rule) s stands e = subst (λ (x : Answer). Answers q kind path x.0 x.1) (some_same {A = Answer} (p, outcome rule.tree (env_at q p path)) (pattern, a) e) record { stands = does_stand q.scene.book path p stands; rule = rule; states = s; is = refl }
 
     by_pattern : (o : Option Pattern) → standing q.scene.book path ≡ o → option_and_then (answer_of q kind path) o ≡ Some (pattern, a) → Answers q kind path pattern a
     by_pattern None s e = cc
@@ -82,10 +82,7 @@ fails_so q kind path pattern why h = by_answer (answer_at q kind path) refl h
   where
     by_why : (p : Pattern) (a : Outcome) (o : Option Why) → why_of a ≡ o → answer_at q kind path ≡ Some (p, a) → option_map {U = Pattern × Why} (λ (w : Why). (p, w)) o ≡ Some (pattern, why) → Fails q kind path pattern why
     by_why p a None s at e = cc
-    by_why p a (Some w) s at e = subst (λ (x : Pattern × Why). Fails q kind path x.0 x.1) (same e) record { answer = a; answers = rule_of_answer q kind path p a at; reason = s }
-      where
-        same : Some (p, w) ≡ Some (pattern, why) → (p, w) ≡ (pattern, why)
-        same g = cc
+    by_why p a (Some w) s at e = subst (λ (x : Pattern × Why). Fails q kind path x.0 x.1) (some_same {A = Pattern × Why} (p, w) (pattern, why) e) record { answer = a; answers = rule_of_answer q kind path p a at; reason = s }
 
     by_answer : (o : Option Answer) → answer_at q kind path ≡ o → failing o ≡ Some (pattern, why) → Fails q kind path pattern why
     by_answer None at e = cc
