@@ -20,4 +20,4 @@ evaluate-requires c =
 pub returns : goal.returns
 returns c =
     answers_some (question_of c.args.asking.now) c.args.asking.now.kind c.args.spot.now.rule.now c.args.spot.now.here.now (access_of c.args.spot.now.access) c.args.captures.now c.in-Some.rule.now c.in_ok-outcome.outcome c.requires.at
-    (c.rule.ensures.stated ∙ ap (λ (o : Option (Bor Checked)). Some (option_map (λ (r : Bor Checked). r.now) o)) c.in-Some.is) c.in_ok-outcome.ensures
+    (c.rule.ensures.stated ∙ ap (λ (o : Option (Bor Checked)). Some (option_map (λ (r : Bor Checked). r.now) o)) c.in-Some.is) c.in_ok-outcome.ensures.outcome

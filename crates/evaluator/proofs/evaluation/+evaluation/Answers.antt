@@ -1,0 +1,103 @@
+use Rattle.std.proofs.Common.{◌≡◌, ◌∙◌, ap, sym, subst, arith, Some, None, IfOk, Option}
+use Rattle.std.specs.Prelude.{option_map}
+use Rattle.std.proofs.lemmas.Grind.{common_steps}
+use Rattle.std.specs.Option.{option_and_then}
+use Rattle.expr_parser.specs.View.{view, view_argument, views, arguments}
+use Rattle.evaluator.specs.Value.{Part, as_value}
+use Rattle.evaluator.specs.Calls.{call_of, called_with_two, called_with_list, have_children, has_child}
+use Rattle.evaluator.specs.Env.{env_of}
+use Rattle.evaluator.specs.Mean.{mean, given, values}
+use Rattle.evaluator.specs.Working.Parts.{value_of, part_of, argument_value}
+use Rattle.evaluator.proofs.Lists.{call_is, two_are, many_are, one_is, list_is, element_errs, child_errs, all_found, no_holder, some_holder}
+use Rattle.evaluator.proofs.evaluation.+evaluation.Goals as goal
+
+pub have_children-returns-in_err-child-clause-erred : goal.have_children-returns-in_err-child-clause-erred
+have_children-returns-in_err-child-clause-erred t c =
+    let env = env_of c.args.env.now in
+    let stops : as_value (mean (view c.item-item.result) env) ≡ None → option_and_then (have_children c.args.place.now) (values (views c.args.items.now) env) ≡ None = element_errs c.args.place.now c.args.items.now env c.loop-item.item-index c.loop-item.all c.item-item.result (omega arith) c.item-item.is c.loop-item.invariant in
+    grind (arith, common_steps, stops)
+
+pub have_children-returns-in_err-there-clause-erred : goal.have_children-returns-in_err-there-clause-erred
+have_children-returns-in_err-there-clause-erred t c =
+    let env = env_of c.args.env.now in
+    let stops : has_child c.args.place.now (value_of c.in_ok-child.child) ≡ None → option_and_then (have_children c.args.place.now) (values (views c.args.items.now) env) ≡ None = child_errs c.args.place.now c.args.items.now env c.loop-item.item-index c.loop-item.all c.item-item.result (value_of c.in_ok-child.child) (omega arith) c.item-item.is c.loop-item.invariant c.in_ok-child.ensures.value in
+    grind (arith, common_steps, stops)
+
+pub have_children-returns-clause-value : goal.have_children-returns-clause-value
+have_children-returns-clause-value t c = all_found c.args.place.now c.args.items.now (env_of c.args.env.now) c.loop-item.item-index c.loop-item.all (omega arith) c.loop-item.invariant
+
+pub call_listed-returns-in_err-place-clause-erred : goal.call_listed-returns-in_err-place-clause-erred
+call_listed-returns-in_err-place-clause-erred t c =
+    let stops : c.holder.result ≡ None → option_and_then (called_with_list c.args.name.now (part_of c.args.receiver)) (values (views c.args.items.now) (env_of c.args.env.now)) ≡ None = λ h. no_holder c.args.name.now (part_of c.args.receiver) _ (sym c.holder.ensures ∙ ap (option_map (λ s. s.now)) h) in
+    grind (arith, common_steps, stops)
+
+pub call_listed-returns-in_err-all-clause-erred : goal.call_listed-returns-in_err-all-clause-erred
+call_listed-returns-in_err-all-clause-erred t c =
+    let ms = values (views c.args.items.now) (env_of c.args.env.now) in
+    let stops : option_and_then (have_children c.in_ok-place.place.now) ms ≡ None → option_and_then (called_with_list c.args.name.now (part_of c.args.receiver)) ms ≡ None = some_holder c.args.name.now (part_of c.args.receiver) c.in_ok-place.place.now ms None (sym c.holder.ensures ∙ ap (option_map (λ s. s.now)) c.in_ok-place.ensures.value) in
+    grind (arith, common_steps, stops)
+
+pub call_listed-returns-clause-value : goal.call_listed-returns-clause-value
+call_listed-returns-clause-value t c = some_holder c.args.name.now (part_of c.args.receiver) c.in_ok-place.place.now (values (views c.args.items.now) (env_of c.args.env.now)) (Some c.in_ok-all.all) (sym c.holder.ensures ∙ ap (option_map (λ s. s.now)) c.in_ok-place.ensures.value) c.in_ok-all.ensures.value
+
+pub call_with-returns-in-List-clause-value : goal.call_with-returns-in-List-clause-value
+call_with-returns-in-List-clause-value t c =
+    let e = list_is c.in-List.items c.args.given.now c.as_slice.result.now c.args.name.now (part_of c.args.receiver) (env_of c.args.env.now) c.in-List.is c.as_slice.ensures.value in
+    subst (λ (m : Option Part). IfOk c.call_listed.result (λ p. m ≡ Some (part_of p))) (sym e) c.call_listed.ensures.value
+
+pub call_with-returns-in-List-clause-erred : goal.call_with-returns-in-List-clause-erred
+call_with-returns-in-List-clause-erred t c =
+    let e = list_is c.in-List.items c.args.given.now c.as_slice.result.now c.args.name.now (part_of c.args.receiver) (env_of c.args.env.now) c.in-List.is c.as_slice.ensures.value in
+    λ h. e ∙ c.call_listed.ensures.erred h
+
+pub call-returns-in_err-first-in-len2-clause-erred : goal.call-returns-in_err-first-in-len2-clause-erred
+call-returns-in_err-first-in-len2-clause-erred t c =
+    let env = env_of c.args.env.now in
+    let p = part_of c.args.receiver in
+    let e = two_are c.args.name.now p c.args.list.now c.first-item.result c.second-item.result env (omega arith) (omega arith) c.first-item.is c.second-item.is in
+    let stops : argument_value (view_argument c.first-item.result) env ≡ None → call_of c.args.name.now p (given (arguments c.args.list.now) env) ≡ None = λ h. e ∙ ap (option_and_then (λ v. option_and_then (called_with_two c.args.name.now p v) (argument_value (view_argument c.second-item.result) env))) h in
+    grind (arith, common_steps, stops)
+
+pub call-returns-in_err-second-in-len2-clause-erred : goal.call-returns-in_err-second-in-len2-clause-erred
+call-returns-in_err-second-in-len2-clause-erred t c =
+    let env = env_of c.args.env.now in
+    let p = part_of c.args.receiver in
+    let e = two_are c.args.name.now p c.args.list.now c.first-item.result c.second-item.result env (omega arith) (omega arith) c.first-item.is c.second-item.is in
+    let stops : argument_value (view_argument c.second-item.result) env ≡ None → call_of c.args.name.now p (given (arguments c.args.list.now) env) ≡ None = λ h. e ∙ ap (option_and_then (λ v. option_and_then (called_with_two c.args.name.now p v) (argument_value (view_argument c.second-item.result) env))) c.in_ok-first-in-len2.ensures.value ∙ ap (option_and_then (called_with_two c.args.name.now p (value_of c.in_ok-first-in-len2.first))) h in
+    grind (arith, common_steps, stops)
+
+pub call-returns-in_default-clause-erred : goal.call-returns-in_default-clause-erred
+call-returns-in_default-clause-erred t c = λ _. ap (call_of c.args.name.now (part_of c.args.receiver)) (many_are c.args.list.now (env_of c.args.env.now) (omega arith))
+
+pub part-returns-in_ok-receiver-in-Call-clause-value : goal.part-returns-in_ok-receiver-in-Call-clause-value
+part-returns-in_ok-receiver-in-Call-clause-value t c =
+    let e = call_is c.args.expr.now c.deref-in-Call.result.now c.in-Call.receiver c.in-Call.name c.as_str-in-Call.result.now c.in-Call.given c.as_slice.result.now (part_of c.in_ok-receiver-in-Call.receiver) (env_of c.args.env.now) c.in-Call.is c.deref-in-Call.ensures c.as_str-in-Call.ensures c.as_slice.ensures.value c.in_ok-receiver-in-Call.ensures.value in
+    subst (λ (m : Option Part). IfOk c.call.result (λ p. m ≡ Some (part_of p))) (sym e) c.call.ensures.value
+
+pub part-returns-in_ok-receiver-in-Call-clause-erred : goal.part-returns-in_ok-receiver-in-Call-clause-erred
+part-returns-in_ok-receiver-in-Call-clause-erred t c =
+    let e = call_is c.args.expr.now c.deref-in-Call.result.now c.in-Call.receiver c.in-Call.name c.as_str-in-Call.result.now c.in-Call.given c.as_slice.result.now (part_of c.in_ok-receiver-in-Call.receiver) (env_of c.args.env.now) c.in-Call.is c.deref-in-Call.ensures c.as_str-in-Call.ensures c.as_slice.ensures.value c.in_ok-receiver-in-Call.ensures.value in
+    λ h. e ∙ c.call.ensures.erred h
+
+pub call-returns-in-len1-clause-erred : goal.call-returns-in-len1-clause-erred
+call-returns-in-len1-clause-erred t c =
+    let e = one_is c.args.name.now (part_of c.args.receiver) c.args.list.now c.only-item.result (env_of c.args.env.now) (omega arith) (omega arith) c.only-item.is in
+    λ h. e ∙ c.call_with.ensures.erred h
+
+pub call-returns-in_ok-second-in-len2-clause-value : goal.call-returns-in_ok-second-in-len2-clause-value
+call-returns-in_ok-second-in-len2-clause-value t c =
+    let env = env_of c.args.env.now in
+    let p = part_of c.args.receiver in
+    let e = two_are c.args.name.now p c.args.list.now c.first-item.result c.second-item.result env (omega arith) (omega arith) c.first-item.is c.second-item.is
+    ∙ ap (option_and_then (λ v. option_and_then (called_with_two c.args.name.now p v) (argument_value (view_argument c.second-item.result) env))) c.in_ok-first-in-len2.ensures.value
+    ∙ ap (option_and_then (called_with_two c.args.name.now p (value_of c.in_ok-first-in-len2.first))) c.in_ok-second-in-len2.ensures.value in
+    subst (λ (m : Option Part). IfOk c.called_with_two.result (λ q. m ≡ Some (part_of q))) (sym e) c.called_with_two.ensures.value
+
+pub call-returns-in_ok-second-in-len2-clause-erred : goal.call-returns-in_ok-second-in-len2-clause-erred
+call-returns-in_ok-second-in-len2-clause-erred t c =
+    let env = env_of c.args.env.now in
+    let p = part_of c.args.receiver in
+    let e = two_are c.args.name.now p c.args.list.now c.first-item.result c.second-item.result env (omega arith) (omega arith) c.first-item.is c.second-item.is
+    ∙ ap (option_and_then (λ v. option_and_then (called_with_two c.args.name.now p v) (argument_value (view_argument c.second-item.result) env))) c.in_ok-first-in-len2.ensures.value
+    ∙ ap (option_and_then (called_with_two c.args.name.now p (value_of c.in_ok-first-in-len2.first))) c.in_ok-second-in-len2.ensures.value in
+    λ h. e ∙ c.called_with_two.ensures.erred h

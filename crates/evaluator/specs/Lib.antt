@@ -1,0 +1,14 @@
+pub mod Identity
+pub mod Asked
+pub mod Value
+pub mod Snapshot
+pub mod Operators
+pub mod Texts
+pub mod Members
+pub mod Calls
+pub mod Env
+pub mod Mean
+pub mod Holds
+pub mod Sorted
+pub mod Worked
+pub mod Working

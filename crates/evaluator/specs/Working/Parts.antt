@@ -1,0 +1,47 @@
+-- The values and the parts of the code.
+use Rattle.std.specs.Prelude.{ℕ, ℤ, List, Option, Some, None, option_map, codes, if◌then◌else◌}
+use Rattle.std.specs.Str.{bytes_eq}
+use Rattle.expr_parser.specs.Tree.{Argument, One, Listed}
+use Rattle.evaluator.specs.declared.value.Value as code
+use Rattle.evaluator.specs.declared.value.Value.TheVariants.{Null, Truth, Whole, Words, Sentinel, Record}
+use Rattle.evaluator.specs.declared.value.Part as code_part
+use Rattle.evaluator.specs.declared.value.Part.TheVariants as parts
+use Rattle.evaluator.specs.Asked.{asked_of}
+use Rattle.evaluator.specs.Value.{Value, null, truth, whole, words, sentinel, a_record, Snapshot, Part, value, snapshot, auth, token, query, as_value}
+use Rattle.evaluator.specs.Env.{Env}
+use Rattle.evaluator.specs.Mean.{mean}
+
+abbrev pub value_of : code.Value → Value
+value_of Null = null
+value_of (Truth b) = truth b
+value_of (Whole z) = whole z
+value_of (Words s) = words s.now
+value_of Sentinel = sentinel
+value_of Record = a_record
+
+abbrev pub part_of : code_part.Part → Part
+part_of (parts.Value v) = value (value_of v)
+part_of (parts.Snapshot s) = snapshot s.now
+part_of (parts.Auth who) = auth (option_map (λ a. a.now) who)
+part_of (parts.Token claims) = token (option_map (λ c. c.now) claims)
+part_of (parts.Query a) = query (asked_of a.now)
+
+-- the numbers, if both are some
+abbrev pub numbers_in : Value → Value → Option (ℤ × ℤ)
+numbers_in (whole a) (whole b) = Some (a, b)
+numbers_in _ _ = None
+
+-- the texts, if both are some
+abbrev pub texts_in : Value → Value → Option (List ℕ × List ℕ)
+texts_in (words a) (words b) = Some (a, b)
+texts_in _ _ = None
+
+-- the snapshot whose children a call of this name with a list is about
+abbrev pub holder : List ℕ → Part → Option Snapshot
+holder f (snapshot s) = if bytes_eq (codes "hasChildren") f then Some s else None
+holder f _ = None
+
+-- the value of an argument, which a list is not
+abbrev pub argument_value : Argument → Env → Option Value
+argument_value (One x) env = as_value (mean x env)
+argument_value (Listed xs) env = None

@@ -1,0 +1,250 @@
+//! The evaluator: what an expression means, and whether a rule holds.
+ghost use Rattle.std.specs.Prelude.{◌≡◌, Some, None, IfOk, IsErrOf, true, option_map};
+ghost use Rattle.std.specs.Option.{option_and_then};
+ghost use Rattle.expr_parser.specs.View.{view, view_argument, views, arguments};
+ghost use Rattle.expr_parser.specs.Tree.{argument, no_argument};
+ghost use Rattle.expr_types.specs.declared.sort.Sort.{Sort};
+ghost use Rattle.expr_types.specs.HasSort.{is_value};
+ghost use Rattle.evaluator.specs.Value as meanings;
+ghost use Rattle.evaluator.specs.Value.{as_value, sort_of_part};
+ghost use Rattle.evaluator.specs.Operators.{in_truth, as_truth, operated, chosen};
+ghost use Rattle.evaluator.specs.Calls.{call_of, called_with, called_with_two, called_with_list, have_children};
+ghost use Rattle.evaluator.specs.Env.{env_of, Suits};
+ghost use Rattle.evaluator.specs.Mean.{mean, given as meant, values};
+ghost use Rattle.evaluator.specs.Holds.{outcome, outcome_of};
+ghost use Rattle.evaluator.specs.Working.Parts.{value_of, part_of, argument_value};
+
+use crate::calls::{called_with, called_with_nothing, called_with_two, has_child, holder};
+use crate::env::Env;
+use crate::members::{capture, member, variable};
+use crate::operators::{in_truth, literal, minus_of, of_both};
+use crate::snapshot::Snapshot;
+use crate::value::{Part, Stop, Value, in_value, wanted};
+use bumpalo::Bump;
+use expr_parser::{Argument, Expr, Operator};
+use expr_types::Checked;
+use json_tree::NoMemory;
+
+// What a part of an expression means.
+#[cycle(evaluation)]
+fn part<'a>(arena: &'a Bump, expr: &'a Expr, env: &Env<'a>) -> Result<Part<'a>, Stop>
+    ensures value { IfOk result (λ p. mean (view expr.now) (env_of env.now) ≡ Some (part_of p)) }
+    ensures erred { IsErrOf result Stop.Erred → mean (view expr.now) (env_of env.now) ≡ None }
+{
+    match expr {
+        Expr::Number(number) => Ok(Part::Value(wanted(literal(*number))?)),
+        Expr::Text(text) => Ok(Part::Value(Value::Words(text.as_str()))),
+        Expr::True => Ok(Part::Value(Value::Truth(true))),
+        Expr::False => Ok(Part::Value(Value::Truth(false))),
+        Expr::Null => Ok(Part::Value(Value::Null)),
+        Expr::Variable(name) => wanted(variable(name.as_str(), env)),
+        Expr::Capture(name) => wanted(capture(name.as_str(), env)),
+        Expr::Group(inner) => part(arena, inner, env),
+        Expr::Member(receiver, name) => {
+            let receiver = part(arena, receiver, env)?;
+            wanted(member(name.as_str(), receiver))
+        }
+        Expr::Call(receiver, name, given) => {
+            let receiver = part(arena, receiver, env)?;
+            call(arena, receiver, name.as_str(), given.as_slice(), env)
+        }
+        Expr::Not(inner) => {
+            let b = truth(arena, inner, env)?;
+            Ok(Part::Value(Value::Truth(!b)))
+        }
+        Expr::Negate(inner) => {
+            let number = value(arena, inner, env)?;
+            Ok(Part::Value(wanted(minus_of(number))?))
+        }
+        Expr::Operation(operator, left, right) => {
+            let first = value(arena, left, env)?;
+            let both = operation(arena, *operator, first, right, env)?;
+            Ok(Part::Value(both))
+        }
+        Expr::Choice(condition, yes, no) => {
+            let b = truth(arena, condition, env)?;
+            let chosen = if b { yes } else { no };
+            Ok(Part::Value(value(arena, chosen, env)?))
+        }
+    }
+}
+
+// Its value, where one is wanted.
+#[cycle(evaluation)]
+fn value<'a>(arena: &'a Bump, expr: &'a Expr, env: &Env<'a>) -> Result<Value<'a>, Stop>
+    ensures value { IfOk result (λ v. as_value (mean (view expr.now) (env_of env.now)) ≡ Some (value_of v)) }
+    ensures erred { IsErrOf result Stop.Erred → as_value (mean (view expr.now) (env_of env.now)) ≡ None }
+{
+    let part = part(arena, expr, env)?;
+    wanted(in_value(part))
+}
+
+// Whether it is true, where a boolean is wanted.
+#[cycle(evaluation)]
+fn truth<'a>(arena: &'a Bump, expr: &'a Expr, env: &Env<'a>) -> Result<bool, Stop>
+    ensures value { IfOk result (λ b. as_truth (as_value (mean (view expr.now) (env_of env.now))) ≡ Some b) }
+    ensures erred { IsErrOf result Stop.Erred → as_truth (as_value (mean (view expr.now) (env_of env.now))) ≡ None }
+{
+    let value = value(arena, expr, env)?;
+    wanted(in_truth(value))
+}
+
+// What an operator gives behind its left value. Where that decides, the right operand is not evaluated.
+#[cycle(evaluation)]
+fn operation<'a>(
+    arena: &'a Bump,
+    operator: Operator,
+    left: Value<'a>,
+    right: &'a Expr,
+    env: &Env<'a>,
+) -> Result<Value<'a>, Stop>
+    ensures value { IfOk result (λ v. operated operator (Some (value_of left.entry)) (as_value (mean (view right.now) (env_of env.now))) ≡ Some (value_of v)) }
+    ensures erred { IsErrOf result Stop.Erred → operated operator (Some (value_of left.entry)) (as_value (mean (view right.now) (env_of env.now))) ≡ None }
+{
+    match operator {
+        Operator::And => {
+            if !wanted(in_truth(left))? {
+                return Ok(Value::Truth(false));
+            }
+            Ok(Value::Truth(truth(arena, right, env)?))
+        }
+        Operator::Or => {
+            if wanted(in_truth(left))? {
+                return Ok(Value::Truth(true));
+            }
+            Ok(Value::Truth(truth(arena, right, env)?))
+        }
+        _ => {
+            let second = value(arena, right, env)?;
+            of_both(arena, operator, left, second)
+        }
+    }
+}
+
+// What a call gives.
+#[cycle(evaluation)]
+fn call<'a>(
+    arena: &'a Bump,
+    receiver: Part<'a>,
+    name: &str,
+    list: &'a [Argument],
+    env: &Env<'a>,
+) -> Result<Part<'a>, Stop>
+    ensures value { IfOk result (λ p. call_of name.now (part_of receiver.entry) (meant (arguments list.now) (env_of env.now)) ≡ Some (part_of p)) }
+    ensures erred { IsErrOf result Stop.Erred → call_of name.now (part_of receiver.entry) (meant (arguments list.now) (env_of env.now)) ≡ None }
+{
+    match list {
+        [] => wanted(called_with_nothing(name, receiver)),
+        [only] => call_with(arena, receiver, name, only, env),
+        [first, second] => {
+            let first = argument_of(arena, first, env)?;
+            let second = argument_of(arena, second, env)?;
+            called_with_two(arena, name, receiver, first, second)
+        }
+        _ => Err(Stop::Erred),
+    }
+}
+
+// What a call with one argument gives, a value or a list.
+#[cycle(evaluation)]
+fn call_with<'a>(
+    arena: &'a Bump,
+    receiver: Part<'a>,
+    name: &str,
+    given: &'a Argument,
+    env: &Env<'a>,
+) -> Result<Part<'a>, Stop>
+    ensures value { IfOk result (λ p. call_of name.now (part_of receiver.entry) (meant (argument (view_argument given.now) no_argument) (env_of env.now)) ≡ Some (part_of p)) }
+    ensures erred { IsErrOf result Stop.Erred → call_of name.now (part_of receiver.entry) (meant (argument (view_argument given.now) no_argument) (env_of env.now)) ≡ None }
+{
+    match given {
+        Argument::One(only) => {
+            let only = value(arena, only, env)?;
+            called_with(arena, name, receiver, only)
+        }
+        Argument::List(items) => call_listed(arena, receiver, name, items.as_slice(), env),
+    }
+}
+
+// What a call with a list gives.
+#[cycle(evaluation)]
+fn call_listed<'a>(
+    arena: &'a Bump,
+    receiver: Part<'a>,
+    name: &str,
+    items: &'a [Expr],
+    env: &Env<'a>,
+) -> Result<Part<'a>, Stop>
+    ensures value { IfOk result (λ p. option_and_then (called_with_list name.now (part_of receiver.entry)) (values (views items.now) (env_of env.now)) ≡ Some (part_of p)) }
+    ensures erred { IsErrOf result Stop.Erred → option_and_then (called_with_list name.now (part_of receiver.entry)) (values (views items.now) (env_of env.now)) ≡ None }
+{
+    let place = wanted(holder(name, receiver))?;
+    let all = have_children(arena, place, items, env)?;
+    Ok(Part::Value(Value::Truth(all)))
+}
+
+// Whether all the children exist that are listed; each element is evaluated.
+#[cycle(evaluation)]
+fn have_children<'a>(
+    arena: &'a Bump,
+    place: &'a Snapshot<'a>,
+    items: &'a [Expr],
+    env: &Env<'a>,
+) -> Result<bool, Stop>
+    ensures value { IfOk result (λ b. option_and_then (have_children place.now) (values (views items.now) (env_of env.now)) ≡ Some b) }
+    ensures erred { IsErrOf result Stop.Erred → option_and_then (have_children place.now) (values (views items.now) (env_of env.now)) ≡ None }
+{
+    let mut all = true;
+    for item in items {
+        let child = value(arena, item, env)?;
+        let there = has_child(arena, place, child)?;
+        all = all && there;
+    }
+    Ok(all)
+}
+
+// The value of an argument, which a list is not.
+#[cycle(evaluation)]
+fn argument_of<'a>(arena: &'a Bump, given: &'a Argument, env: &Env<'a>) -> Result<Value<'a>, Stop>
+    ensures value { IfOk result (λ v. argument_value (view_argument given.now) (env_of env.now) ≡ Some (value_of v)) }
+    ensures erred { IsErrOf result Stop.Erred → argument_value (view_argument given.now) (env_of env.now) ≡ None }
+{
+    match given {
+        Argument::One(only) => value(arena, only, env),
+        Argument::List(_) => Err(Stop::Erred),
+    }
+}
+
+/// What an evaluation comes to.
+#[derive(Clone, Copy, Debug, PartialEq, Eq)]
+pub enum Outcome {
+    /// The expression means true: the rule holds.
+    Yes,
+    /// It means false.
+    No,
+    /// It means no boolean, or something that was evaluated is an error.
+    Erred,
+}
+
+/// Whether a rule of this expression holds: Yes exactly where it means true, No exactly where it means
+/// false, and Erred in every other case. Each part is evaluated at most once, and only where it is
+/// looked at. A growth is taken for a text that `+` or `replace` makes, and for each key that `child`
+/// goes down; every other text is borrowed. (Reference, rules types.)
+pub fn evaluate<'a>(
+    arena: &'a Bump,
+    checked: &'a Checked,
+    env: &Env<'a>,
+) -> Result<Outcome, NoMemory>
+    requires { Suits checked.now (env_of env.now) }
+    ensures outcome { IfOk result (λ found. found ≡ outcome checked.now.tree (env_of env.now)) }
+    ensures sorted { (p : meanings.Part) → mean checked.now.tree (env_of env.now) ≡ Some p → is_value (sort_of_part p) ≡ true }
+{
+    checked.law();
+    match value(arena, checked.expr(), env) {
+        Ok(Value::Truth(true)) => Ok(Outcome::Yes),
+        Ok(Value::Truth(false)) => Ok(Outcome::No),
+        Ok(_) => Ok(Outcome::Erred),
+        Err(Stop::Erred) => Ok(Outcome::Erred),
+        Err(Stop::NoMemory) => Err(NoMemory),
+    }
+}

@@ -1,0 +1,26 @@
+//! The laws of meaning.
+ghost use Rattle.std.specs.Prelude.{◌≡◌, ℕ, List, true, IsSome};
+ghost use Rattle.path_capture.specs.Captures.{names};
+ghost use Rattle.expr_parser.specs.Tree.{Tree, Variable, Capture};
+ghost use Rattle.expr_types.specs.declared.place.Place.{Place};
+ghost use Rattle.expr_types.specs.declared.sort.Sort.{Sort};
+ghost use Rattle.expr_types.specs.HasSort.{HasSort, HasSomeSort};
+ghost use Rattle.expr_types.specs.Checked.{Checked, IsChecked};
+ghost use Rattle.evaluator.specs.Env.{Env, is_for, Suits};
+ghost use Rattle.evaluator.specs.Mean.{mean};
+ghost use Rattle.evaluator.specs.Sorted.{IsOfSort, StandsIn};
+
+/// What has a sort means a part of that sort, or errs: so no snapshot stands where a value is wanted, and
+/// nothing is asked of a part of another sort. A variable or a capture that has a sort is there. It
+/// does nothing.
+pub fn what_has_a_sort_means_that_or_errs()
+    ensures sorts { (place : Place) (env : Env) (x : Tree) (s : Sort) → is_for place env.access ≡ true → HasSort place (names env.captures) x s → IsOfSort s (mean x env) }
+    ensures variables { (place : Place) (env : Env) (f : List ℕ) (s : Sort) → is_for place env.access ≡ true → HasSort place (names env.captures) (Variable f) s → IsSome (mean (Variable f) env) }
+    ensures captures { (place : Place) (env : Env) (f : List ℕ) (s : Sort) → HasSort place (names env.captures) (Capture f) s → IsSome (mean (Capture f) env) }
+{}
+
+/// Each expression that stands in a checked one has a sort, in every environment that suits it: so the
+/// law above is true of all of them. It does nothing.
+pub fn all_parts_of_what_is_checked_have_sorts()
+    ensures { (checked : Checked) (env : Env) (x : Tree) → IsChecked checked → Suits checked env → StandsIn x checked.tree → HasSomeSort checked.place (names env.captures) x }
+{}

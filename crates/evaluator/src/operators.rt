@@ -1,0 +1,248 @@
+//! What operators make of values.
+ghost use Rattle.std.specs.Prelude.{◌≡◌, ◌++◌, ◌+ℤ◌, ◌-ℤ◌, ◌*ℤ◌, neg_ℤ, Some, None, IfOk, IsErrOf, option_map, pos};
+ghost use Rattle.evaluator.specs.Value.{in_range};
+ghost use Rattle.evaluator.specs.Operators.{in_truth, is_opaque, same, equal, compared, minus, times, remainder, minus_of, plus, text_within, of_both};
+ghost use Rattle.evaluator.specs.Working.Parts.{value_of, numbers_in};
+
+use crate::value::{Stop, Value, wanted};
+use bumpalo::Bump;
+use bumpalo::collections::into_bump_str;
+use expr_parser::Operator;
+use expr_tokens::MAX_NUMBER;
+use std::cmp::Ordering;
+use tree_model::{MAX_TEXT_BYTES, MAX_WHOLE, MIN_WHOLE};
+
+// ---- truth
+
+pub(crate) fn in_truth(value: Value) -> Option<bool>
+    ensures { result ≡ in_truth (value_of value.entry) }
+{
+    match value {
+        Value::Truth(b) => Some(b),
+        _ => None,
+    }
+}
+
+// ---- == and <
+
+fn is_opaque(value: Value) -> bool
+    ensures { result ≡ is_opaque (value_of value.entry) }
+{
+    matches!(value, Value::Sentinel | Value::Record)
+}
+
+fn same(left: Value, right: Value) -> bool
+    ensures { result ≡ same (value_of left.entry) (value_of right.entry) }
+{
+    match left {
+        Value::Null => matches!(right, Value::Null),
+        Value::Truth(a) => matches!(right, Value::Truth(b) if a == b),
+        Value::Whole(a) => matches!(right, Value::Whole(b) if a == b),
+        Value::Words(a) => matches!(right, Value::Words(b) if a == b),
+        Value::Sentinel | Value::Record => false,
+    }
+}
+
+fn equal(left: Value, right: Value) -> Option<bool>
+    ensures { result ≡ equal (value_of left.entry) (value_of right.entry) }
+{
+    if is_opaque(left) && is_opaque(right) {
+        None
+    } else {
+        Some(same(left, right))
+    }
+}
+
+fn compared(left: Value, right: Value) -> Option<Ordering>
+    ensures { result ≡ compared (value_of left.entry) (value_of right.entry) }
+{
+    match left {
+        Value::Whole(a) => match right {
+            Value::Whole(b) => Some(a.cmp(&b)),
+            _ => None,
+        },
+        Value::Words(a) => match right {
+            Value::Words(b) => Some(a.cmp(b)),
+            _ => None,
+        },
+        _ => None,
+    }
+}
+
+// ---- numbers
+
+#[tactic(auto, unfolding(tree_model::specs::Primitive::is_whole))]
+pub(crate) fn in_range<'a>(number: i64) -> Option<Value<'a>>
+    ensures { option_map value_of result ≡ in_range number }
+{
+    if MIN_WHOLE <= number && number <= MAX_WHOLE {
+        Some(Value::Whole(number))
+    } else {
+        None
+    }
+}
+
+// The number of a literal.
+#[tactic(auto, unfolding(tree_model::specs::Primitive::is_whole))]
+pub(crate) fn literal<'a>(number: u64) -> Option<Value<'a>>
+    ensures { option_map value_of result ≡ in_range (pos number) }
+{
+    if number <= MAX_NUMBER {
+        Some(Value::Whole(number as i64))
+    } else {
+        None
+    }
+}
+
+#[tactic(auto, unfolding(tree_model::specs::Primitive::is_whole))]
+fn sum<'a>(a: i64, b: i64) -> Option<Value<'a>>
+    ensures { option_map value_of result ≡ in_range (a +ℤ b) }
+{
+    match a.checked_add(b) {
+        Some(sum) => in_range(sum),
+        None => None,
+    }
+}
+
+#[tactic(auto, unfolding(tree_model::specs::Primitive::is_whole))]
+fn difference<'a>(a: i64, b: i64) -> Option<Value<'a>>
+    ensures { option_map value_of result ≡ in_range (a -ℤ b) }
+{
+    match a.checked_sub(b) {
+        Some(difference) => in_range(difference),
+        None => None,
+    }
+}
+
+#[tactic(auto, unfolding(tree_model::specs::Primitive::is_whole))]
+fn product<'a>(a: i64, b: i64) -> Option<Value<'a>>
+    ensures { option_map value_of result ≡ in_range (a *ℤ b) }
+{
+    match a.checked_mul(b) {
+        Some(product) => in_range(product),
+        None => None,
+    }
+}
+
+#[tactic(auto, unfolding(tree_model::specs::Primitive::is_whole))]
+fn negative<'a>(a: i64) -> Option<Value<'a>>
+    ensures { option_map value_of result ≡ in_range (neg_ℤ a) }
+{
+    match a.checked_neg() {
+        Some(negative) => in_range(negative),
+        None => None,
+    }
+}
+
+// The numbers, if both are some.
+fn numbers(left: Value, right: Value) -> Option<(i64, i64)>
+    ensures { result ≡ numbers_in (value_of left.entry) (value_of right.entry) }
+{
+    match left {
+        Value::Whole(a) => match right {
+            Value::Whole(b) => Some((a, b)),
+            _ => None,
+        },
+        _ => None,
+    }
+}
+
+fn minus<'a>(left: Value, right: Value) -> Option<Value<'a>>
+    ensures { option_map value_of result ≡ minus (value_of left.entry) (value_of right.entry) }
+{
+    let (a, b) = numbers(left, right)?;
+    difference(a, b)
+}
+
+fn times<'a>(left: Value, right: Value) -> Option<Value<'a>>
+    ensures { option_map value_of result ≡ times (value_of left.entry) (value_of right.entry) }
+{
+    let (a, b) = numbers(left, right)?;
+    product(a, b)
+}
+
+fn remainder<'a>(left: Value, right: Value) -> Option<Value<'a>>
+    ensures { option_map value_of result ≡ remainder (value_of left.entry) (value_of right.entry) }
+{
+    let (a, b) = numbers(left, right)?;
+    if b == 0 {
+        return None;
+    }
+    in_range(a.wrapping_rem(b))
+}
+
+pub(crate) fn minus_of<'a>(value: Value) -> Option<Value<'a>>
+    ensures { option_map value_of result ≡ minus_of (value_of value.entry) }
+{
+    match value {
+        Value::Whole(a) => negative(a),
+        _ => None,
+    }
+}
+
+// ---- texts
+
+// One text behind another, in one growth.
+fn joined<'a>(arena: &'a Bump, front: &str, back: &str) -> Result<Value<'a>, Stop>
+    ensures value { IfOk result (λ v. text_within (front.now ++ back.now) ≡ Some (value_of v)) }
+    ensures erred { IsErrOf result Stop.Erred → text_within (front.now ++ back.now) ≡ None }
+{
+    if front.len() > MAX_TEXT_BYTES || back.len() > MAX_TEXT_BYTES - front.len() {
+        return Err(Stop::Erred);
+    }
+    let mut text = String::with_capacity(arena, front.len() + back.len())?;
+    text.push_str(front)?;
+    text.push_str(back)?;
+    Ok(Value::Words(into_bump_str(text)))
+}
+
+fn plus<'a>(arena: &'a Bump, left: Value<'a>, right: Value<'a>) -> Result<Value<'a>, Stop>
+    ensures value { IfOk result (λ v. plus (value_of left.entry) (value_of right.entry) ≡ Some (value_of v)) }
+    ensures erred { IsErrOf result Stop.Erred → plus (value_of left.entry) (value_of right.entry) ≡ None }
+{
+    match left {
+        Value::Whole(a) => match right {
+            Value::Whole(b) => wanted(sum(a, b)),
+            Value::Words(b) => {
+                let digits = a.to_string(arena)?;
+                joined(arena, digits.as_str(), b)
+            }
+            _ => Err(Stop::Erred),
+        },
+        Value::Words(a) => match right {
+            Value::Whole(b) => {
+                let digits = b.to_string(arena)?;
+                joined(arena, a, digits.as_str())
+            }
+            Value::Words(b) => joined(arena, a, b),
+            _ => Err(Stop::Erred),
+        },
+        _ => Err(Stop::Erred),
+    }
+}
+
+// ---- all operators that need both values
+
+pub(crate) fn of_both<'a>(
+    arena: &'a Bump,
+    operator: Operator,
+    left: Value<'a>,
+    right: Value<'a>,
+) -> Result<Value<'a>, Stop>
+    ensures value { IfOk result (λ v. of_both operator (value_of left.entry) (value_of right.entry) ≡ Some (value_of v)) }
+    ensures erred { IsErrOf result Stop.Erred → of_both operator (value_of left.entry) (value_of right.entry) ≡ None }
+{
+    match operator {
+        Operator::Equal => Ok(Value::Truth(wanted(equal(left, right))?)),
+        Operator::NotEqual => Ok(Value::Truth(!wanted(equal(left, right))?)),
+        Operator::Less => Ok(Value::Truth(wanted(compared(left, right))?.is_lt())),
+        Operator::LessOrEqual => Ok(Value::Truth(wanted(compared(left, right))?.is_le())),
+        Operator::Greater => Ok(Value::Truth(wanted(compared(left, right))?.is_gt())),
+        Operator::GreaterOrEqual => Ok(Value::Truth(wanted(compared(left, right))?.is_ge())),
+        Operator::Add => plus(arena, left, right),
+        Operator::Subtract => wanted(minus(left, right)),
+        Operator::Multiply => wanted(times(left, right)),
+        Operator::Remainder => wanted(remainder(left, right)),
+        Operator::Or | Operator::And => Err(Stop::Erred),
+    }
+}

@@ -1,0 +1,215 @@
+//! A snapshot: a location of a tree.
+ghost use Rattle.std.specs.Prelude.{◌≡◌, ◌<◌, ◌≤◌, [], true, IfOk, IsErrOf, Some, None, option_map, length};
+ghost use Rattle.tree_model.specs.declared.limits.TheConstants.{MAX_DEPTH};
+ghost use Rattle.tree_model.specs.PathMap.{sub};
+ghost use Rattle.tree_model.specs.Tree.{non_null};
+ghost use Rattle.json_tree.specs.Leaf.{primitive_of};
+ghost use Rattle.path_capture.specs.Write.{tree_or_null};
+ghost use Rattle.evaluator.specs.Snapshot.{root_of, below, parent_at, exists_at, primitive_at, val_at, has_children_at, child_at};
+ghost use Rattle.evaluator.specs.Working.Parts.{value_of};
+ghost use Rattle.evaluator.specs.Working.Places.{down, stepped};
+
+use crate::value::{Stop, Value, of_leaf};
+use arena_snapshot::View;
+use bumpalo::Bump;
+use json_tree::{Leaf, NoMemory, is_lawful_key};
+use std::marker::Model;
+use tree_model::MAX_DEPTH;
+
+/// A location of a tree: what stands there, and the location above with the key between, so that
+/// nothing is looked up twice. Contracts see the whole tree and the path, of at most 32 keys.
+/// (Reference, `RuleDataSnapshot`.)
+#[cycle(snapshot)]
+#[derive(Drop)]
+pub struct Snapshot<'a> {
+    view: Option<View<'a>>,
+    depth: usize,
+    above: Above<'a>,
+}
+
+#[cycle(snapshot)]
+#[derive(Drop)]
+pub(crate) enum Above<'a> {
+    Nothing,
+    Parent(&'a Snapshot<'a>, &'a str),
+}
+
+impl<'a> Model for Snapshot<'a> {
+    ghost use Rattle.std.specs.Prelude.{length, ℕ, List};
+    ghost use Rattle.std.specs.Coded.{coded×, coded_list, coded_ℕ};
+    ghost use Rattle.tree_model.specs.Tree.{tree_code};
+    ghost use Rattle.evaluator.specs.Value as values;
+
+    ghost Value = { values.Snapshot };
+
+    ghost coded = { coded× tree_code (coded_list (coded_list coded_ℕ)) };
+
+    ghost use Rattle.evaluator.specs.Working.Places.{snapshot_of, IsPlace};
+
+    ghost view = { λ s. snapshot_of s.view s.above };
+
+    ghost invariant = { λ s. IsPlace s.view s.depth (snapshot_of s.view s.above) };
+
+    ghost size = { λ s. length s.1 };
+
+    ghost use Rattle.std.proofs.Common.{arith, length-append};
+
+    ghost size_decreases = { λ s h. Prim.grind (arith, length-append) };
+}
+
+impl<'a> Snapshot<'a> {
+    /// The root of a tree. It takes no memory.
+    pub fn root(view: Option<View<'a>>) -> Snapshot<'a>
+        ensures { result ≡ (tree_or_null view.entry, []) }
+    {
+        at_root(&view);
+        Snapshot {
+            view,
+            depth: 0,
+            above: Above::Nothing,
+        }
+    }
+
+    /// The location one key further down, by one look-up among the children; it is placed in the arena.
+    pub fn below(&'a self, arena: &'a Bump, key: &'a str) -> Result<&'a Snapshot<'a>, NoMemory>
+        requires { length self.now.1 < MAX_DEPTH }
+        ensures { IfOk result (λ s. s.now ≡ below self.now key.now) }
+    {
+        Ok(arena.try_alloc(Snapshot {
+            view: child_of(self.view(), key),
+            depth: self.depth + 1,
+            above: Above::Parent(self, key),
+        })?)
+    }
+
+    /// What stands there, if anything does, in constant time.
+    pub fn view(&self) -> Option<&View<'a>>
+        ensures { option_map (λ view. view.now) result ≡ non_null (sub self.now.0 self.now.1) }
+    {
+        self.view.as_ref()
+    }
+
+    /// How many keys the path has, in constant time.
+    pub fn depth(&self) -> usize
+        ensures depth { result ≡ length self.now.1 }
+        ensures room { result ≤ MAX_DEPTH }
+    {
+        self.depth
+    }
+
+    /// The location above, but of the root, in constant time.
+    pub fn parent(&self) -> Option<&'a Snapshot<'a>>
+        ensures { option_map (λ s. s.now) result ≡ parent_at self.now }
+    {
+        match self.above {
+            Above::Nothing => None,
+            Above::Parent(above, _) => Some(above),
+        }
+    }
+
+    /// The root of the same tree, by a step up for each key.
+    #[cycle(top)]
+    pub fn top(&'a self) -> &'a Snapshot<'a>
+        ensures { result.now ≡ root_of self.now }
+    {
+        match self.above {
+            Above::Nothing => self,
+            Above::Parent(above, _) => above.top(),
+        }
+    }
+}
+
+// What stands in a tree stands at its root.
+fn at_root(view: &Option<View>)
+    ensures { view.now ≡ non_null (sub (tree_or_null view.now) []) }
+{
+    match view {
+        Some(view) => view.law(),
+        None => {}
+    }
+}
+
+// What stands at the key below.
+fn child_of<'a>(view: Option<&View<'a>>, key: &str) -> Option<View<'a>>
+    ensures { result ≡ down key.now (option_map (λ v. v.now) view.entry) }
+{
+    match view {
+        None => None,
+        Some(view) => view.child(key),
+    }
+}
+
+// ---- what is asked of it
+
+pub(crate) fn exists_at(place: &Snapshot) -> bool
+    ensures { result ≡ exists_at place.now }
+{
+    place.view().is_some()
+}
+
+pub(crate) fn primitive_at<'a>(place: &Snapshot<'a>) -> Option<&'a Leaf>
+    ensures { option_map (λ leaf. primitive_of leaf.now) result ≡ primitive_at place.now }
+{
+    match place.view() {
+        None => None,
+        Some(view) => view.leaf(),
+    }
+}
+
+pub(crate) fn val_at<'a>(place: &Snapshot<'a>) -> Value<'a>
+    ensures { value_of result ≡ val_at place.now }
+{
+    if !exists_at(place) {
+        return Value::Null;
+    }
+    match primitive_at(place) {
+        None => Value::Sentinel,
+        Some(leaf) => of_leaf(leaf),
+    }
+}
+
+pub(crate) fn has_children_at(place: &Snapshot) -> bool
+    ensures { result ≡ has_children_at place.now }
+{
+    match place.view() {
+        None => false,
+        Some(view) => {
+            view.law();
+            view.leaf().is_none()
+        }
+    }
+}
+
+// The location at a text of keys: a look-up and a place in the arena for each key.
+pub(crate) fn child_at<'a>(
+    arena: &'a Bump,
+    place: &'a Snapshot<'a>,
+    text: &'a str,
+) -> Result<&'a Snapshot<'a>, Stop>
+    ensures value { IfOk result (λ at. child_at place.now text.now ≡ Some at.now) }
+    ensures erred { IsErrOf result Stop.Erred → child_at place.now text.now ≡ None }
+{
+    place.depth();
+    let mut at = step(arena, place, "")?;
+    for piece in text.split('/') {
+        at = step(arena, at, piece)?;
+    }
+    Ok(at)
+}
+
+fn step<'a>(
+    arena: &'a Bump,
+    place: &'a Snapshot<'a>,
+    piece: &'a str,
+) -> Result<&'a Snapshot<'a>, Stop>
+    ensures value { IfOk result (λ at. stepped place.now piece.now ≡ Some at.now) }
+    ensures erred { IsErrOf result Stop.Erred → stepped place.now piece.now ≡ None }
+{
+    if piece.is_empty() {
+        return Ok(place);
+    }
+    if !is_lawful_key(piece) || place.depth() >= MAX_DEPTH {
+        return Err(Stop::Erred);
+    }
+    Ok(place.below(arena, piece)?)
+}

@@ -1,0 +1,122 @@
+//! Values, and the other parts of expressions.
+ghost use Rattle.std.specs.Prelude.{◌≡◌, Some, None, IfOk, IsErrOf, option_map};
+ghost use Rattle.json_tree.specs.Leaf.{primitive_of};
+ghost use Rattle.evaluator.specs.declared.value.Stop.TheVariants.{NoMemory as no_memory};
+ghost use Rattle.evaluator.specs.Value.{in_value, of_primitive};
+ghost use Rattle.evaluator.specs.Members.{text_or_null, primitive_or_null, number_or_null};
+ghost use Rattle.evaluator.specs.Working.Parts.{value_of, part_of};
+
+use crate::asked::Asked;
+use crate::identity::{Claims, Identity};
+use crate::snapshot::Snapshot;
+use json_tree::{Leaf, NoMemory};
+use std::alloc::{AllocError, AllocFailed};
+
+// A value. A text is borrowed, from the tree, the request or the rule, or lies in the arena.
+#[derive(Clone, Copy)]
+pub(crate) enum Value<'a> {
+    Null,
+    Truth(bool),
+    Whole(i64),
+    Words(&'a str),
+    Sentinel,
+    Record,
+}
+
+// What a part of an expression means, by its sort.
+#[derive(Clone, Copy)]
+pub(crate) enum Part<'a> {
+    Value(Value<'a>),
+    Snapshot(&'a Snapshot<'a>),
+    Auth(Option<&'a Identity>),
+    Token(Option<&'a Claims>),
+    Query(&'a Asked<'a>),
+}
+
+// Why there is none.
+#[derive(Clone, Copy, Debug, PartialEq, Eq)]
+pub(crate) enum Stop {
+    Erred,
+    NoMemory,
+}
+
+impl From<NoMemory> for Stop {
+    ghost from_gives = { λ _ stop. stop ≡ no_memory };
+
+    fn from(_refused: NoMemory) -> Stop {
+        Stop::NoMemory
+    }
+}
+
+impl From<AllocError> for Stop {
+    ghost from_gives = { λ _ stop. stop ≡ no_memory };
+
+    fn from(_refused: AllocError) -> Stop {
+        Stop::NoMemory
+    }
+}
+
+impl<T: Drop> From<AllocFailed<T>> for Stop {
+    ghost from_gives = { λ _ stop. stop ≡ no_memory };
+
+    fn from(_refused: AllocFailed<T>) -> Stop {
+        Stop::NoMemory
+    }
+}
+
+// What was found, or an error.
+pub(crate) fn wanted<T>(found: Option<T>) -> Result<T, Stop>
+    ensures value { IfOk result (λ x. found ≡ Some x) }
+    ensures erred { IsErrOf result Stop.Erred → found ≡ None }
+{
+    found.ok_or(Stop::Erred)
+}
+
+// The part, where a value is wanted.
+pub(crate) fn in_value<'a>(part: Part<'a>) -> Option<Value<'a>>
+    ensures { option_map value_of result ≡ in_value (part_of part.entry) }
+{
+    match part {
+        Part::Value(value) => Some(value),
+        Part::Auth(None) | Part::Token(None) => Some(Value::Null),
+        Part::Auth(Some(_)) | Part::Token(Some(_)) => Some(Value::Record),
+        Part::Snapshot(_) | Part::Query(_) => None,
+    }
+}
+
+pub(crate) fn of_leaf<'a>(leaf: &'a Leaf) -> Value<'a>
+    ensures { value_of result ≡ of_primitive (primitive_of leaf.now) }
+{
+    match leaf {
+        Leaf::Truth(b) => Value::Truth(*b),
+        Leaf::Whole(number) => Value::Whole(number.value()),
+        Leaf::Words(text) => Value::Words(text.as_str()),
+    }
+}
+
+pub(crate) fn leaf_or_null<'a>(leaf: Option<&'a Leaf>) -> Value<'a>
+    ensures { value_of result ≡ primitive_or_null (option_map (λ l. primitive_of l.now) leaf.entry) }
+{
+    match leaf {
+        Some(leaf) => of_leaf(leaf),
+        None => Value::Null,
+    }
+}
+
+pub(crate) fn text_or_null<'a>(text: Option<&'a str>) -> Value<'a>
+    ensures { value_of result ≡ text_or_null (option_map (λ t. t.now) text.entry) }
+{
+    match text {
+        Some(text) => Value::Words(text),
+        None => Value::Null,
+    }
+}
+
+pub(crate) fn limit_or_null<'a>(limit: Option<u16>) -> Value<'a>
+    ensures { value_of result ≡ number_or_null limit }
+{
+    match limit {
+        Some(limit) => Value::Whole(limit as i64),
+        None => Value::Null,
+    }
+}
