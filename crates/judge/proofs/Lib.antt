@@ -8,4 +8,4 @@ pub mod Places
 pub mod Refusing
 pub mod Decided
 pub mod Tops
-pub mod Laws
+pub mod Reaching

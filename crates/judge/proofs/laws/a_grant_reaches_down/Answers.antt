@@ -1,4 +1,4 @@
-use Rattle.judge.proofs.Laws.{granted_below}
+use Rattle.judge.proofs.Reaching.{granted_below}
 use Rattle.judge.proofs.laws.a_grant_reaches_down.Goals as goal
 
 pub returns : goal.returns
