@@ -8,3 +8,4 @@ pub mod Places
 pub mod Refusing
 pub mod Decided
 pub mod Tops
+pub mod Reaching

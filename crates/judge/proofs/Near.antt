@@ -63,8 +63,8 @@ pub group_found : (F : Path → Fault → Type 0) (ls gs os : List Path) (k : Ke
 group_found F ls gs os k f g next differs ahead place fault found =
     first_as (Near ls F) g (k ∷ place_of f) (fault_of f) place fault
     (first_among (Near ls F) k (place_of f) (fault_of f) (λ v h. ahead.root v h.1)
-        (λ l r v h. in_all k l (heads (gs ++ os)) (next_none_before k (gs ++ os) next ahead.sorted) (touched_head l r (gs ++ os) ahead.some (ahead.left l r v h.0 h.1)))
-        record { fails = group_up F ls gs os k (place_of f) (fault_of f) ahead found.fails; least = λ r v h. found.least r v (group_down F ls gs os k r v next differs ahead h) })
+    (λ l r v h. in_all k l (heads (gs ++ os)) (next_none_before k (gs ++ os) next ahead.sorted) (touched_head l r (gs ++ os) ahead.some (ahead.left l r v h.0 h.1)))
+    record { fails = group_up F ls gs os k (place_of f) (fault_of f) ahead found.fails; least = λ r v h. found.least r v (group_down F ls gs os k r v next differs ahead h) })
 
 -- nothing of the group fails: the others are left
 pub group_passed : (F : Path → Fault → Type 0) (ls gs os : List Path) (k : Key) → NextIs k (gs ++ os) → AllHeads k gs → AheadNear ls (gs ++ os) F → Found (Below k (Near gs F)) None → AheadNear ls os F

@@ -9,7 +9,6 @@ use Rattle.tree_model.specs.Tree.{first_key}
 use Rattle.judge.specs.Tests.{Answer, holds, failing, name_of}
 use Rattle.judge.specs.declared.verdict.Named.{Named}
 use Rattle.judge.specs.declared.grant.Denial.{Denial}
-
 use Rattle.judge.specs.Working.Locations.{AllBegin}
 use Rattle.judge.specs.Working.Refused.{Ask, granted_below, granted_from, name_at, names_below, names_from, seen_names, Refuses}
 use Rattle.judge.proofs.Groups.{begins_with}
@@ -98,8 +97,7 @@ all_silent ask from [] silent =
     (ap (λ a. holds a || false) here, ap (λ a. cons_option (option_map name_of (failing a)) []) here)
 all_silent ask from (k ∷ rest) silent =
     let here : ask from ≡ None = ap ask (sym (append-nil from)) ∙ silent [] in
-    let below = all_silent ask (from ++ k ∷ []) rest (λ r. ap ask (append_assoc from (k ∷ []) r) ∙ silent (k ∷ r)) in
-    (
+    let below = all_silent ask (from ++ k ∷ []) rest (λ r. ap ask (append_assoc from (k ∷ []) r) ∙ silent (k ∷ r)) in (
       ap (λ a. holds a || granted_below ask from (k ∷ rest)) here ∙ below.0,
       ap (λ a. cons_option (option_map name_of (failing a)) (names_below ask from (k ∷ rest))) here ∙ below.1,
     )

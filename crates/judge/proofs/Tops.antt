@@ -140,8 +140,7 @@ module _ (q : Question) (kind : Kind) (one : HasOneCapture q.scene.book) where
   pub least_refused : (ls : List Path) (denial : Denial) → PathsAscend ls → Refuses (granted_from (answer_at q kind) []) (names_from (answer_at q kind) []) 0 ls (Some denial)
       → Contains ls denial.location.now × (¬ (IsGranted q kind denial.location.now)) × ((other : Path) → Contains ls other → ¬ (IsGranted q kind other) → path_cmp other denial.location.now ≢ Less) × (seen_names denial.seen.items ≡ named_rules q kind denial.location.now)
   least_refused ls denial sorted h =
-      let first = first_passes (λ m. not (granted_from (answer_at q kind) [] m)) ls denial.location.now h.0 sorted in
-      (
+      let first = first_passes (λ m. not (granted_from (answer_at q kind) [] m)) ls denial.location.now h.0 sorted in (
         contained ls denial.location.now first.0,
         is_not denial.location.now first.1,
         (λ other i refused. first.2 other (of_contained ls other i) (passes other refused)),
@@ -171,8 +170,7 @@ read_denied scene asked path denial named one h same =
 
 pub write_denied : (scene : Scene) (t : Tree) (ls : List Path) (denial : Denial) (location : Path) (named : List Named) → HasOneCapture scene.book → PathsAscend ls → Refuses (granted_from (answer_at (writing scene t) Write) []) (names_from (answer_at (writing scene t) Write) []) 0 ls (Some denial) → location ≡ denial.location.now → named ≡ seen_names denial.seen.items → IsWriteVerdict scene t ls (WriteDenied location named)
 write_denied scene t ls denial location named one sorted h at same =
-    let least = least_refused (writing scene t) Write one ls denial sorted h in
-    (
+    let least = least_refused (writing scene t) Write one ls denial sorted h in (
       subst (IsLeastRefused scene t ls) (sym at) record { among = least.0; refused = least.1; least = least.2 },
       same ∙ least.3 ∙ ap (named_rules (writing scene t) Write) (sym at),
     )
@@ -313,9 +311,9 @@ pub valid_answer_some : (asking : Asking) (spot : Spot) (ls : List Path) (o : Op
 valid_answer_some asking spot ls o f place pattern e root granted is at same h = (
   granted,
   subst (λ (p : Path). IsFirstFailing (scene_of asking.scene.now) (coming_of asking) ls p (texts pattern) f.why) (sym at)
-  (subst (λ (p : parts.Pattern). IsFirstFailing (scene_of asking.scene.now) (coming_of asking) ls (place_of f) (texts p) f.why) (sym same)
-  (first_failing (scene_of asking.scene.now) (coming_of asking) ls f root.here.at.one
-  (found_anew asking spot (writing (scene_of asking.scene.now) (coming_of asking)) ls o (Some f) root e (question_is asking Validate e validate_is_no_read root.here.asks) is h))),
+      (subst (λ (p : parts.Pattern). IsFirstFailing (scene_of asking.scene.now) (coming_of asking) ls (place_of f) (texts p) f.why) (sym same)
+      (first_failing (scene_of asking.scene.now) (coming_of asking) ls f root.here.at.one
+      (found_anew asking spot (writing (scene_of asking.scene.now) (coming_of asking)) ls o (Some f) root e (question_is asking Validate e validate_is_no_read root.here.asks) is h))),
 )
 
 pub room_for_failure : (asking : Asking) (spot : Spot) (ls : List Path) (o : Option Failure) (f : Failure) (keys : List (Bor Key)) → asking.kind ≡ Validate → StandsAtRoot asking spot → IsLawful (coming_of asking) → o ≡ Some f → keys ≡ f.keys.items

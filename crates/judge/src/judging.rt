@@ -214,10 +214,7 @@ fn law_of(view: &Option<View>)
 }
 
 // The root of a tree, in the arena.
-fn root_of<'a>(
-    bump: &'a Bump,
-    view: &Option<View<'a>>,
-) -> Result<&'a Snapshot<'a>, NoMemory>
+fn root_of<'a>(bump: &'a Bump, view: &Option<View<'a>>) -> Result<&'a Snapshot<'a>, NoMemory>
     ensures { IfOk result (λ root. root.now ≡ (tree_or_null view.now, [])) }
 {
     let view = match view {

@@ -6,6 +6,7 @@
 
 mod grant;
 mod judging;
+mod laws;
 mod locations;
 mod scene;
 mod spot;
@@ -13,5 +14,9 @@ mod validate;
 mod verdict;
 
 pub use judging::{judge_read, judge_write};
+pub use laws::{
+    a_grant_reaches_down, every_write_sees_the_whole, only_rules_above_grant,
+    the_order_of_writes_changes_nothing,
+};
 pub use scene::Scene;
 pub use verdict::{Named, NamedRules, Verdict, Why};

@@ -35,11 +35,7 @@ fn begins(location: &Path, depth: usize, key: &Key) -> bool
 }
 
 // The locations that go on with the key of the first one, and the others.
-fn split<'a>(
-    locations: &'a [&'a Path],
-    depth: usize,
-    key: &Key,
-) -> (&'a [&'a Path], &'a [&'a Path])
+fn split<'a>(locations: &'a [&'a Path], depth: usize, key: &Key) -> (&'a [&'a Path], &'a [&'a Path])
     requires { NextIs key.now (rests depth (paths locations.now)) }
     ensures parts { paths locations.now ≡ paths result.0.now ++ paths result.1.now }
     ensures begins { AllBegin key.now depth (paths result.0.now) }

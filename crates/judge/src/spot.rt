@@ -111,11 +111,7 @@ fn access_below<'a>(
 }
 
 // Binds the capture that the node's own part is, if it is one, to the key.
-fn bind<'a>(
-    rule: &'a RuleNode,
-    key: &'a Key,
-    captures: &mut Captures<'a>,
-) -> Result<(), NoMemory>
+fn bind<'a>(rule: &'a RuleNode, key: &'a Key, captures: &mut Captures<'a>) -> Result<(), NoMemory>
     ensures { OnOk result (captures.new ≡ captures.old ++ last_bound rule.now.at key.now) }
 {
     if let Some(name) = own_capture(rule) {

@@ -42,11 +42,10 @@ refused_below-returns-in-Some-denial-clause-denial t c =
 pub refused_below-loop-start-preserved : goal.refused_below-loop-start-preserved
 refused_below-loop-start-preserved t c =
     let ask = ask_of c.args.asking.now in
-    let from = path_of c.args.spot.now in
-    (
+    let from = path_of c.args.spot.now in (
       refused_passed ask from (length from) (paths c.args.locations.now) (paths (drop c.loop-start.start c.args.locations.now)) (paths c.group-group.result.now) (paths (drop (c.loop-start.start + length c.group-group.result.now) c.args.locations.now))
-      c.loop-start.invariant.0 c.group-group.ensures.parts
-      (subst (Refuses (granted_below ask from) (names_below ask from) (length from) (paths c.group-group.result.now)) c.in_default-denial.is c.in_ok-denial.ensures.denial),
+          c.loop-start.invariant.0 c.group-group.ensures.parts
+          (subst (Refuses (granted_below ask from) (names_below ask from) (length from) (paths c.group-group.result.now)) c.in_default-denial.is c.in_ok-denial.ensures.denial),
       c.in_ok-denial.ensures.back ∙ c.loop-start.invariant.1,
       c.group-group.ensures.within,
     )

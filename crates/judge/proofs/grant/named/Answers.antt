@@ -10,10 +10,9 @@ pub loop-left-preserved : goal.loop-left-preserved
 loop-left-preserved c =
     let before = c.loop-left.invariant.0 in
     let low = c.loop-left.invariant.1 in
-    let rule = c.index-seen-left.result in
-    (
+    let rule = c.index-seen-left.result in (
       c.in_ok-push.ensures.items ∙ (λ i. before i ++ record { pattern = c.in_ok-copy.ensures i; why = rule.why } ∷ [])
-      ∙ sym (back_step (λ (s : Seen). record { pattern = s.pattern.now; why = s.why }) c.args.seen.now c.loop-left.left rule c.loop-left-test.true low c.index-seen-left.is),
+          ∙ sym (back_step (λ (s : Seen). record { pattern = s.pattern.now; why = s.why }) c.args.seen.now c.loop-left.left rule c.loop-left-test.true low c.index-seen-left.is),
       omega arith,
     )
 

@@ -13,8 +13,7 @@ returns-in_default c =
 
 pub returns : goal.returns
 returns c =
-    let moved = c.in_ok-here.ensures ∙ ap (below c.args.spot.now.here.now) c.text.ensures.bytes in
-    (
+    let moved = c.in_ok-here.ensures ∙ ap (below c.args.spot.now.here.now) c.text.ensures.bytes in (
       record {
         at = is_at_next (question_of c.args.asking.now) c.args.spot.now.rule.now c.in-Some.rule.now c.args.spot.now.here.now c.in_ok-here.here.now (access_of c.args.spot.now.access) (access_of c.in_ok-access.access) c.args.key.now c.args.captures.now c.bind.new.captures
             c.requires.here.at c.in-Some.ensures.found moved c.in_ok-access.ensures c.in_ok-bind.ensures;

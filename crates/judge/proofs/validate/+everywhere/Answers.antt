@@ -24,10 +24,9 @@ everywhere-returns-in-Some-own-clause-found t c =
 pub everywhere-loop-i-init : goal.everywhere-loop-i-init
 everywhere-loop-i-init t c =
     let ask = ask_of c.args.asking.now in
-    let from = path_of c.args.spot.now in
-    (
+    let from = path_of c.args.spot.now in (
       ahead_at_first ask (coming_of c.args.asking.now) c.in-Some.view.now from (stands_there c.args.asking.now c.args.spot.now c.args.captures.now c.coming.result c.in-Some.view c.requires.here c.in-Some.is c.coming.ensures)
-      (subst (FaultsHere ask from) c.in_default-own.is c.in_ok-own.ensures),
+          (subst (FaultsHere ask from) c.in_default-own.is c.in_ok-own.ensures),
       refl,
     )
 
@@ -52,8 +51,7 @@ everywhere-returns-in-Some-below-clause-found t c =
 
 pub everywhere-loop-i-preserved : goal.everywhere-loop-i-preserved
 everywhere-loop-i-preserved t c =
-    let F = FailsFrom (ask_of c.args.asking.now) (coming_of c.args.asking.now) (path_of c.args.spot.now) in
-    (
+    let F = FailsFrom (ask_of c.args.asking.now) (coming_of c.args.asking.now) (path_of c.args.spot.now) in (
       child_passed F c.in-Some.view.now c.loop-i.i c.in-Some-key_at.key.now c.in-Some-key_at.ensures c.loop-i.invariant.0 (subst (Found (Below c.in-Some-key_at.key.now F)) c.in_default-below.is c.in_ok-below.ensures.found),
       c.in_ok-below.ensures.back ∙ c.loop-i.invariant.1,
     )

@@ -41,11 +41,10 @@ pub towards-loop-start-init : goal.towards-loop-start-init
 towards-loop-start-init t c =
     let some = at_least_one c.args.locations.now c.is_empty.result c.is_empty.ensures c.if-is_empty.false in
     let ask = ask_of c.args.asking.now in
-    let from = path_of c.args.spot.now in
-    (
+    let from = path_of c.args.spot.now in (
       near_start (FailsFrom ask (coming_of c.args.asking.now) from) c.in-Some.field-0.now (rests (length from) (paths c.args.locations.now))
-      (goes_on (paths c.args.locations.now) from c.index-locations-0.result.now c.depth-depth.result c.in-Some.field-0.now c.depth-depth.ensures.depth (first_left c.args.locations.now 0 c.index-locations-0.result some c.index-locations-0.is) c.in-Some.ensures.key)
-      c.requires.sorted (not_here ask (coming_of c.args.asking.now) from (subst (FaultsHere ask from) c.in_default-own.is c.in_ok-own.ensures)),
+          (goes_on (paths c.args.locations.now) from c.index-locations-0.result.now c.depth-depth.result c.in-Some.field-0.now c.depth-depth.ensures.depth (first_left c.args.locations.now 0 c.index-locations-0.result some c.index-locations-0.is) c.in-Some.ensures.key)
+          c.requires.sorted (not_here ask (coming_of c.args.asking.now) from (subst (FaultsHere ask from) c.in_default-own.is c.in_ok-own.ensures)),
       refl,
       omega arith,
     )
@@ -90,11 +89,10 @@ towards-loop-start-preserved t c =
     let os = paths (drop (c.loop-start.start + length c.group-group.result.now) c.args.locations.now) in
     let parts = parts_left d left (paths c.group-group.result.now) os c.group-group.ensures.parts in
     let next = goes_on left from c.index-locations-start.result.now c.depth-depth.result k deep (first_left c.args.locations.now c.loop-start.start c.index-locations-start.result c.loop-start-test.true c.index-locations-start.is) c.in-Some-key_at.ensures.key in
-    let begins = subst (λ (n : ℕ). AllBegin k n (paths c.group-group.result.now)) deep c.group-group.ensures.begins in
-    (
+    let begins = subst (λ (n : ℕ). AllBegin k n (paths c.group-group.result.now)) deep c.group-group.ensures.begins in (
       group_passed F ls (rests d (paths c.group-group.result.now)) (rests d os) k (subst (NextIs k) parts next) (group_heads k d (paths c.group-group.result.now) begins)
-      (subst (λ (ms : List Path). AheadNear ls ms F) parts c.loop-start.invariant.0)
-      (subst (Found (Below k (Near (rests d (paths c.group-group.result.now)) F))) c.in_default-below.is c.in_ok-below.ensures.found),
+          (subst (λ (ms : List Path). AheadNear ls ms F) parts c.loop-start.invariant.0)
+          (subst (Found (Below k (Near (rests d (paths c.group-group.result.now)) F))) c.in_default-below.is c.in_ok-below.ensures.found),
       c.in_ok-below.ensures.back ∙ c.loop-start.invariant.1,
       c.group-group.ensures.within,
     )

@@ -10,10 +10,9 @@ loop-left-init c = (c.in_ok-path.ensures.items ∙ sym (back_end (λ (key : Bor 
 pub loop-left-preserved : goal.loop-left-preserved
 loop-left-preserved c =
     let before = c.loop-left.invariant.0 in
-    let low = c.loop-left.invariant.1 in
-    (
+    let low = c.loop-left.invariant.1 in (
       c.in_ok-push.ensures.items ∙ (λ i. before i ++ c.in_ok-copy.ensures i ∷ [])
-      ∙ sym (back_step (λ (key : Bor Key). key.now) c.args.keys.now c.loop-left.left c.index-keys-left.result c.loop-left-test.true low c.index-keys-left.is),
+          ∙ sym (back_step (λ (key : Bor Key). key.now) c.args.keys.now c.loop-left.left c.index-keys-left.result c.loop-left-test.true low c.index-keys-left.is),
       omega arith,
     )
 
