@@ -1,5 +1,5 @@
 //! A path: which location of a tree is meant.
-ghost use Rattle.std.specs.Prelude.{◌≡◌, ◌↔◌, ◌<◌, ℕ, List, [], true, false, length, Some, None, if◌then◌else◌, IfOk, IsErrOf, string_bytes};
+ghost use Rattle.std.specs.Prelude.{◌≡◌, ◌↔◌, ◌<◌, ◌≤◌, ℕ, List, [], true, false, length, Some, None, if◌then◌else◌, IfOk, IsErrOf, string_bytes};
 ghost use Rattle.std.specs.List.{list_all};
 ghost use Rattle.tree_model.specs.Key.{is_key};
 ghost use Rattle.tree_model.specs.Path.{path_cmp, is_path, is_prefix};
@@ -81,6 +81,17 @@ impl Path {
         Ok(Path {
             held: keys_of(alloc, text, count)?,
         })
+    }
+
+    /// The path of these keys, at most 32, from the root down. It takes no memory.
+    pub fn of_keys(keys: Vec<Key>) -> Path
+        requires { length keys.items ≤ MAX_DEPTH }
+        ensures { result ≡ keys.items }
+    {
+        for key in &keys {
+            key.text();
+        }
+        Path { held: keys }
     }
 
     /// The keys, from the root down. It takes no memory.
