@@ -6,7 +6,7 @@ ghost use Rattle.tree_model.specs.Path.{path_cmp, is_path, is_prefix};
 ghost use Rattle.path_capture.specs.Path.{segments, printed};
 ghost use Rattle.path_capture.specs.declared.path.PathFault.TheVariants.{NoMemory as no_memory};
 
-use json_tree::{Key, NoMemory, is_lawful_key};
+use json_tree::{Key, NoMemory, copy_keys, is_lawful_key};
 use std::alloc::Global;
 use std::cmp::Ordering;
 use std::marker::Model;
@@ -127,7 +127,7 @@ impl Path {
         ensures { IfOk result (λ path. path ≡ self.now) }
     {
         Ok(Path {
-            held: copies(alloc, self.keys())?,
+            held: copy_keys(alloc, self.keys())?,
         })
     }
 }
@@ -199,14 +199,4 @@ fn print_keys(alloc: Global, keys: &[Key]) -> Result<String, NoMemory>
         text.push('/')?;
     }
     Ok(text)
-}
-
-fn copies(alloc: Global, keys: &[Key]) -> Result<Vec<Key>, NoMemory>
-    ensures { IfOk result (λ copies. copies.items ≡ keys.now) }
-{
-    let mut copies = Vec::with_capacity(alloc, keys.len())?;
-    for key in keys {
-        copies.push(key.copy(alloc)?)?;
-    }
-    Ok(copies)
 }
