@@ -11,7 +11,7 @@ use Rattle.tree_model.specs.Primitive.{Primitive}
 use Rattle.tree_model.specs.PathMap.{get, is_null, sub, exists, depth}
 use Rattle.tree_model.specs.Tree.{Tree, null, non_null, lone, IsLawful}
 use Rattle.tree_model.specs.Children.{graft}
-use Rattle.tree_model.specs.Write.{is_covered, stays, proposed}
+use Rattle.tree_model.specs.Write.{is_covered, proposed}
 use Rattle.tree_model.proofs.Choices.{not_true, none_is_not_some, or_else, or_else-None}
 use Rattle.tree_model.proofs.Orders.{same_key}
 use Rattle.tree_model.proofs.Paths.{strip_is, prefix-append}

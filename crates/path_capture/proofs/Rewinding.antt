@@ -1,12 +1,11 @@
 -- Writes of one update that are made one after another, and undone again.
-use Rattle.std.proofs.Common.{◌≡◌, ◌≢◌, ◌<◌, ◌≤◌, ◌+◌, ℕ, zero, suc, true, false, cond, reverse, List, [], ◌∷◌, ◌++◌, length, drop, get_or, Option, Some, None, option_map, is_some, unwrap_or, Result, Ok, Err, OnOk, refl, sym, ap, ◌∙◌, subst, arith}
+use Rattle.std.proofs.Common.{◌≡◌, ◌≢◌, ◌<◌, ◌≤◌, ◌+◌, ℕ, zero, suc, true, false, cond, reverse, List, [], ◌∷◌, length, drop, get_or, Option, Some, None, option_map, is_some, unwrap_or, Result, Ok, Err, OnOk, refl, sym, ap, ◌∙◌, subst, arith}
 use Rattle.std.specs.List.{swap_remove}
 use Rattle.std.specs.Result.{IsOk}
 use Rattle.std.proofs.lemmas.Bool.{false≢true}
 use Rattle.std.proofs.lemmas.List.Sorted.{IsPermutation-swap_remove}
-use Rattle.tree_model.specs.PathMap.{exists}
 use Rattle.tree_model.specs.Tree.{Tree, null, non_null}
-use Rattle.tree_model.specs.Write.{Write, location, overlaps, proposed}
+use Rattle.tree_model.specs.Write.{Write, overlaps, proposed}
 use Rattle.tree_model.proofs.Choices.{neither, none_is_not_some}
 use Rattle.tree_model.proofs.Existence.{by_null, non_null-null}
 use Rattle.tree_model.proofs.Order.{overlaps-permutation, proposed-permutation}

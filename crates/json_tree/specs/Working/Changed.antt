@@ -1,5 +1,5 @@
 -- Where a put changes a tree.
-use Rattle.std.specs.Prelude.{List, [], ◌∷◌, if◌then◌else◌, is_some}
+use Rattle.std.specs.Prelude.{[], ◌∷◌, if◌then◌else◌, is_some}
 use Rattle.std.specs.Option.{option_map_or}
 use Rattle.tree_model.specs.Path.{Path}
 use Rattle.tree_model.specs.PathMap.{get, sub}

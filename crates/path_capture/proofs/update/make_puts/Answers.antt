@@ -1,8 +1,8 @@
-use Rattle.std.proofs.Common.{◌≡◌, ◌≢◌, ◌<◌, ◌∷◌, [], length, get_or, inl, inr, sym, ap, ◌∙◌, arith}
+use Rattle.std.proofs.Common.{◌≡◌, ◌≢◌, ◌<◌, length, get_or, inl, inr, sym, ap, ◌∙◌, arith}
 use Rattle.std.proofs.lemmas.Bool.{cases_lt}
 use Rattle.std.proofs.lemmas.Bool.Decides.{nat_tests}
 use Rattle.tree_model.specs.Tree.{null}
-use Rattle.tree_model.specs.Write.{Write, written, overlaps, proposed}
+use Rattle.tree_model.specs.Write.{written, overlaps, proposed}
 use Rattle.path_capture.specs.Write.{tree_or_null}
 use Rattle.path_capture.proofs.Rewinding.{one_more_back, one_made, same_at, is_put, is_removal}
 use Rattle.path_capture.proofs.update.make_puts.Goals as goal

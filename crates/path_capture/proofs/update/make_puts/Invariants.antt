@@ -1,4 +1,4 @@
-use Rattle.std.proofs.Common.{◌≡◌, ◌<◌, ◌≤◌, ◌-◌, ℕ, false, length, get_or}
+use Rattle.std.proofs.Common.{◌≡◌, ◌<◌, ◌-◌, ℕ, false, length, get_or}
 use Rattle.std.specs.List.{All}
 use Rattle.tree_model.specs.Tree.{null}
 use Rattle.tree_model.specs.Write.{Write, written, overlaps, proposed}
