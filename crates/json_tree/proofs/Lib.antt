@@ -15,4 +15,3 @@ pub mod Written
 pub mod Edits
 pub mod Proposing
 pub mod ChildEdits
-pub mod Undoing

@@ -1,5 +1,4 @@
 pub mod Leaf
 pub mod Node
 pub mod Json
-pub mod Undo
 pub mod Working

@@ -2,4 +2,3 @@ pub mod Signs
 pub mod Segments
 pub mod Prefixes
 pub mod Parts
-pub mod Rewinding

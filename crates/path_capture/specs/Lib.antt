@@ -3,4 +3,3 @@ pub mod Name
 pub mod Pattern
 pub mod Captures
 pub mod Write
-pub mod Working

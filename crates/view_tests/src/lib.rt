@@ -7,6 +7,4 @@ mod cases;
 #[cfg(test)]
 mod memory;
 #[cfg(test)]
-mod updates;
-#[cfg(test)]
 mod worked;
