@@ -1,6 +1,6 @@
 //! The rules of a chat, as people write them: rooms with members.
 
-pub const CHAT: &str =
+pub(crate) const CHAT: &str =
     r#"// The rules of a chat: rooms, their members, what they write, and who moderates.
 //
 //   /users/$uid                 what others see of somebody

@@ -1,6 +1,6 @@
 //! The rules of a game for two, as people write them: turn by turn.
 
-pub const GAME: &str = r#"/*
+pub(crate) const GAME: &str = r#"/*
  * The rules of a board game for two, turn by turn.
  *
  * A game stands at /games/$game. Two players sit down, then they move in turns; the board has nine

@@ -4,12 +4,12 @@ use std::alloc::Global;
 use std::test::Fail;
 
 /// How many rules a file has, or its fault with all that this names.
-pub fn answer(alloc: Global, file: &str) -> Result<String, Fail> {
+pub(crate) fn answer(alloc: Global, file: &str) -> Result<String, Fail> {
     answer_of(alloc, compile(alloc, file.as_bytes()))
 }
 
 /// The same, of what was answered.
-pub fn answer_of(alloc: Global, found: Result<Rules, RulesFault>) -> Result<String, Fail> {
+pub(crate) fn answer_of(alloc: Global, found: Result<Rules, RulesFault>) -> Result<String, Fail> {
     match found {
         Ok(rules) => Ok(format!(in alloc; "{} rules", rules.count())?),
         Err(RulesFault::BadRulesShape(pattern)) => {

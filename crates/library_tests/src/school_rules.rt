@@ -1,6 +1,6 @@
 //! The rules of a school, as people write them: classes and grades.
 
-pub const SCHOOL: &str =
+pub(crate) const SCHOOL: &str =
     r#"// The rules of a school: teachers, pupils, their parents, classes and grades.
 //
 // Whoever is signed in has a claim `role` in the token: 'teacher', 'pupil', 'parent' or 'office'.
