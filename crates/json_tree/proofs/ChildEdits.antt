@@ -36,7 +36,7 @@ module _ {cs : List (Key × Tree)} {i : ℕ} {d : Key × Tree} {name : Key} (h :
   key_is : (get_or cs i d).0 ≡ name
   key_is = exact_keys (get_or cs i d).0 name h.tied
 
-  child_is : child_of name cs ≡ d.1
+  pub child_is : child_of name cs ≡ d.1
   child_is = ap (λ o. unwrap_or o null) (find_at name cs i d h.children.0.ascending h.within h.tied) ∙ ap (λ (c : Key × Tree). c.1) (sym h.at)
 
   another : (l : Key) → bytes_eq l name ≡ false → bytes_eq l (get_or cs i d).0 ≡ false

@@ -15,3 +15,4 @@ pub mod Written
 pub mod Edits
 pub mod Proposing
 pub mod ChildEdits
+pub mod Undoing

@@ -1,4 +1,5 @@
 pub mod Leaf
 pub mod Node
 pub mod Json
+pub mod Undo
 pub mod Working

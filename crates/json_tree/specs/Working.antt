@@ -3,3 +3,4 @@ pub mod Share
 pub mod NodeFalls
 pub mod Levels
 pub mod Members
+pub mod Changed

@@ -121,3 +121,14 @@ fn is_key_byte(b: u8) -> bool
 {
     32 <= b && b != 127 && !matches!(b, b'.' | b'$' | b'#' | b'[' | b']' | b'/')
 }
+
+/// The same keys once more, by one growth for the list and one for each key.
+pub fn copy_keys(alloc: Global, keys: &[Key]) -> Result<Vec<Key>, NoMemory>
+    ensures { IfOk result (λ copies. copies.items ≡ keys.now) }
+{
+    let mut copies = Vec::with_capacity(alloc, keys.len())?;
+    for key in keys {
+        copies.push(key.copy(alloc)?)?;
+    }
+    Ok(copies)
+}

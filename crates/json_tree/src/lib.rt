@@ -13,13 +13,15 @@ mod memory;
 mod node;
 mod puts;
 mod share;
+mod undo;
 
 pub use json::{ValueFault, from_json, to_json};
 pub use json_laws::{
     what_a_tree_is_written_as, what_a_value_describes, what_is_written_is_read_back,
 };
-pub use key::{Key, KeyFault, is_lawful_key};
+pub use key::{Key, KeyFault, copy_keys, is_lawful_key};
 pub use leaf::{Leaf, LeafText, Number};
 pub use memory::NoMemory;
 pub use node::Node;
 pub use puts::put;
+pub use undo::{Undo, put_with_undo};

@@ -1,12 +1,13 @@
 //! Puts in place: one location of a stored tree is written, and memory is taken before anything
 //! changes.
-ghost use Rattle.std.specs.Prelude.{◌≡◌, ◌+◌, ◌<◌, ◌≤◌, ◌∷◌, [], length, reverse, unwrap_or, IfOk, IsOk, IsNone, IfSome, OnSome, IfNone, OnOk, OnErr};
+ghost use Rattle.std.specs.Prelude.{◌≡◌, ◌+◌, ◌<◌, ◌≤◌, ◌∷◌, [], true, length, reverse, unwrap_or, IfOk, IsOk, IsNone, IfSome, OnSome, IfNone, OnOk, OnErr};
 ghost use Rattle.std.specs.Bool.{OnTrue, OnFalse};
-ghost use Rattle.tree_model.specs.PathMap.{depth};
+ghost use Rattle.tree_model.specs.PathMap.{sub, exists, depth};
 ghost use Rattle.tree_model.specs.Tree.{null};
 ghost use Rattle.tree_model.specs.Children.{graft};
 ghost use Rattle.tree_model.specs.Write.{proposed};
 ghost use Rattle.json_tree.specs.Node.{AreLawfulChildren};
+ghost use Rattle.json_tree.specs.Working.Changed.{changed_at};
 ghost use Rattle.json_tree.specs.Working.Share.{Exchanges};
 
 use crate::key::Key;
@@ -14,11 +15,13 @@ use crate::memory::NoMemory;
 use crate::node::{Kind, Node, index_of};
 use crate::share::{Exchange, NO_EXCHANGE, NO_SHARE, share_of, sizes_after};
 use std::alloc::Global;
+use std::mem::replace;
 use tree_model::MAX_DEPTH;
 
 /// Puts a tree at a path of a stored tree, or removes what is there, in place. The keys of the path
 /// are put where nothing exists yet, and not copied. Memory is taken only for what is new, and before
-/// anything changes: at an `Err` nothing has changed, and to remove takes none. It takes one step down
+/// anything changes: at an `Err` nothing has changed, and to remove, or to replace what is there, takes
+/// none. It takes one step down
 /// for each key, log w of w children each, beside what is written, and where a child is new or goes,
 /// those behind it move: d · w at most. The children of a node are counted anew only where its deepest
 /// child became less deep and no other is as deep.
@@ -33,9 +36,13 @@ pub fn put(
         ≡ proposed (unwrap_or tree.old null) ((path.items, unwrap_or value null) ∷ [])) }
     ensures err { OnErr result (tree.new ≡ tree.old) }
     ensures removal { IsNone value → IsOk result }
+    ensures existing { exists (unwrap_or tree.old null) path.items ≡ true → IsOk result }
 {
     match value {
-        Some(node) => put_node(alloc, tree, path, node),
+        Some(node) => {
+            put_node(alloc, tree, path, node)?;
+            Ok(())
+        }
         None => {
             remove_from(tree, &path);
             Ok(())
@@ -45,16 +52,20 @@ pub fn put(
 
 // ---- what is put
 
-fn put_node(
+// Puts a tree at a path of a stored tree, and gives what stood where that changes it.
+pub(crate) fn put_node(
     alloc: Global,
     tree: &mut Option<Node>,
     path: Vec<Key>,
     value: Node,
-) -> Result<(), NoMemory>
+) -> Result<Option<Node>, NoMemory>
     requires { length path.items + depth value ≤ MAX_DEPTH }
     ensures ok { OnOk result (unwrap_or tree.new null
         ≡ proposed (unwrap_or tree.old null) ((path.items, value) ∷ [])) }
+    ensures was { IfOk result (λ was. unwrap_or was null
+        ≡ sub (unwrap_or tree.old null) (changed_at (unwrap_or tree.old null) path.items)) }
     ensures err { OnErr result (tree.new ≡ tree.old) }
+    ensures existing { exists (unwrap_or tree.old null) path.items ≡ true → IsOk result }
 {
     let mut keys = path;
     keys.reverse();
@@ -62,35 +73,42 @@ fn put_node(
         Some(node) => insert(alloc, node, &mut keys, value),
         None => {
             *tree = Some(chain(alloc, &mut keys, value)?);
-            Ok(())
+            Ok(None)
         }
     }
 }
 
-// Puts a tree at a path of a node. Of the keys of the path the first stands last, from where each is
-// taken.
+// Puts a tree at a path of a node, and gives what stood where that changes it. Of the keys of the path
+// the first stands last, from where each is taken.
 #[cycle(insert)]
-fn insert(alloc: Global, node: &mut Node, keys: &mut Vec<Key>, value: Node) -> Result<(), NoMemory>
+fn insert(
+    alloc: Global,
+    node: &mut Node,
+    keys: &mut Vec<Key>,
+    value: Node,
+) -> Result<Option<Node>, NoMemory>
     requires { length keys.old.items + depth value ≤ MAX_DEPTH }
     ensures ok { OnOk result (node.new ≡ proposed node.old ((reverse keys.old.items, value) ∷ [])) }
+    ensures was { IfOk result (λ was. unwrap_or was null
+        ≡ sub node.old (changed_at node.old (reverse keys.old.items))) }
     ensures err { OnErr result (node.new ≡ node.old) }
+    ensures existing { exists node.old (reverse keys.old.items) ≡ true → IsOk result }
 {
     let Some(key) = keys.pop() else {
-        *node = value;
-        return Ok(());
+        return Ok(Some(replace(node, value)));
     };
     match &mut node.kind {
         Kind::Primitive(_) => {
             value.law();
-            *node = only_child(alloc, key, chain(alloc, keys, value)?)?;
-            Ok(())
+            let parent = only_child(alloc, key, chain(alloc, keys, value)?)?;
+            Ok(Some(replace(node, parent)))
         }
         Kind::Parent(children) => {
-            let exchange = insert_below(alloc, children, key, keys, value)?;
+            let (exchange, was) = insert_below(alloc, children, key, keys, value)?;
             let (depth, count) = sizes_after(children, node.depth, node.count, exchange);
             node.depth = depth;
             node.count = count;
-            Ok(())
+            Ok(was)
         }
     }
 }
@@ -103,30 +121,36 @@ fn insert_below(
     key: Key,
     keys: &mut Vec<Key>,
     value: Node,
-) -> Result<Exchange, NoMemory>
+) -> Result<(Exchange, Option<Node>), NoMemory>
     requires children { AreLawfulChildren children.old.items }
     requires room { length keys.old.items + depth value < MAX_DEPTH }
     ensures children { AreLawfulChildren children.new.items }
-    ensures exchange { IfOk result (λ exchange. Exchanges children.old.items children.new.items exchange) }
+    ensures exchange { IfOk result (λ made. Exchanges children.old.items children.new.items made.0) }
     ensures ok { OnOk result (graft children.new.items
         ≡ proposed (graft children.old.items) ((key ∷ reverse keys.old.items, value) ∷ [])) }
+    ensures was { IfOk result (λ made. unwrap_or made.1 null
+        ≡ sub (graft children.old.items) (changed_at (graft children.old.items) (key ∷ reverse keys.old.items))) }
     ensures err { OnErr result (children.new.items ≡ children.old.items) }
+    ensures existing { exists (graft children.old.items) (key ∷ reverse keys.old.items) ≡ true → IsOk result }
 {
     match index_of(children, key.text()) {
         Ok(index) => {
             let before = share_of(&children[index].1);
-            insert(alloc, &mut children[index].1, keys, value)?;
+            let was = insert(alloc, &mut children[index].1, keys, value)?;
             let after = share_of(&children[index].1);
-            Ok(Exchange { before, after })
+            Ok((Exchange { before, after }, was))
         }
         Err(index) => {
             let below = chain(alloc, keys, value)?;
             let after = share_of(&below);
             children.insert(index, (key, below))?;
-            Ok(Exchange {
-                before: NO_SHARE,
-                after,
-            })
+            Ok((
+                Exchange {
+                    before: NO_SHARE,
+                    after,
+                },
+                None,
+            ))
         }
     }
 }

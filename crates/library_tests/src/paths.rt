@@ -89,6 +89,43 @@ fn prefixes_and_the_order_of_paths(rt: HostRuntime) -> Result<(), Fail> {
     Ok(())
 }
 
+const JOINED: [Row; 5] = [
+    ("/ /", "/"),
+    ("/a /b/c", "/a/b/c"),
+    ("/ /a", "/a"),
+    ("/a/b /", "/a/b"),
+    ("/a /a", "/a/a"),
+];
+
+const LONG_JOINED: [LongRow; 3] = [
+    ("", "/a", 31, " /b", "32 and 0 keys"),
+    ("", "/a", 32, " /b", "TooDeep: 32 and 1 keys"),
+    ("/b ", "/a", 32, "", "TooDeep: 1 and 32 keys"),
+];
+
+// The second of two paths joined to the first, or its fault, with what both are then.
+fn joined(alloc: Global, texts: &str) -> Result<String, Fail> {
+    let (text, other) = texts.split_once(' ').ok_or("one text")?;
+    let mut path = Path::parse(alloc, text)?;
+    let mut below = Path::parse(alloc, other)?;
+    let made = path.join(&mut below);
+    let (keys, left) = (path.keys().len(), below.keys().len());
+    match made {
+        Ok(()) if keys < 4 => Ok(path.print(alloc)?),
+        Ok(()) => Ok(format!(in alloc; "{keys} and {left} keys")?),
+        Err(fault) => Ok(format!(in alloc; "{fault:?}: {keys} and {left} keys")?),
+    }
+}
+
+#[test]
+fn paths_are_joined(rt: HostRuntime) -> Result<(), Fail> {
+    let other = first_other(rt.alloc(), &JOINED, joined)?;
+    assert_eq!(rt; other.as_str(), "");
+    let other = first_other_of_long(rt.alloc(), &LONG_JOINED, joined)?;
+    assert_eq!(rt; other.as_str(), "");
+    Ok(())
+}
+
 // ---- patterns
 
 const NAMES: [Row; 9] = [

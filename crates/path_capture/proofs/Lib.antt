@@ -2,3 +2,4 @@ pub mod Signs
 pub mod Segments
 pub mod Prefixes
 pub mod Parts
+pub mod Rewinding

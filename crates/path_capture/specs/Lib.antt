@@ -3,3 +3,4 @@ pub mod Name
 pub mod Pattern
 pub mod Captures
 pub mod Write
+pub mod Working

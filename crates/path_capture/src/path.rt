@@ -1,12 +1,12 @@
 //! A path: which location of a tree is meant.
-ghost use Rattle.std.specs.Prelude.{◌≡◌, ◌↔◌, ◌<◌, ℕ, List, [], true, false, length, Some, None, if◌then◌else◌, IfOk, IsErrOf, string_bytes};
+ghost use Rattle.std.specs.Prelude.{◌≡◌, ◌↔◌, ◌<◌, ◌≤◌, ◌+◌, ◌++◌, ℕ, List, [], true, false, length, Some, None, if◌then◌else◌, IfOk, OnOk, OnErr, IsErrOf, string_bytes};
 ghost use Rattle.std.specs.List.{list_all};
 ghost use Rattle.tree_model.specs.Key.{is_key};
 ghost use Rattle.tree_model.specs.Path.{path_cmp, is_path, is_prefix};
 ghost use Rattle.path_capture.specs.Path.{segments, printed};
 ghost use Rattle.path_capture.specs.declared.path.PathFault.TheVariants.{NoMemory as no_memory};
 
-use json_tree::{Key, NoMemory, is_lawful_key};
+use json_tree::{Key, NoMemory, copy_keys, is_lawful_key};
 use std::alloc::Global;
 use std::cmp::Ordering;
 use std::marker::Model;
@@ -83,6 +83,17 @@ impl Path {
         })
     }
 
+    /// The path of these keys, at most 32, from the root down. It takes no memory.
+    pub fn of_keys(keys: Vec<Key>) -> Path
+        requires { length keys.items ≤ MAX_DEPTH }
+        ensures { result ≡ keys.items }
+    {
+        for key in &keys {
+            key.text();
+        }
+        Path { held: keys }
+    }
+
     /// The keys, from the root down. It takes no memory.
     pub fn keys(&self) -> &[Key]
         ensures keys { result.now ≡ self.now }
@@ -127,8 +138,24 @@ impl Path {
         ensures { IfOk result (λ path. path ≡ self.now) }
     {
         Ok(Path {
-            held: copies(alloc, self.keys())?,
+            held: copy_keys(alloc, self.keys())?,
         })
+    }
+
+    /// Moves the keys of the other path after those of this one, by one growth at most. A refusal
+    /// leaves both as they were.
+    pub fn join(&mut self, below: &mut Path) -> Result<(), PathFault>
+        ensures ok { OnOk result (self.new ≡ self.old ++ below.old) }
+        ensures moved { OnOk result (below.new ≡ []) }
+        ensures err { OnErr result ((self.new ≡ self.old) × (below.new ≡ below.old)) }
+        ensures too_deep { IsErrOf result PathFault.TooDeep ↔ (MAX_DEPTH < length self.old + length below.old) }
+        ensures no_bad_path { ¬ IsErrOf result PathFault.BadPath }
+    {
+        if self.keys().len() + below.keys().len() > MAX_DEPTH {
+            return Err(PathFault::TooDeep);
+        }
+        append(&mut self.held, &mut below.held)?;
+        Ok(())
     }
 }
 
@@ -201,12 +228,10 @@ fn print_keys(alloc: Global, keys: &[Key]) -> Result<String, NoMemory>
     Ok(text)
 }
 
-fn copies(alloc: Global, keys: &[Key]) -> Result<Vec<Key>, NoMemory>
-    ensures { IfOk result (λ copies. copies.items ≡ keys.now) }
+fn append(keys: &mut Vec<Key>, others: &mut Vec<Key>) -> Result<(), NoMemory>
+    ensures ok { OnOk result (keys.new.items ≡ keys.old.items ++ others.old.items) }
+    ensures moved { OnOk result (others.new.items ≡ []) }
+    ensures err { OnErr result ((keys.new.items ≡ keys.old.items) × (others.new.items ≡ others.old.items)) }
 {
-    let mut copies = Vec::with_capacity(alloc, keys.len())?;
-    for key in keys {
-        copies.push(key.copy(alloc)?)?;
-    }
-    Ok(copies)
+    Ok(keys.append(others)?)
 }

@@ -25,8 +25,8 @@ pub struct TooDeep {
 /// (Guide "Structure Your Database", avoid nesting data.)
 #[derive(Debug, Drop)]
 pub struct Write {
-    path: Path,
-    tree: Option<Node>,
+    pub(crate) path: Path,
+    pub(crate) tree: Option<Node>,
 }
 
 impl Model for Write {

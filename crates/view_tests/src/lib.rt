@@ -7,4 +7,6 @@ mod cases;
 #[cfg(test)]
 mod memory;
 #[cfg(test)]
+mod updates;
+#[cfg(test)]
 mod worked;

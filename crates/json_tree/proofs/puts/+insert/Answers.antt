@@ -1,20 +1,25 @@
-use Rattle.std.proofs.Common.{◌≢◌, ◌<◌, ◌∷◌, [], reverse, sym, ap, ◌∙◌, subst, refl, arith}
+use Rattle.std.proofs.Common.{◌≡◌, ◌≢◌, ◌<◌, true, ◌∷◌, [], reverse, sym, ap, ◌∙◌, subst, refl, arith}
 use Rattle.std.specs.List.{insert}
+use Rattle.std.specs.Result.{is_ok}
+use Rattle.std.proofs.lemmas.Bool.{false≢true}
 use Rattle.std.proofs.lemmas.List.{nil_from_length, length-reverse}
 use Rattle.tree_model.specs.declared.limits.TheConstants.{MAX_DEPTH}
 use Rattle.tree_model.specs.Key.{Key, is_key}
-use Rattle.tree_model.specs.PathMap.{depth}
+use Rattle.tree_model.specs.PathMap.{sub, exists, depth}
 use Rattle.tree_model.specs.Tree.{Tree, null, IsLawful}
 use Rattle.tree_model.specs.Children.{graft}
 use Rattle.tree_model.specs.Write.{proposed}
+use Rattle.tree_model.proofs.Lookups.{sub-root}
 use Rattle.tree_model.proofs.Lawful.{IsLawful-graft}
 use Rattle.json_tree.specs.Leaf.{primitive_of}
 use Rattle.json_tree.specs.Node.{AreLawfulChildren}
+use Rattle.json_tree.specs.Working.Changed.{changed_at}
 use Rattle.json_tree.proofs.Nodes.{at_primitive, parts_at_parent}
 use Rattle.json_tree.proofs.Edits.{popped, popped_length}
 use Rattle.json_tree.proofs.Proposing.{proposed-root, proposed-lone, proposed-chain, depth-chain, room_after}
 use Rattle.json_tree.proofs.ChildEdits.{StandsAt, depth_there, children-set, graft-set, missing_at, children-insert, graft-insert}
 use Rattle.json_tree.proofs.Shares.{IsShareOf, size_of_node, set_there, exchanges-set, exchanges-insert}
+use Rattle.json_tree.proofs.Undoing.{changed-lone, exists-lone, changed-there, exists-there, changed-missing, exists-missing}
 use Rattle.json_tree.proofs.puts.+insert.Goals as goal
 
 -- ---- a node
@@ -36,7 +41,12 @@ insert-invariant_of-node-in-Parent t c =
 pub insert-returns-in_default-clause-ok : goal.insert-returns-in_default-clause-ok
 insert-returns-in_default-clause-ok t c =
     let none = nil_from_length c.args.keys.now.items (omega (arith, c.args.keys.now.ok.0, c.in_default.ensures.cases.0)) in
-    c.value.view_is ∙ sym (ap (λ p. proposed c.args.node.now ((reverse p, c.args.value) ∷ [])) none ∙ proposed-root c.args.node.now c.args.value)
+    c.replace.ensures.after ∙ sym (ap (λ p. proposed c.args.node.now ((reverse p, c.args.value) ∷ [])) none ∙ proposed-root c.args.node.now c.args.value)
+
+pub insert-returns-in_default-clause-was : goal.insert-returns-in_default-clause-was
+insert-returns-in_default-clause-was t c =
+    let none = nil_from_length c.args.keys.now.items (omega (arith, c.args.keys.now.ok.0, c.in_default.ensures.cases.0)) in
+    c.replace.ensures.value ∙ sym (ap (λ p. sub c.args.node.now (changed_at c.args.node.now (reverse p))) none ∙ sub-root c.args.node.now)
 
 pub insert-only_child-requires : goal.insert-only_child-requires
 insert-only_child-requires t c =
@@ -47,22 +57,44 @@ insert-only_child-requires t c =
     let room = c.requires in
     omega arith
 
-pub insert-returns-in_ok-node-inside-in-Primitive-clause-ok : goal.insert-returns-in_ok-node-inside-in-Primitive-clause-ok
-insert-returns-in_ok-node-inside-in-Primitive-clause-ok t c =
+pub insert-returns-in_err-chain-in-Primitive-clause-existing : goal.insert-returns-in_err-chain-in-Primitive-clause-existing
+insert-returns-in_err-chain-in-Primitive-clause-existing t c there =
+    let path = popped c.args.keys.now.items c.pop.new.self.items c.in-Some.key c.in-Some.ensures.items in
+    let node = at_primitive c.node.view_is c.in-Primitive.is in
+    absurd (false≢true (sym (exists-lone (primitive_of c.in-Primitive.field-0) c.in-Some.key (reverse c.pop.new.self.items)) ∙ sym (λ i. exists (node i) (path i)) ∙ there))
+
+pub insert-returns-in_err-parent-in-Primitive-clause-existing : goal.insert-returns-in_err-parent-in-Primitive-clause-existing
+insert-returns-in_err-parent-in-Primitive-clause-existing t c there =
+    let path = popped c.args.keys.now.items c.pop.new.self.items c.in-Some.key c.in-Some.ensures.items in
+    let node = at_primitive c.node.view_is c.in-Primitive.is in
+    absurd (false≢true (sym (exists-lone (primitive_of c.in-Primitive.field-0) c.in-Some.key (reverse c.pop.new.self.items)) ∙ sym (λ i. exists (node i) (path i)) ∙ there))
+
+pub insert-returns-in_ok-parent-in-Primitive-clause-ok : goal.insert-returns-in_ok-parent-in-Primitive-clause-ok
+insert-returns-in_ok-parent-in-Primitive-clause-ok t c =
     let rest = reverse c.pop.new.self.items in
     let path = popped c.args.keys.now.items c.pop.new.self.items c.in-Some.key c.in-Some.ensures.items in
     let node = at_primitive c.node.view_is c.in-Primitive.is in
     let value = c.args.value in
-    c.branch.view_is
-    ∙ c.in_ok-node-inside-in-Primitive.ensures
+    c.replace-in-Primitive.ensures.after
+    ∙ c.in_ok-parent-in-Primitive.ensures
     ∙ proposed-chain c.in-Some.key rest c.in_ok-chain-in-Primitive.field-0 value c.in_ok-chain-in-Primitive.ensures
     ∙ sym (proposed-lone (primitive_of c.in-Primitive.field-0) c.in-Some.key rest value c.law.ensures.some)
     ∙ sym (λ i. proposed (node i) ((path i, value) ∷ []))
 
+pub insert-returns-in_ok-parent-in-Primitive-clause-was : goal.insert-returns-in_ok-parent-in-Primitive-clause-was
+insert-returns-in_ok-parent-in-Primitive-clause-was t c =
+    let path = popped c.args.keys.now.items c.pop.new.self.items c.in-Some.key c.in-Some.ensures.items in
+    let node = at_primitive c.node.view_is c.in-Primitive.is in
+    c.replace-in-Primitive.ensures.value
+    ∙ c.node.view_is
+    ∙ node
+    ∙ sym (changed-lone (primitive_of c.in-Primitive.field-0) c.in-Some.key (reverse c.pop.new.self.items))
+    ∙ sym (λ i. sub (node i) (changed_at (node i) (path i)))
+
 -- ---- its children
 
-pub insert_below-returns-in_ok-insert-in-Ok-clause-children : goal.insert_below-returns-in_ok-insert-in-Ok-clause-children
-insert_below-returns-in_ok-insert-in-Ok-clause-children t c =
+pub insert_below-returns-in_ok-was-in-Ok-clause-children : goal.insert_below-returns-in_ok-was-in-Ok-clause-children
+insert_below-returns-in_ok-was-in-Ok-clause-children t c =
     let cs = c.args.children.now.items in
     let d : Key × Tree = c.index_mut.result.now in
     let found : StandsAt cs c.in-Ok.index d c.text.result.now = record { children = c.requires.children; within = c.in-Ok.ensures.bound; at = c.index_mut.ensures.value; tied = c.in-Ok.ensures.position d } in
@@ -72,8 +104,8 @@ insert_below-returns-in_ok-insert-in-Ok-clause-children t c =
     let after = set_there cs c.in-Ok.index (d.0, c.insert.new.node) c.index-in-Ok.result.now c.in-Ok.ensures.bound c.index-in-Ok.ensures in
     children-set found c.insert.new.node (subst (λ (x : Key × Tree). x.1 ≢ null) after c.share_of-after.ensures.some) (subst (λ (x : Key × Tree). IsLawful x.1) after c.share_of-after.ensures.lawful) room
 
-pub insert_below-returns-in_ok-insert-in-Ok-clause-exchange : goal.insert_below-returns-in_ok-insert-in-Ok-clause-exchange
-insert_below-returns-in_ok-insert-in-Ok-clause-exchange t c =
+pub insert_below-returns-in_ok-was-in-Ok-clause-exchange : goal.insert_below-returns-in_ok-was-in-Ok-clause-exchange
+insert_below-returns-in_ok-was-in-Ok-clause-exchange t c =
     let cs = c.args.children.now.items in
     let d : Key × Tree = c.index_mut.result.now in
     let after = set_there cs c.in-Ok.index (d.0, c.insert.new.node) c.index-in-Ok.result.now c.in-Ok.ensures.bound c.index-in-Ok.ensures in
@@ -83,12 +115,12 @@ insert_below-returns-in_ok-insert-in-Ok-clause-exchange t c =
     (record { depth = before.depth; count = before.count })
     (subst (λ (x : Key × Tree). IsShareOf x.1 c.share_of-after.result.depth c.share_of-after.result.count) after (record { depth = later.depth; count = later.count }))
 
-pub insert_below-returns-in_ok-insert-in-Ok-clause-ok : goal.insert_below-returns-in_ok-insert-in-Ok-clause-ok
-insert_below-returns-in_ok-insert-in-Ok-clause-ok t c =
+pub insert_below-returns-in_ok-was-in-Ok-clause-ok : goal.insert_below-returns-in_ok-was-in-Ok-clause-ok
+insert_below-returns-in_ok-was-in-Ok-clause-ok t c =
     let cs = c.args.children.now.items in
     let d : Key × Tree = c.index_mut.result.now in
     let found : StandsAt cs c.in-Ok.index d c.text.result.now = record { children = c.requires.children; within = c.in-Ok.ensures.bound; at = c.index_mut.ensures.value; tied = c.in-Ok.ensures.position d } in
-    graft-set found (reverse c.args.keys.now.items) c.insert.new.node c.args.value c.in_ok-insert-in-Ok.ensures.ok ∙ ap (λ k. proposed (graft cs) ((k ∷ (reverse c.args.keys.now.items), c.args.value) ∷ [])) c.text.ensures.bytes
+    graft-set found (reverse c.args.keys.now.items) c.insert.new.node c.args.value c.in_ok-was-in-Ok.ensures.ok ∙ ap (λ k. proposed (graft cs) ((k ∷ (reverse c.args.keys.now.items), c.args.value) ∷ [])) c.text.ensures.bytes
 
 pub insert_below-returns-in_ok-insert-in-Err-clause-children : goal.insert_below-returns-in_ok-insert-in-Err-clause-children
 insert_below-returns-in_ok-insert-in-Err-clause-children t c =
@@ -118,3 +150,40 @@ insert_below-returns-in_ok-insert-in-Err-clause-ok t c =
     ap graft items
     ∙ graft-insert missing (reverse c.args.keys.now.items) below c.args.value c.in_ok-below-in-Err.ensures
     ∙ ap (λ k. proposed (graft cs) ((k ∷ (reverse c.args.keys.now.items), c.args.value) ∷ [])) c.text.ensures.bytes
+
+-- what stood there
+
+pub insert_below-returns-in_ok-was-in-Ok-clause-was : goal.insert_below-returns-in_ok-was-in-Ok-clause-was
+insert_below-returns-in_ok-was-in-Ok-clause-was t c =
+    let cs = c.args.children.now.items in
+    let d : Key × Tree = c.index_mut.result.now in
+    let found : StandsAt cs c.in-Ok.index d c.text.result.now = record { children = c.requires.children; within = c.in-Ok.ensures.bound; at = c.index_mut.ensures.value; tied = c.in-Ok.ensures.position d } in
+    c.in_ok-was-in-Ok.ensures.was ∙ sym (changed-there found (reverse c.args.keys.now.items)) ∙ ap (λ k. sub (graft cs) (changed_at (graft cs) (k ∷ reverse c.args.keys.now.items))) c.text.ensures.bytes
+
+pub insert_below-returns-in_ok-insert-in-Err-clause-was : goal.insert_below-returns-in_ok-insert-in-Err-clause-was
+insert_below-returns-in_ok-insert-in-Err-clause-was t c =
+    let cs = c.args.children.now.items in
+    let missing = missing_at cs c.in-Err.index c.text.result.now c.requires.children c.in-Err.ensures.bound c.in-Err.ensures.position in
+    sym (changed-missing missing (reverse c.args.keys.now.items)) ∙ ap (λ k. sub (graft cs) (changed_at (graft cs) (k ∷ reverse c.args.keys.now.items))) c.text.ensures.bytes
+
+-- what exists is replaced without memory
+
+pub insert_below-returns-in_err-was-in-Ok-clause-existing : goal.insert_below-returns-in_err-was-in-Ok-clause-existing
+insert_below-returns-in_err-was-in-Ok-clause-existing t c there =
+    let cs = c.args.children.now.items in
+    let d : Key × Tree = c.index_mut.result.now in
+    let found : StandsAt cs c.in-Ok.index d c.text.result.now = record { children = c.requires.children; within = c.in-Ok.ensures.bound; at = c.index_mut.ensures.value; tied = c.in-Ok.ensures.position d } in
+    let below : exists d.1 (reverse c.args.keys.now.items) ≡ true = sym (exists-there found (reverse c.args.keys.now.items)) ∙ ap (λ k. exists (graft cs) (k ∷ reverse c.args.keys.now.items)) c.text.ensures.bytes ∙ there in
+    absurd (false≢true (sym (ap is_ok c.in_err-was-in-Ok.was) ∙ c.insert.ensures.existing below))
+
+pub insert_below-returns-in_err-below-in-Err-clause-existing : goal.insert_below-returns-in_err-below-in-Err-clause-existing
+insert_below-returns-in_err-below-in-Err-clause-existing t c there =
+    let cs = c.args.children.now.items in
+    let missing = missing_at cs c.in-Err.index c.text.result.now c.requires.children c.in-Err.ensures.bound c.in-Err.ensures.position in
+    absurd (false≢true (sym (exists-missing missing (reverse c.args.keys.now.items)) ∙ ap (λ k. exists (graft cs) (k ∷ reverse c.args.keys.now.items)) c.text.ensures.bytes ∙ there))
+
+pub insert_below-returns-in_err-insert-in-Err-clause-existing : goal.insert_below-returns-in_err-insert-in-Err-clause-existing
+insert_below-returns-in_err-insert-in-Err-clause-existing t c there =
+    let cs = c.args.children.now.items in
+    let missing = missing_at cs c.in-Err.index c.text.result.now c.requires.children c.in-Err.ensures.bound c.in-Err.ensures.position in
+    absurd (false≢true (sym (exists-missing missing (reverse c.args.keys.now.items)) ∙ ap (λ k. exists (graft cs) (k ∷ reverse c.args.keys.now.items)) c.text.ensures.bytes ∙ there))

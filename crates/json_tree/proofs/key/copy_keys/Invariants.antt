@@ -1,5 +1,5 @@
 use Rattle.std.proofs.Common.{◌≡◌, take}
-use Rattle.path_capture.proofs.path.copies.Given as goal
+use Rattle.json_tree.proofs.key.copy_keys.Given as goal
 
 abbrev pub invariant-loop-key : goal.invariant-loop-key
 invariant-loop-key l = l.copies.items ≡ take l.key-index l.keys

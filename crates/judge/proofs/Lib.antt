@@ -1,0 +1,11 @@
+pub mod Order
+pub mod Groups
+pub mod Sorting
+pub mod Walks
+pub mod Near
+pub mod Deciding
+pub mod Places
+pub mod Refusing
+pub mod Decided
+pub mod Tops
+pub mod Reaching

@@ -1,0 +1,26 @@
+use Rattle.std.proofs.Common.{◌≡◌, refl, ap, ◌∙◌, Some, None}
+use Rattle.rules_reader.specs.declared.kind.Kind.TheVariants.{Read}
+use Rattle.evaluator.specs.declared.env.Access.TheVariants.{Reads}
+use Rattle.evaluator.specs.Asked.{asked_of}
+use Rattle.judge.specs.Question.{scene_of}
+use Rattle.judge.specs.declared.spot.Asking.{Asking}
+use Rattle.judge.specs.Working.Locations.{paths}
+use Rattle.judge.specs.Working.Refused.{seen_names}
+use Rattle.judge.proofs.Tops.{stands_anew, read_answer_none, read_answer_some}
+use Rattle.judge.proofs.judging.judge_alone.Goals as goal
+
+pub refused_from-requires : goal.refused_from-requires
+refused_from-requires c =
+    let asking : Asking = record { bump = c.args.bump; scene = c.args.scene; access = Reads c.args.asked; kind = Read } in
+    record { here = stands_anew asking c.in_ok-spot.spot c.new-captures.result c.new-captures.ensures c.in_ok-spot.ensures }
+
+pub returns-in-Some : goal.returns-in-Some
+returns-in-Some c =
+    let asking : Asking = record { bump = c.args.bump; scene = c.args.scene; access = Reads c.args.asked; kind = Read } in
+    read_answer_some asking c.in_ok-spot.spot (scene_of c.args.scene.now) (asked_of c.args.asked.now) (paths c.args.locations.now) c.args.path.now c.in_ok-denial.denial c.in-Some.denial _ refl refl c.in_ok-spot.ensures c.requires c.in-Some.is
+    (c.in_ok-rules-in-Some.ensures ∙ ap seen_names c.as_slice.ensures.value) c.in_ok-denial.ensures.denial
+
+pub returns : goal.returns
+returns c =
+    let asking : Asking = record { bump = c.args.bump; scene = c.args.scene; access = Reads c.args.asked; kind = Read } in
+    read_answer_none asking c.in_ok-spot.spot (scene_of c.args.scene.now) (asked_of c.args.asked.now) (paths c.args.locations.now) c.args.path.now c.in_ok-denial.denial refl refl c.in_ok-spot.ensures c.requires c.in-None.is c.in_ok-denial.ensures.denial

@@ -1,0 +1,77 @@
+use Rattle.std.proofs.Common.{◌≡◌, Some, None, sym, ap, ◌∙◌, subst, refl, arith}
+use Rattle.judge.specs.declared.validate.Failure.{Failure}
+use Rattle.judge.specs.Working.Standing.{ask_of, path_of, coming_of, Stands, Entering}
+use Rattle.judge.specs.Working.Found.{Found, FailsFrom, Below, FaultsHere}
+use Rattle.judge.proofs.Groups.{one_longer}
+use Rattle.judge.proofs.Places.{stands_there, nothing_stands}
+use Rattle.judge.proofs.Walks.{key_there, nothing_there, nothing_below, below_key, here_as, ahead_at_first, child_found, child_passed, all_passed, room_for_child}
+use Rattle.tree_model.specs.Tree.{child_keys}
+use Rattle.judge.proofs.validate.+everywhere.Goals as goal
+
+-- ---- at a node
+
+pub everywhere-returns-in_default-clause-found : goal.everywhere-returns-in_default-clause-found
+everywhere-returns-in_default-clause-found t c =
+    nothing_there (ask_of c.args.asking.now) (coming_of c.args.asking.now) (path_of c.args.spot.now) (nothing_stands c.args.asking.now c.args.spot.now c.args.captures.now c.coming.result c.requires.here c.in_default.is c.coming.ensures)
+
+pub everywhere-returns-in-Some-own-clause-found : goal.everywhere-returns-in-Some-own-clause-found
+everywhere-returns-in-Some-own-clause-found t c =
+    let ask = ask_of c.args.asking.now in
+    let from = path_of c.args.spot.now in
+    here_as ask (coming_of c.args.asking.now) c.in-Some.view.now from c.in-Some-own.failure (stands_there c.args.asking.now c.args.spot.now c.args.captures.now c.coming.result c.in-Some.view c.requires.here c.in-Some.is c.coming.ensures)
+    (subst (FaultsHere ask from) c.in-Some-own.is c.in_ok-own.ensures)
+
+pub everywhere-loop-i-init : goal.everywhere-loop-i-init
+everywhere-loop-i-init t c =
+    let ask = ask_of c.args.asking.now in
+    let from = path_of c.args.spot.now in (
+      ahead_at_first ask (coming_of c.args.asking.now) c.in-Some.view.now from (stands_there c.args.asking.now c.args.spot.now c.args.captures.now c.coming.result c.in-Some.view c.requires.here c.in-Some.is c.coming.ensures)
+          (subst (FaultsHere ask from) c.in_default-own.is c.in_ok-own.ensures),
+      refl,
+    )
+
+pub everywhere-unreachable-requires : goal.everywhere-unreachable-requires
+everywhere-unreachable-requires t c =
+    let within = c.loop-i-test.true in
+    let wide = c.width-i-end.ensures in
+    key_there (child_keys c.in-Some.view.now) c.loop-i.i (omega (arith, within, wide)) c.in_default-key_at.ensures
+
+pub everywhere-everywhere_below-requires : goal.everywhere-everywhere_below-requires
+everywhere-everywhere_below-requires t c =
+    let from = path_of c.args.spot.now in
+    let here = subst (Stands c.args.asking.now c.args.spot.now) (sym c.loop-i.invariant.1) c.requires.here in
+    let room = room_for_child (coming_of c.args.asking.now) c.in-Some.view.now from c.in-Some-key_at.key.now c.loop-i.i c.requires.lawful (stands_there c.args.asking.now c.args.spot.now c.args.captures.now c.coming.result c.in-Some.view c.requires.here c.in-Some.is c.coming.ensures) c.in-Some-key_at.ensures in
+    (omega arith, (here, (c.requires.lawful, room)))
+
+pub everywhere-returns-in-Some-below-clause-found : goal.everywhere-returns-in-Some-below-clause-found
+everywhere-returns-in-Some-below-clause-found t c =
+    let F = FailsFrom (ask_of c.args.asking.now) (coming_of c.args.asking.now) (path_of c.args.spot.now) in
+    child_found F c.in-Some.view.now c.loop-i.i c.in-Some-key_at.key.now c.in-Some-below.failure c.in_ok-failure.failure c.in-Some-key_at.ensures c.loop-i.invariant.0 c.in_ok-failure.ensures.place c.in_ok-failure.ensures.fault
+    (subst (Found (Below c.in-Some-key_at.key.now F)) c.in-Some-below.is c.in_ok-below.ensures.found)
+
+pub everywhere-loop-i-preserved : goal.everywhere-loop-i-preserved
+everywhere-loop-i-preserved t c =
+    let F = FailsFrom (ask_of c.args.asking.now) (coming_of c.args.asking.now) (path_of c.args.spot.now) in (
+      child_passed F c.in-Some.view.now c.loop-i.i c.in-Some-key_at.key.now c.in-Some-key_at.ensures c.loop-i.invariant.0 (subst (Found (Below c.in-Some-key_at.key.now F)) c.in_default-below.is c.in_ok-below.ensures.found),
+      c.in_ok-below.ensures.back ∙ c.loop-i.invariant.1,
+    )
+
+pub everywhere-returns-clause-found : goal.everywhere-returns-clause-found
+everywhere-returns-clause-found t c =
+    let past = c.loop-i-test.false in
+    let wide = c.width-i-end.ensures in
+    all_passed (FailsFrom (ask_of c.args.asking.now) (coming_of c.args.asking.now) (path_of c.args.spot.now)) c.in-Some.view.now c.loop-i.i (omega (arith, past, wide)) c.loop-i.invariant.0
+
+-- ---- below a key
+
+pub everywhere_below-returns-in_default-clause-found : goal.everywhere_below-returns-in_default-clause-found
+everywhere_below-returns-in_default-clause-found t c =
+    let from = path_of c.args.spot.now in
+    let entered = subst (Entering c.args.asking.now from c.args.key.now c.args.captures.now c.enter.new.captures) c.in_default.is c.in_ok-next.ensures in
+    nothing_below (ask_of c.args.asking.now) (coming_of c.args.asking.now) from c.args.key.now entered.1
+
+pub everywhere_below-returns-clause-found : goal.everywhere_below-returns-clause-found
+everywhere_below-returns-clause-found t c =
+    let from = path_of c.args.spot.now in
+    let entered = subst (Entering c.args.asking.now from c.args.key.now c.args.captures.now c.enter.new.captures) c.in-Some.is c.in_ok-next.ensures in
+    below_key (ask_of c.args.asking.now) (coming_of c.args.asking.now) from (path_of c.in-Some.next) c.args.key.now c.in_ok-failure.failure entered.1 c.in_ok-failure.ensures.found

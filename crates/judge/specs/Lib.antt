@@ -1,0 +1,7 @@
+pub mod Question
+pub mod Answers
+pub mod Granting
+pub mod Failing
+pub mod Tests
+pub mod Judging
+pub mod Working

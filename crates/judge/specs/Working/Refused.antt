@@ -1,0 +1,42 @@
+-- A walk that asks who may: which location is refused, and which rules it met on the way.
+use Rattle.std.specs.Prelude.{◌≡◌, ℕ, ◌||◌, ◌++◌, List, [], ◌∷◌, map, drop, reverse, find, Bool, false, not, Option, Some, None, option_map}
+use Rattle.std.specs.List.{cons_option}
+use Rattle.tree_model.specs.Path.{Path}
+use Rattle.judge.specs.Tests.{Answer, holds, failing, name_of}
+use Rattle.judge.specs.declared.verdict.Named.{Named}
+use Rattle.judge.specs.declared.grant.Seen.{Seen}
+use Rattle.judge.specs.declared.grant.Denial.{Denial}
+
+-- what the rules of one kind answer, path by path
+abbrev pub Ask : Type 0
+Ask = Path → Option Answer
+
+-- a rule holds properly below `from`, on the way along the rest
+abbrev pub granted_below : Ask → Path → Path → Bool
+granted_below ask from [] = false
+granted_below ask from (k ∷ rest) = holds (ask (from ++ k ∷ [])) || granted_below ask (from ++ k ∷ []) rest
+
+-- a rule holds at `from`, or on the way along the rest
+abbrev pub granted_from : Ask → Path → Path → Bool
+granted_from ask from rest = holds (ask from) || granted_below ask from rest
+
+-- the name of the rule that stands at the path, where it does not hold
+abbrev pub name_at : Ask → Path → Option Named
+name_at ask path = option_map name_of (failing (ask path))
+
+-- the names of the rules properly below `from`, on the way along the rest
+abbrev pub names_below : Ask → Path → Path → List Named
+names_below ask from [] = []
+names_below ask from (k ∷ rest) = cons_option (name_at ask (from ++ k ∷ [])) (names_below ask (from ++ k ∷ []) rest)
+
+abbrev pub names_from : Ask → Path → Path → List Named
+names_from ask from rest = cons_option (name_at ask from) (names_below ask from rest)
+
+-- rules that were seen on the way back, the deepest first, as names
+abbrev pub seen_names : List Seen → List Named
+seen_names seen = map (λ s. record { pattern = s.pattern.now; why = s.why }) (reverse seen)
+
+-- the answer of a walk over locations, of which so many keys lie above: the first that is not granted, with the names of the rules that were asked for it; or none, where all are
+abbrev pub Refuses : (Path → Bool) → (Path → List Named) → ℕ → List Path → Option Denial → Type 0
+Refuses granted names depth locations None = find (λ l. not (granted (drop depth l))) locations ≡ None
+Refuses granted names depth locations (Some denial) = (find (λ l. not (granted (drop depth l))) locations ≡ Some denial.location.now) × (seen_names denial.seen.items ≡ names (drop depth denial.location.now))

@@ -1,0 +1,248 @@
+//! Judging a read, and writes.
+ghost use Rattle.std.specs.Prelude.{◌≡◌, [], ◌∷◌, map, IfOk, MatchOption};
+ghost use Rattle.tree_model.specs.Write.{location, proposed};
+ghost use Rattle.path_capture.specs.Write.{tree_or_null};
+ghost use Rattle.evaluator.specs.Asked.{asked_of};
+ghost use Rattle.judge.specs.Question.{scene_of, access_at};
+ghost use Rattle.rules_reader.specs.declared.kind.Kind.TheVariants.{Write as WriteKind, Validate as ValidateKind};
+ghost use Rattle.tree_model.specs.Tree.{IsLawful};
+ghost use Rattle.judge.specs.Failing.{IsValid};
+ghost use Rattle.judge.specs.Judging.{IsReadVerdict, IsWriteVerdict, MayWriteAll};
+ghost use Rattle.judge.specs.Working.Standing.{StandsAtRoot, AsksFor, question_of, coming_of};
+ghost use Rattle.evaluator.specs.Env.{access_of};
+ghost use Rattle.judge.specs.Working.Locations.{paths, PathsAscend};
+
+use crate::grant::{named, refused_from};
+use crate::locations::sort;
+use crate::scene::Scene;
+use crate::spot::{Asking, Spot};
+use crate::validate::{place_of, towards};
+use crate::verdict::Verdict;
+use arena_snapshot::View;
+use bumpalo::Bump;
+use evaluator::{Access, Asked, Snapshot};
+use json_tree::NoMemory;
+use path_capture::{Captures, Path, Write};
+use rules_reader::Kind;
+use std::alloc::Global;
+
+/// Judges a read of a path with this query: granted exactly where a `.read` holds at the path or above
+/// it, else denied with all `.read` rules there. Of d keys, d · log w in nodes of w children, and each
+/// rule on the way once; the arena takes two places for each key and what expressions make, and the
+/// rest of memory only a denial. Nothing grows with what is stored beside the path. (Guide "Core
+/// syntax", `.read` and `.write` rules cascade.)
+pub fn judge_read<'a>(
+    alloc: Global,
+    bump: &'a Bump,
+    scene: &'a Scene<'a>,
+    path: &'a Path,
+    asked: &'a Asked<'a>,
+) -> Result<Verdict, NoMemory>
+    ensures { IfOk result (IsReadVerdict (scene_of scene.now) (asked_of asked.now) path.now) }
+{
+    let locations = alone(bump, path)?;
+    judge_alone(alloc, bump, scene, path, asked, locations.as_slice())
+}
+
+// The same, of the path as the only one in a list.
+fn judge_alone<'a>(
+    alloc: Global,
+    bump: &'a Bump,
+    scene: &'a Scene<'a>,
+    path: &Path,
+    asked: &'a Asked<'a>,
+    locations: &'a [&'a Path],
+) -> Result<Verdict, NoMemory>
+    requires { paths locations.now ≡ path.now ∷ [] }
+    ensures { IfOk result (IsReadVerdict (scene_of scene.now) (asked_of asked.now) path.now) }
+{
+    let _path = path;
+    let asking = Asking {
+        bump,
+        scene,
+        access: Access::Reads(asked),
+        kind: Kind::Read,
+    };
+    let spot = at_root(&asking)?;
+    let mut captures = Captures::new(alloc);
+    let denial = refused_from(alloc, &asking, &spot, locations, &mut captures)?;
+    match denial {
+        Some(denial) => {
+            let rules = named(alloc, denial.seen.as_slice())?;
+            Ok(Verdict::ReadDenied(rules))
+        }
+        None => Ok(Verdict::Granted),
+    }
+}
+
+/// Judges writes that propose this tree together: denied for write at the least location where no
+/// `.write` holds at it or above it, with all `.write` rules there; else denied for validate at the
+/// first failing place, with its pattern and the reason; else granted. The locations are sorted once,
+/// whatever their order. A `.write` is evaluated once for all locations below it, and none behind the
+/// first location that is not granted; a `.validate` is evaluated only at places that exist in the
+/// proposed tree, above a location or in what is written, and none behind the first that fails. Nothing
+/// grows with what is stored beside the locations: of n locations of d keys, n · log n comparisons, d ·
+/// log w steps for each, and what is written. The arena takes two places for each step, and what
+/// expressions make; the rest of memory the names of a denial. (Guide "Core syntax", `.read` and
+/// `.write` rules cascade, `.validate` rules do not.)
+pub fn judge_write<'a>(
+    alloc: Global,
+    bump: &'a Bump,
+    scene: &'a Scene<'a>,
+    coming: Option<View<'a>>,
+    writes: &'a [Write],
+) -> Result<Verdict, NoMemory>
+    requires { tree_or_null coming ≡ proposed (tree_or_null scene.now.old) writes.now }
+    ensures { IfOk result (IsWriteVerdict (scene_of scene.now) (proposed (tree_or_null scene.now.old) writes.now) (map location writes.now)) }
+{
+    let mut locations = locations_of(bump, writes)?;
+    sort(&mut locations);
+    judge_ordered(alloc, bump, scene, &coming, locations.as_slice())
+}
+
+// The same, of locations in their order.
+fn judge_ordered<'a>(
+    alloc: Global,
+    bump: &'a Bump,
+    scene: &'a Scene<'a>,
+    coming: &'a Option<View<'a>>,
+    locations: &'a [&'a Path],
+) -> Result<Verdict, NoMemory>
+    requires { PathsAscend (paths locations.now) }
+    ensures { IfOk result (IsWriteVerdict (scene_of scene.now) (tree_or_null coming.now) (paths locations.now)) }
+{
+    law_of(coming);
+    let root = root_of(bump, coming)?;
+    let asking = Asking {
+        bump,
+        scene,
+        access: Access::Writes(root),
+        kind: Kind::Write,
+    };
+    let spot = at_root(&asking)?;
+    let refused = write_denied(alloc, &asking, &spot, locations)?;
+    if let Some(verdict) = refused {
+        return Ok(verdict);
+    }
+    let validating = Asking {
+        bump,
+        scene,
+        access: Access::Writes(root),
+        kind: Kind::Validate,
+    };
+    let failed = validate_denied(alloc, &validating, &spot, locations)?;
+    if let Some(verdict) = failed {
+        return Ok(verdict);
+    }
+    Ok(Verdict::Granted)
+}
+
+// The denial for write, if some location is not granted.
+fn write_denied<'a>(
+    alloc: Global,
+    asking: &Asking<'a>,
+    spot: &Spot<'a>,
+    locations: &'a [&'a Path],
+) -> Result<Option<Verdict>, NoMemory>
+    requires root { StandsAtRoot asking.now spot.now }
+    requires kind { asking.now.kind ≡ WriteKind }
+    requires sorted { PathsAscend (paths locations.now) }
+    ensures { IfOk result (λ denied. MatchOption denied (MayWriteAll (scene_of asking.now.scene.now) (coming_of asking.now) (paths locations.now)) (IsWriteVerdict (scene_of asking.now.scene.now) (coming_of asking.now) (paths locations.now))) }
+{
+    let mut captures = Captures::new(alloc);
+    let denial = refused_from(alloc, asking, spot, locations, &mut captures)?;
+    match denial {
+        Some(denial) => {
+            let rules = named(alloc, denial.seen.as_slice())?;
+            let location = denial.location.copy(alloc)?;
+            Ok(Some(Verdict::WriteDenied(location, rules)))
+        }
+        None => Ok(None),
+    }
+}
+
+// The denial for validate, if a `.validate` fails.
+fn validate_denied<'a>(
+    alloc: Global,
+    asking: &Asking<'a>,
+    spot: &Spot<'a>,
+    locations: &'a [&'a Path],
+) -> Result<Option<Verdict>, NoMemory>
+    requires root { StandsAtRoot asking.now spot.now }
+    requires kind { asking.now.kind ≡ ValidateKind }
+    requires lawful { IsLawful (coming_of asking.now) }
+    requires sorted { PathsAscend (paths locations.now) }
+    requires granted { MayWriteAll (scene_of asking.now.scene.now) (coming_of asking.now) (paths locations.now) }
+    ensures { IfOk result (λ denied. MatchOption denied (IsValid (scene_of asking.now.scene.now) (coming_of asking.now) (paths locations.now)) (IsWriteVerdict (scene_of asking.now.scene.now) (coming_of asking.now) (paths locations.now))) }
+{
+    let mut captures = Captures::new(alloc);
+    let failure = towards(alloc, asking, spot, locations, &mut captures)?;
+    match failure {
+        Some(failure) => {
+            let place = place_of(alloc, failure.keys.as_slice())?;
+            let pattern = failure.pattern.copy()?;
+            let why = failure.why;
+            Ok(Some(Verdict::ValidateDenied(place, pattern, why)))
+        }
+        None => Ok(None),
+    }
+}
+
+// Where a walk begins: at the root.
+fn at_root<'a>(asking: &Asking<'a>) -> Result<Spot<'a>, NoMemory>
+    requires asks { AsksFor asking.now.kind (question_of asking.now).request }
+    requires root { access_of asking.now.access ≡ access_at (question_of asking.now).request [] }
+    ensures { IfOk result (StandsAtRoot asking.now) }
+{
+    let rule = asking.scene.rules.root();
+    let here = root_of(asking.bump, &asking.scene.old)?;
+    Ok(Spot {
+        rule,
+        here,
+        access: asking.access,
+    })
+}
+
+// What holds of a view holds of the tree, also where there is none.
+fn law_of(view: &Option<View>)
+    ensures { IsLawful (tree_or_null view.now) }
+{
+    match view {
+        Some(view) => view.law(),
+        None => {}
+    }
+}
+
+// The root of a tree, in the arena.
+fn root_of<'a>(bump: &'a Bump, view: &Option<View<'a>>) -> Result<&'a Snapshot<'a>, NoMemory>
+    ensures { IfOk result (λ root. root.now ≡ (tree_or_null view.now, [])) }
+{
+    let view = match view {
+        Some(view) => Some(view.share()),
+        None => None,
+    };
+    Ok(bump.try_alloc(Snapshot::root(view))?)
+}
+
+// One location, as a list of locations.
+fn alone<'a>(bump: &'a Bump, path: &'a Path) -> Result<Vec<&'a Path, &'a Bump>, NoMemory>
+    ensures { IfOk result (λ locations. paths locations.items ≡ path.now ∷ []) }
+{
+    let mut locations = Vec::with_capacity(bump, 1)?;
+    locations.push(path)?;
+    Ok(locations)
+}
+
+// The location of each write.
+fn locations_of<'a>(
+    bump: &'a Bump,
+    writes: &'a [Write],
+) -> Result<Vec<&'a Path, &'a Bump>, NoMemory>
+    ensures { IfOk result (λ locations. paths locations.items ≡ map location writes.now) }
+{
+    let mut locations = Vec::with_capacity(bump, writes.len())?;
+    for write in writes {
+        locations.push(write.at())?;
+    }
+    Ok(locations)
+}

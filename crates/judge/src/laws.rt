@@ -1,0 +1,37 @@
+//! Laws of what is granted, and of verdicts: of the definitions alone.
+ghost use Rattle.std.specs.Prelude.{◌≡◌, ◌++◌, List, true, IsPermutation};
+ghost use Rattle.tree_model.specs.Path.{Path, is_prefix};
+ghost use Rattle.tree_model.specs.Tree.{Tree};
+ghost use Rattle.tree_model.specs.Write.{Write, proposed};
+ghost use Rattle.rules_reader.specs.Part.{Pattern};
+ghost use Rattle.rules_reader.specs.declared.kind.Kind.{Kind};
+ghost use Rattle.evaluator.specs.Env.{writes};
+ghost use Rattle.judge.specs.Question.{Scene, Question, writing, env_at};
+ghost use Rattle.judge.specs.Answers.{Holds};
+ghost use Rattle.judge.specs.Granting.{IsGranted};
+ghost use Rattle.judge.specs.Judging.{IsWriteVerdict};
+ghost use Rattle.judge.specs.declared.verdict.Verdict.{Verdict as AnyVerdict};
+
+/// What a rule grants, no deeper rule takes back: what is granted at a path is granted at each path
+/// that extends it. It does nothing. (Guide "Core syntax", `.read` and `.write` rules cascade.)
+pub fn a_grant_reaches_down()
+    ensures { (q : Question) (kind : Kind) (path rest : Path) → IsGranted q kind path → IsGranted q kind (path ++ rest) }
+{}
+
+/// A rule grants nothing above its place: where all rules that hold at the path and above it hold in
+/// another question too, what is granted there is granted by that one too, whatever it says of other
+/// places. It does nothing. (The same section.)
+pub fn only_rules_above_grant()
+    ensures { (q r : Question) (kind : Kind) (path : Path) → ((place : Path) → is_prefix place path ≡ true → Holds q kind place → Holds r kind place) → IsGranted q kind path → IsGranted r kind path }
+{}
+
+/// Every rule that is asked for some write of an event sees as `newData` the tree that all its writes
+/// propose together. It does nothing. (Reference, `newData` variable.)
+pub fn every_write_sees_the_whole()
+    ensures { (scene : Scene) (t : Tree) (all : List Write) (pattern : Pattern) (place : Path) → (env_at (writing scene (proposed t all)) pattern place).access ≡ writes (proposed t all, place) }
+{}
+
+/// In which order the locations of an event stand changes no verdict. It does nothing.
+pub fn the_order_of_writes_changes_nothing()
+    ensures { (scene : Scene) (t : Tree) (one other : List Path) (v : AnyVerdict) → IsPermutation one other → IsWriteVerdict scene t other v → IsWriteVerdict scene t one v }
+{}

@@ -1,0 +1,22 @@
+//! Who may: whether a read or writes are granted by the rules, and what a denial names.
+//!
+//! The definitions stand in `specs/Judging`. What the layer above needs is [`judge_read`] and
+//! [`judge_write`]: each answers the verdict of the definitions, but for want of memory.
+#![tactic(auto)]
+
+mod grant;
+mod judging;
+mod laws;
+mod locations;
+mod scene;
+mod spot;
+mod validate;
+mod verdict;
+
+pub use judging::{judge_read, judge_write};
+pub use laws::{
+    a_grant_reaches_down, every_write_sees_the_whole, only_rules_above_grant,
+    the_order_of_writes_changes_nothing,
+};
+pub use scene::Scene;
+pub use verdict::{Named, NamedRules, Verdict, Why};

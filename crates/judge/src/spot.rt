@@ -1,0 +1,151 @@
+//! Where a walk stands: the rule node there, and what its rules see.
+ghost use Rattle.std.specs.Prelude.{◌≡◌, ◌<◌, ◌++◌, ℕ, List, length, option_map, IfOk, OnOk};
+ghost use Rattle.tree_model.specs.declared.limits.TheConstants.{MAX_DEPTH as most_keys};
+ghost use Rattle.tree_model.specs.Key.{Key as KeyBytes};
+ghost use Rattle.path_capture.specs.Pattern.{part_of, part_text};
+ghost use Rattle.rules_reader.specs.Spelled.{captured};
+ghost use Rattle.evaluator.specs.Env.{access_of};
+ghost use Rattle.judge.specs.Working.Standing.{ask_of, path_of, last_name, last_bound, access_below, AccessHasRoom, coming_at, Stands, Entering};
+
+use crate::scene::Scene;
+use arena_snapshot::View;
+use bumpalo::Bump;
+use evaluator::{Access, Env, Outcome, Snapshot, evaluate};
+use json_tree::{Key, NoMemory};
+use path_capture::{CaptureName, Captures, Part};
+use rules_reader::{Kind, RuleNode};
+
+/// What is asked: the rules of which kind, in which scene, and for which access at the root.
+#[derive(Clone, Copy)]
+pub(crate) struct Asking<'a> {
+    pub(crate) bump: &'a Bump,
+    pub(crate) scene: &'a Scene<'a>,
+    pub(crate) access: Access<'a>,
+    pub(crate) kind: Kind,
+}
+
+/// Where a walk stands: the rule node, `data`, and the query or `newData`.
+#[derive(Clone, Copy)]
+pub(crate) struct Spot<'a> {
+    pub(crate) rule: &'a RuleNode,
+    pub(crate) here: &'a Snapshot<'a>,
+    pub(crate) access: Access<'a>,
+}
+
+// The proposed tree at the spot, if something stands there.
+pub(crate) fn coming<'a>(spot: &Spot<'a>) -> Option<&'a View<'a>>
+    ensures { option_map (λ view. view.now) result ≡ coming_at (access_of spot.now.access) }
+{
+    match spot.access {
+        Access::Reads(_) => None,
+        Access::Writes(snapshot) => snapshot.view(),
+    }
+}
+
+/// What the rule of the kind that is asked answers, if the node states one. The expression is
+/// evaluated, and nothing else.
+pub(crate) fn answer<'a>(
+    asking: &Asking<'a>,
+    spot: &Spot<'a>,
+    captures: &Captures<'a>,
+) -> Result<Option<Outcome>, NoMemory>
+    requires { Stands asking.now spot.now captures.now }
+    ensures { IfOk result (λ answer. option_map (λ a. (spot.now.rule.now.at, a)) answer ≡ ask_of asking.now (path_of spot.now)) }
+{
+    let Some(rule) = spot.rule.rule(asking.kind) else {
+        return Ok(None);
+    };
+    let env = Env {
+        auth: asking.scene.auth,
+        moment: asking.scene.moment,
+        here: spot.here,
+        access: spot.access,
+        captures,
+    };
+    let outcome = evaluate(asking.bump, rule, &env)?;
+    Ok(Some(outcome))
+}
+
+/// The spot one key further down, if a rule node is there: one step among the rules and one look-up in
+/// each tree, and a place in the arena for each.
+pub(crate) fn enter<'a>(
+    asking: &Asking<'a>,
+    spot: &Spot<'a>,
+    key: &'a Key,
+    captures: &mut Captures<'a>,
+) -> Result<Option<Spot<'a>>, NoMemory>
+    requires here { Stands asking.now spot.now captures.old }
+    requires room { length (path_of spot.now) < most_keys }
+    ensures { IfOk result (Entering asking.now (path_of spot.now) key.now captures.old captures.new) }
+{
+    let Some(rule) = spot.rule.step(key.text()) else {
+        return Ok(None);
+    };
+    let here = spot.here.below(asking.bump, key.text())?;
+    let access = access_below(asking.bump, spot.access, key)?;
+    bind(rule, key, captures)?;
+    Ok(Some(Spot { rule, here, access }))
+}
+
+/// Takes back what the spot has bound.
+pub(crate) fn leave<'a>(spot: &Spot<'a>, captures: &mut Captures<'a>)
+    ensures { (front : List (List ℕ × KeyBytes)) (key : KeyBytes) → captures.old ≡ front ++ last_bound spot.now.rule.now.at key → captures.new ≡ front }
+{
+    if own_capture(spot.rule).is_some() {
+        captures.pop();
+    }
+}
+
+fn access_below<'a>(
+    bump: &'a Bump,
+    access: Access<'a>,
+    key: &'a Key,
+) -> Result<Access<'a>, NoMemory>
+    requires { AccessHasRoom (access_of access) }
+    ensures { IfOk result (λ next. access_of next ≡ access_below (access_of access.entry) key.now) }
+{
+    match access {
+        Access::Reads(asked) => Ok(Access::Reads(asked)),
+        Access::Writes(snapshot) => Ok(Access::Writes(snapshot.below(bump, key.text())?)),
+    }
+}
+
+// Binds the capture that the node's own part is, if it is one, to the key.
+fn bind<'a>(rule: &'a RuleNode, key: &'a Key, captures: &mut Captures<'a>) -> Result<(), NoMemory>
+    ensures { OnOk result (captures.new ≡ captures.old ++ last_bound rule.now.at key.now) }
+{
+    if let Some(name) = own_capture(rule) {
+        captures.push(name, key)?;
+    }
+    Ok(())
+}
+
+// The name of the capture that the last part of the node's pattern is, if it is one.
+fn own_capture(rule: &RuleNode) -> Option<&CaptureName>
+    ensures { option_map (λ name. name.now) result ≡ last_name rule.now.at }
+{
+    let pattern = rule.pattern();
+    let count = pattern.len();
+    if count == 0 {
+        return None;
+    }
+    match pattern.part(count - 1) {
+        Some(part) => name_of(part),
+        None => None,
+    }
+}
+
+fn name_of(part: &Part) -> Option<&CaptureName>
+    ensures { option_map (λ name. name.now) result ≡ captured (part_text (part_of part.now)) }
+{
+    match part {
+        Part::Literal(key) => {
+            key.text();
+            None
+        }
+        Part::Capture(name) => {
+            name.text();
+            Some(name)
+        }
+    }
+}

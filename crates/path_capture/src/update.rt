@@ -1,0 +1,121 @@
+//! The writes of one update, made in a stored tree in place: all of them, or none.
+ghost use Rattle.std.specs.Prelude.{◌≡◌, ◌≢◌, ◌∷◌, [], false, reverse, All, IsOk, OnOk, OnErr};
+ghost use Rattle.tree_model.specs.Tree.{null, non_null};
+ghost use Rattle.tree_model.specs.Write.{written, overlaps, proposed};
+ghost use Rattle.path_capture.specs.Write.{tree_or_null};
+ghost use Rattle.path_capture.specs.Working.Rewind.{rewound, CanRewind, IsOneMore};
+
+use crate::write::Write;
+use json_tree::{NoMemory, Node, Undo, put_with_undo};
+use std::alloc::Global;
+
+/// Makes writes, of which none overlaps another, in a stored tree, in place: all of them, or at an `Err`
+/// none. The writes that put something are made first, one after another; where one is refused memory,
+/// those that were made are undone, the last first, without taking memory. Then come the removals, which
+/// take none. Each write costs as much as one alone, and the copies of the keys that lead to where it
+/// changes the tree.
+pub fn make_all(alloc: Global, tree: &mut Option<Node>, writes: Vec<Write>) -> Result<(), NoMemory>
+    requires { overlaps writes.items ≡ false }
+    ensures ok { OnOk result (tree_or_null tree.new ≡ proposed (tree_or_null tree.old) writes.items) }
+    ensures err { OnErr result (tree.new ≡ tree.old) }
+    ensures removals { All (λ write. written write ≡ null) writes.items → IsOk result }
+{
+    law_of(tree);
+    let mut left = writes;
+    let mut undos = Vec::new(alloc);
+    match make_puts(alloc, tree, &mut left, &mut undos) {
+        Ok(()) => {
+            make_removals(alloc, tree, left);
+            Ok(())
+        }
+        Err(refused) => {
+            rewind(tree, undos);
+            Err(refused)
+        }
+    }
+}
+
+// Makes the writes that put something, and leaves the removals.
+fn make_puts(
+    alloc: Global,
+    tree: &mut Option<Node>,
+    left: &mut Vec<Write>,
+    undos: &mut Vec<Undo>,
+) -> Result<(), NoMemory>
+    requires apart { overlaps left.old.items ≡ false }
+    requires none { undos.old.items ≡ [] }
+    ensures apart { OnOk result (overlaps left.new.items ≡ false) }
+    ensures goal { OnOk result (proposed (tree_or_null tree.new) left.new.items
+        ≡ proposed (tree_or_null tree.old) left.old.items) }
+    ensures removals { OnOk result (All (λ write. written write ≡ null) left.new.items) }
+    ensures can_rewind { CanRewind (reverse undos.new.items) (tree_or_null tree.new) }
+    ensures rewound { rewound (reverse undos.new.items) (tree_or_null tree.new) ≡ tree_or_null tree.old }
+    ensures nothing { All (λ write. written write ≡ null) left.old.items → IsOk result }
+{
+    let mut i = 0;
+    while i < left.len() {
+        if left[i].tree().is_some() {
+            let write = left.swap_remove(i);
+            make_put(alloc, tree, write, undos)?;
+        } else {
+            i += 1;
+        }
+    }
+    Ok(())
+}
+
+// Makes a write that puts something, and keeps what undoes it.
+fn make_put(
+    alloc: Global,
+    tree: &mut Option<Node>,
+    write: Write,
+    undos: &mut Vec<Undo>,
+) -> Result<(), NoMemory>
+    requires { written write ≢ null }
+    ensures ok { OnOk result (tree_or_null tree.new ≡ proposed (tree_or_null tree.old) (write ∷ [])) }
+    ensures one_more { OnOk result (IsOneMore undos.old.items undos.new.items (tree_or_null tree.old) (tree_or_null tree.new)) }
+    ensures err { OnErr result (tree.new ≡ tree.old) }
+    ensures same_undos { OnErr result (undos.new.items ≡ undos.old.items) }
+{
+    undos.reserve(1)?;
+    let Write { path, tree: value } = write;
+    let Some(node) = value else {
+        return Ok(());
+    };
+    let undo = put_with_undo(alloc, tree, path.into_keys(), node)?;
+    undos.push(undo)?;
+    Ok(())
+}
+
+// Undoes what was made, the last first.
+fn rewind(tree: &mut Option<Node>, undos: Vec<Undo>)
+    requires { CanRewind (reverse undos.items) (tree_or_null tree.old) }
+    ensures { tree.new ≡ non_null (rewound (reverse undos.items) (tree_or_null tree.old)) }
+{
+    let mut left = undos;
+    while let Some(undo) = left.pop() {
+        undo.undo(tree);
+    }
+    law_of(tree);
+}
+
+// A stored tree is none where it is null.
+fn law_of(tree: &Option<Node>)
+    ensures { tree.now ≡ non_null (tree_or_null tree.now) }
+{
+    match tree {
+        Some(node) => node.law(),
+        None => {}
+    }
+}
+
+// Makes removals.
+fn make_removals(alloc: Global, tree: &mut Option<Node>, removals: Vec<Write>)
+    requires apart { overlaps removals.items ≡ false }
+    requires removals { All (λ write. written write ≡ null) removals.items }
+    ensures { tree_or_null tree.new ≡ proposed (tree_or_null tree.old) removals.items }
+{
+    for write in removals {
+        let _made = write.make(alloc, tree);
+    }
+}
