@@ -1,5 +1,7 @@
 -- Each call of a run is judged, by the rules in force from its beginning.
-use Rattle.std.proofs.Common.{◌≡◌, List, [], ◌∷◌, ◌++◌, refl, ap, ◌∙◌}
+use Rattle.std.proofs.Common.{◌≡◌, List, [], ◌∷◌, ◌++◌, refl, sym, ap, subst, ◌∙◌}
+use Rattle.rules_reader.specs.Book.{Book}
+use Rattle.rules_reader.specs.Place.{HasOneCapture}
 use Rattle.rtdb_core.specs.declared.reply.Reply.{Reply}
 use Rattle.rtdb_core.specs.State.{State}
 use Rattle.rtdb_core.specs.Step.{Step, Call, Run}
@@ -28,9 +30,9 @@ one_before old mid new first earlier call later reply replies s rest = record {
   goes_on = rest.goes_on;
 }
 
-pub judged_among : (old new : State) (earlier later : List Call) (call : Call) (replies : List Reply) → Run old (earlier ++ call ∷ later) replies new → IsJudgedAmong old earlier call later replies new
-judged_among old new [] later call [] h = absurd h
-judged_among old new [] later call (reply ∷ replies) h = record {
+pub judged_among : (old new : State) (earlier later : List Call) (call : Call) (replies : List Reply) → HasOneCapture old.rules → Run old (earlier ++ call ∷ later) replies new → IsJudgedAmong old earlier call later replies new
+judged_among old new [] later call [] one h = absurd h
+judged_among old new [] later call (reply ∷ replies) one h = record {
   answered = [];
   reply = reply;
   others = replies;
@@ -39,8 +41,10 @@ judged_among old new [] later call (reply ∷ replies) h = record {
   after = h.0;
   arrives = refl;
   in_force = refl;
-  judged = judged old h.0 call reply h.1;
+  judged = judged old h.0 call reply one h.1;
   goes_on = h.2;
 }
-judged_among old new (first ∷ earlier) later call [] h = absurd h
-judged_among old new (first ∷ earlier) later call (reply ∷ replies) h = one_before old h.0 new first earlier call later reply replies h.1 (judged_among h.0 new earlier later call replies h.2)
+judged_among old new (first ∷ earlier) later call [] one h = absurd h
+judged_among old new (first ∷ earlier) later call (reply ∷ replies) one h =
+    one_before old h.0 new first earlier call later reply replies h.1
+    (judged_among h.0 new earlier later call replies (subst (λ (book : Book). HasOneCapture book) (sym (rules_stay old h.0 first.now first.session first.event reply h.1)) one) h.2)

@@ -1,10 +1,11 @@
 -- The state of a database.
-use Rattle.std.specs.Prelude.{ℕ, Bool, refl}
+use Rattle.std.specs.Prelude.{ℕ, Bool, None, refl}
 use Rattle.std.specs.FinMap as map_of
 use Rattle.std.specs.Ordering.{nat_cmp}
 use Rattle.std.specs.Coded.{Coded, code_by, coded×, coded_ℕ}
 use Rattle.tree_model.specs.Tree.{Tree, tree_code}
 use Rattle.rules_reader.specs.Book.{Book, book_code}
+use Rattle.judge.specs.Question.{Scene}
 use Rattle.rtdb_core.specs.declared.session.Session.{Session}
 
 -- the sessions that are open, by their numbers
@@ -23,6 +24,10 @@ opening rules tree = record { tree = tree; rules = rules; sessions = map_of.empt
 
 abbrev pub is_open : State → ℕ → Bool
 is_open state session = map_of.contains_key state.sessions session
+
+-- what an event is judged by, at this moment: the rules in force and the tree before it; nobody is signed in. (Reference, variables.)
+abbrev pub scene_at : State → ℕ → Scene
+scene_at state now = record { book = state.rules; who = None; moment = now; old = state.tree }
 
 -- ---- as data: what tells two states apart
 

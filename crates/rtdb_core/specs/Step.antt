@@ -1,20 +1,22 @@
 -- One step of a database: what an event is answered, and the state after it.
-use Rattle.std.specs.Prelude.{◌≡◌, ℕ, ◌⊎◌, ◌||◌, List, [], ◌∷◌, Bool, false, not, if◌then◌else◌, nat_le}
+use Rattle.std.specs.Prelude.{◌≡◌, ◌==◌, ℕ, ◌⊎◌, ◌||◌, List, length, [], ◌∷◌, map, Bool, false, not, if◌then◌else◌, nat_le, Option, Some, None}
 use Rattle.std.specs.FinMap as map_of
 use Rattle.tree_model.specs.Path.{Path}
 use Rattle.tree_model.specs.PathMap.{sub}
-use Rattle.tree_model.specs.Tree.{non_null}
-use Rattle.tree_model.specs.Write.{Write, location, proposed}
-use Rattle.rules_reader.specs.declared.kind.Kind.TheVariants.{Read as reads, Write as writes}
-use Rattle.rtdb_core.specs.declared.limits.TheConstants.{MAX_SESSIONS}
+use Rattle.tree_model.specs.Tree.{Tree, null, non_null, count}
+use Rattle.tree_model.specs.Write.{Write, location, overlaps, proposed}
+use Rattle.evaluator.specs.Asked.{no_query}
+use Rattle.judge.specs.declared.verdict.Verdict.{Verdict}
+use Rattle.judge.specs.declared.verdict.Verdict.TheVariants as verdicts
+use Rattle.judge.specs.Tests.{read_verdict, write_verdict}
+use Rattle.rtdb_core.specs.declared.limits.TheConstants.{MAX_SESSIONS, MAX_LOCATIONS}
 use Rattle.rtdb_core.specs.declared.event.Event.{Event}
-use Rattle.rtdb_core.specs.declared.event.Event.TheVariants.{Open, Get, Set}
+use Rattle.rtdb_core.specs.declared.event.Event.TheVariants.{Open, Get, Set, Remove, Update}
 use Rattle.rtdb_core.specs.declared.reply.Reply.{Reply}
 use Rattle.rtdb_core.specs.declared.reply.Reply.TheVariants.{Done, Value, Refused}
 use Rattle.rtdb_core.specs.declared.reply.Refusal.{Refusal}
-use Rattle.rtdb_core.specs.declared.reply.Refusal.TheVariants.{SessionOpen, TooManySessions, NoSession, ReadDenied, WriteDenied, NoMemory}
-use Rattle.rtdb_core.specs.State.{State, is_open}
-use Rattle.rtdb_core.specs.Verdict.{is_granted, named_rules}
+use Rattle.rtdb_core.specs.declared.reply.Refusal.TheVariants.{SessionOpen, TooManySessions, NoSession, EmptyUpdate, Overlap, ReadDenied, WriteDenied, ValidateDenied, TreeFull, NoMemory}
+use Rattle.rtdb_core.specs.State.{State, is_open, scene_at}
 
 -- what an event is answered, and the state after it
 pub record Outcome : Type 0 where
@@ -24,6 +26,45 @@ pub record Outcome : Type 0 where
 -- a refused event changes nothing
 abbrev pub refused : State → Refusal → Outcome
 refused old refusal = record { reply = Refused refusal; after = old }
+
+-- it is refused, or this
+abbrev pub unless_refused : State → Option Refusal → Outcome → Outcome
+unless_refused old None outcome = outcome
+unless_refused old (Some refusal) outcome = refused old refusal
+
+-- ---- judged: what the rules refuse
+
+-- the denial of a verdict, with the names that it owes
+abbrev pub denial : Verdict → Option Refusal
+denial verdicts.Granted = None
+denial (verdicts.ReadDenied named) = Some (ReadDenied named)
+denial (verdicts.WriteDenied at named) = Some (WriteDenied at named)
+denial (verdicts.ValidateDenied at pattern why) = Some (ValidateDenied at pattern why)
+
+-- the tree that these writes propose together
+abbrev pub tree_with : State → List Write → Tree
+tree_with old writes = proposed old.tree writes
+
+-- the verdict on these writes, which are judged together
+abbrev pub verdict_on : State → ℕ → List Write → Verdict
+verdict_on old now writes = write_verdict (scene_at old now) (tree_with old writes) (map location writes)
+
+-- it has more locations than may be
+abbrev pub full : Tree → Option Refusal
+full tree = if nat_le (count tree) MAX_LOCATIONS then None else Some TreeFull
+
+-- this denial, else that of a tree that is too large
+abbrev pub or_full : Option Refusal → Tree → Option Refusal
+or_full (Some refusal) tree = Some refusal
+or_full None tree = full tree
+
+-- why these writes are refused, if they are: by the rules, else for the size of the tree that they propose
+unfoldable pub write_refusal : State → ℕ → List Write → Option Refusal
+write_refusal old now writes = or_full (denial (verdict_on old now writes)) (tree_with old writes)
+
+-- why a read is refused, if it is
+unfoldable pub read_refusal : State → ℕ → Path → Option Refusal
+read_refusal old now path = denial (read_verdict (scene_at old now) no_query path)
 
 -- ---- each event: its refusals in their order, of which the first that applies is answered, else the success. (This project's profile.)
 
@@ -37,38 +78,59 @@ opens old session =
     else if nat_le MAX_SESSIONS (map_of.len old.sessions) then refused old TooManySessions
     else record { reply = Done; after = opened old session }
 
-abbrev pub gets : State → ℕ → Path → Outcome
-gets old session path =
+-- what stands at the path
+abbrev pub value_at : State → Path → Outcome
+value_at old path = record { reply = Value (non_null (sub old.tree path)); after = old }
+
+abbrev pub gets : State → ℕ → ℕ → Path → Outcome
+gets old now session path =
     if not (is_open old session) then refused old NoSession
-    else if not (is_granted old.rules reads path) then refused old (ReadDenied (named_rules old.rules reads path))
-    else record { reply = Value (non_null (sub old.tree path)); after = old }
+    else unless_refused old (read_refusal old now path) (value_at old path)
 
--- the tree that the write proposes is the tree
-abbrev pub written_to : State → Write → State
-written_to old write = record old { tree = proposed old.tree (write ∷ []) }
+-- the tree that the writes propose is the tree
+abbrev pub written_to : State → List Write → State
+written_to old writes = record old { tree = tree_with old writes }
 
-abbrev pub sets : State → ℕ → Write → Outcome
-sets old session write =
+-- writes that are made together, or not at all
+abbrev pub makes : State → ℕ → List Write → Outcome
+makes old now writes = unless_refused old (write_refusal old now writes) (record { reply = Done; after = written_to old writes })
+
+abbrev pub sets : State → ℕ → ℕ → Write → Outcome
+sets old now session write =
     if not (is_open old session) then refused old NoSession
-    else if not (is_granted old.rules writes (location write)) then refused old (WriteDenied (location write) (named_rules old.rules writes (location write)))
-    else record { reply = Done; after = written_to old write }
+    else makes old now (write ∷ [])
 
--- what an event of this session is answered where memory suffices
-abbrev pub outcome : State → ℕ → Event → Outcome
-outcome old session Open = opens old session
-outcome old session (Get path) = gets old session path
-outcome old session (Set write) = sets old session write
+-- to remove is to write null
+abbrev pub removal : Path → Write
+removal path = (path, null)
+
+abbrev pub updates : State → ℕ → ℕ → List Write → Outcome
+updates old now session writes =
+    if not (is_open old session) then refused old NoSession
+    else if length writes == 0 then refused old EmptyUpdate
+    else if overlaps writes then refused old Overlap
+    else makes old now writes
+
+-- what an event of this session is answered at this moment where memory suffices
+abbrev pub outcome : State → ℕ → ℕ → Event → Outcome
+outcome old now session Open = opens old session
+outcome old now session (Get path) = gets old now session path
+outcome old now session (Set write) = sets old now session write
+outcome old now session (Remove path) = sets old now session (removal path)
+outcome old now session (Update writes) = updates old now session writes
 
 -- the event is refused before anything is judged, which takes no memory
 abbrev pub is_refused_at_once : State → ℕ → Event → Bool
 is_refused_at_once old session Open = is_open old session || nat_le MAX_SESSIONS (map_of.len old.sessions)
 is_refused_at_once old session (Get path) = not (is_open old session)
 is_refused_at_once old session (Set write) = not (is_open old session)
+is_refused_at_once old session (Remove path) = not (is_open old session)
+is_refused_at_once old session (Update writes) = not (is_open old session) || length writes == 0 || overlaps writes
 
 -- From old, at this moment, the event of this session may be answered so, and new is the state after it: as above, or for want of memory with the state as it was.
 unfoldable pub Step : State → ℕ → ℕ → Event → Reply → State → Type 0
 Step old now session event reply new =
-    (outcome old session event ≡ record { reply = reply; after = new })
+    (outcome old now session event ≡ record { reply = reply; after = new })
     ⊎ ((reply ≡ Refused NoMemory) × (new ≡ old) × (is_refused_at_once old session event ≡ false))
 
 -- ---- runs

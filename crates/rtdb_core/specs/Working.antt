@@ -1,3 +1,2 @@
 -- Words of private contracts. No public clause stands on them.
-pub mod Denial
-pub mod Naming
+pub mod Sound

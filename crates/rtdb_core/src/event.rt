@@ -1,6 +1,8 @@
 //! What a session can ask of the database.
+ghost use Rattle.std.specs.Prelude.{◌≡◌};
 
 use path_capture::{Path, Write};
+use std::marker::Model;
 
 /// An event: what one session asks, in one step.
 #[derive(Debug, Drop)]
@@ -11,4 +13,39 @@ pub enum Event {
     Get(Path),
     /// Makes a write.
     Set(Write),
+    /// Removes what is at a location.
+    Remove(Path),
+    /// Makes several writes, all of them or none.
+    Update(Writes),
+}
+
+/// The writes of an update. Contracts see them as a list.
+#[derive(Debug, Drop)]
+pub struct Writes {
+    held: Vec<Write>,
+}
+
+impl Model for Writes {
+    ghost use Rattle.std.specs.Prelude.{List};
+    ghost use Rattle.tree_model.specs.Write.{Write};
+
+    ghost Value = { List Write };
+
+    ghost view = { λ writes. writes.held.items };
+}
+
+impl Writes {
+    /// The writes of a vector, without taking memory.
+    pub fn of_vec(held: Vec<Write>) -> Writes
+        ensures { result ≡ held.items }
+    {
+        Writes { held }
+    }
+
+    /// The vector of these writes, without taking memory.
+    pub fn into_vec(self) -> Vec<Write>
+        ensures { result.items ≡ self }
+    {
+        self.held
+    }
 }

@@ -6,23 +6,23 @@
 #![tactic(auto)]
 
 mod event;
-mod judge;
 mod limits;
 mod machine;
+mod refusals;
 mod reply;
 mod run_laws;
 mod session;
 mod step_laws;
+mod trees;
 
-pub use event::Event;
-pub use judge::{Access, is_granted, named_rules};
-pub use limits::{MAX_MOMENT, MAX_SESSIONS, the_limits};
-pub use machine::Core;
-pub use reply::{Named, NamedRules, Refusal, Reply, Why};
+pub use evaluator::MAX_MOMENT;
+pub use event::{Event, Writes};
+pub use judge::{Named, NamedRules, Why};
+pub use limits::{MAX_LOCATIONS, MAX_SESSIONS, the_limits};
+pub use machine::{Core, TooLarge};
+pub use reply::{Refusal, Reply};
 pub use run_laws::{
     a_run_keeps_the_rules_in_force, every_call_of_a_run_is_judged_by_the_rules_in_force,
 };
 pub use session::Session;
-pub use step_laws::{
-    a_refused_event_changes_nothing, a_step_is_a_function, every_step_is_judged, the_tests_decide,
-};
+pub use step_laws::{a_refused_event_changes_nothing, a_step_is_a_function, every_step_is_judged};

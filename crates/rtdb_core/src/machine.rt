@@ -1,26 +1,32 @@
 //! The state machine: one event in, one reply out.
-ghost use Rattle.std.specs.Prelude.{◌≡◌, ℕ, ◌≤◌, IfOk, OnOk, OnErr, option_map};
+ghost use Rattle.std.specs.Prelude.{◌≡◌, ◌↔◌, ℕ, ◌≤◌, ◌<◌, ◌∷◌, [], length, None, Some, false, IsErr, IfOk, IfErr, OnOk, OnErr, option_map};
 ghost use Rattle.std.specs.FinMap as map_of;
 ghost use Rattle.tree_model.specs.PathMap.{sub};
-ghost use Rattle.tree_model.specs.Tree.{non_null};
+ghost use Rattle.tree_model.specs.Tree.{non_null, count};
+ghost use Rattle.tree_model.specs.Write.{overlaps};
 ghost use Rattle.path_capture.specs.Write.{tree_or_null};
-ghost use Rattle.rtdb_core.specs.State.{opening, is_open};
-ghost use Rattle.rtdb_core.specs.Verdict.{kind_of, is_granted};
-ghost use Rattle.rtdb_core.specs.Step.{opened, written_to, Step};
-ghost use Rattle.rtdb_core.specs.Working.Denial.{IsReadDenied, IsWriteDenied};
+ghost use Rattle.rules_reader.specs.Place.{HasOneCapture};
+ghost use Rattle.judge.specs.Question.{scene_of};
+ghost use Rattle.rtdb_core.specs.State.{opening, is_open, scene_at};
+ghost use Rattle.rtdb_core.specs.Step.{opened, tree_with, written_to, makes, read_refusal, write_refusal, outcome, is_refused_at_once, Step};
 
-use crate::event::Event;
-use crate::judge::{self, Access, named_rules};
-use crate::limits::{MAX_MOMENT, MAX_SESSIONS};
+use crate::event::{Event, Writes};
+use crate::limits::{MAX_LOCATIONS, MAX_SESSIONS};
+use crate::refusals::{denial, full, reset};
 use crate::reply::{Refusal, Reply};
 use crate::session::Session;
+use crate::trees::{count_in, count_of, node_at, removal, sort};
+use arena_snapshot::{View, overlaps, overlay};
 use bumpalo::Bump;
+use evaluator::{Asked, MAX_MOMENT, Moment};
 use json_tree::{Key, NoMemory, Node};
-use path_capture::{Path, Write};
+use judge::{Scene, judge_read, judge_write};
+use path_capture::{Path, Write, make_all};
 use rules_reader::Rules;
 use std::alloc::Global;
 use std::collections::BTreeMap;
 use std::marker::Model;
+use std::slice;
 
 /// A database: a tree, the rules in force, and the sessions that are open. It keeps the allocator
 /// that it was made with. Contracts see the three.
@@ -32,12 +38,17 @@ pub struct Core {
     sessions: BTreeMap<u64, Session>,
 }
 
+/// The tree has more than [`MAX_LOCATIONS`] locations. Rules and tree are handed back.
+pub struct TooLarge {
+    pub rules: Rules,
+    pub tree: Option<Node>,
+}
+
 impl Model for Core {
-    ghost use Rattle.std.specs.Prelude.{◌≡◌, true};
     ghost use Rattle.std.specs.FinMap as map_of;
-    ghost use Rattle.std.specs.Ordering.{nat_cmp};
     ghost use Rattle.path_capture.specs.Write.{tree_or_null};
     ghost use Rattle.rtdb_core.specs.State.{State, state_code};
+    ghost use Rattle.rtdb_core.specs.Working.Sound.{IsSound};
 
     ghost Value = { State };
 
@@ -45,41 +56,68 @@ impl Model for Core {
 
     ghost view = { λ core. record { tree = tree_or_null core.tree; rules = core.rules; sessions = map_of.from_entries core.sessions.entries } };
 
-    ghost invariant = { λ core. map_of.is_sorted nat_cmp core.sessions.entries ≡ true };
+    ghost invariant = { λ core. IsSound (tree_or_null core.tree) core.sessions.entries };
 }
 
 impl Core {
-    /// A database with these rules and this tree, null for None, in which no session is open. It
-    /// takes no memory.
-    pub fn new(alloc: Global, rules: Rules, tree: Option<Node>) -> Core
-        ensures { result ≡ opening rules (tree_or_null tree) }
+    /// A database with these rules and this tree, null for None, in which no session is open, unless
+    /// the tree has too many locations. It takes no memory.
+    pub fn new(alloc: Global, rules: Rules, tree: Option<Node>) -> Result<Core, TooLarge>
+        ensures opens { IfOk result (λ core. core ≡ opening rules (tree_or_null tree)) }
+        ensures refused { IsErr result ↔ (MAX_LOCATIONS < count (tree_or_null tree)) }
+        ensures handed_back { IfErr result (λ too_large. (too_large.rules ≡ rules) × (too_large.tree ≡ tree)) }
     {
-        Core {
+        if count_of(&tree) > MAX_LOCATIONS {
+            return Err(TooLarge { rules, tree });
+        }
+        Ok(Core {
             alloc,
             rules,
             tree,
             sessions: BTreeMap::new(alloc),
-        }
+        })
     }
 
-    /// Answers one event of a session, at a moment in milliseconds since 1970. Reading costs one
-    /// step for each key of the path, log w of w children each, and the answer; writing the same,
-    /// and what is written. The arena is for what one event needs, and nothing needs it yet.
+    /// Answers one event of a session, at a moment in milliseconds since 1970. A read costs one step
+    /// for each key of its path, log w of w children each, the rules on the way, and the answer; a write
+    /// the same for each of its locations, and what is written. Nothing grows with what is stored beside
+    /// them. The arena is for what one event needs: it is reset before anything is placed in it, once no
+    /// refusal is left but those of the rules, of room and of memory.
     pub fn step(&mut self, arena: &mut Bump, now: u64, session: u64, event: Event) -> Reply
         requires { now ≤ MAX_MOMENT }
         ensures { Step self.old now session event result self.new }
     {
-        let _arena = arena;
+        match self.answer(arena, now, session, event) {
+            Ok(reply) => reply,
+            Err(_) => Reply::Refused(Refusal::NoMemory),
+        }
+    }
+
+    fn answer(
+        &mut self,
+        arena: &mut Bump,
+        now: u64,
+        session: u64,
+        event: Event,
+    ) -> Result<Reply, NoMemory>
+        requires { now ≤ MAX_MOMENT }
+        ensures ok { IfOk result (λ reply. outcome self.old now session event ≡ record { reply = reply; after = self.new }) }
+        ensures err { OnErr result (self.new ≡ self.old) }
+        ensures later { OnErr result (is_refused_at_once self.old session event ≡ false) }
+    {
         match event {
-            Event::Open => self.open(session),
-            Event::Get(path) => self.get(session, &path),
-            Event::Set(write) => self.set(session, write),
+            Event::Open => self.open(arena, now, session),
+            Event::Get(path) => self.get(arena, now, session, &path),
+            Event::Set(write) => self.set(arena, now, session, write),
+            Event::Remove(path) => self.set(arena, now, session, removal(path)),
+            Event::Update(writes) => self.update(arena, now, session, writes),
         }
     }
 
     /// The tree that is stored, None for null.
     pub fn tree(&self) -> Option<&Node>
-        ensures { option_map (λ node. node.now) result ≡ non_null self.now.tree }
+        ensures tree { option_map (λ node. node.now) result ≡ non_null self.now.tree }
+        ensures room { count self.now.tree ≤ MAX_LOCATIONS }
     {
         match &self.tree {
             Some(node) => {
@@ -90,10 +128,12 @@ impl Core {
         }
     }
 
-    /// The rules in force.
+    /// The rules in force. In each of their objects at most one part is a capture.
     pub fn rules(&self) -> &Rules
-        ensures { result.now ≡ self.now.rules }
+        ensures rules { result.now ≡ self.now.rules }
+        ensures one { HasOneCapture self.now.rules }
     {
+        self.rules.root();
         &self.rules
     }
 
@@ -110,26 +150,21 @@ impl Core {
         self.sessions.contains_key(&session)
     }
 
-    fn grants(&self, access: Access, path: &[Key]) -> bool
-        ensures { result ≡ is_granted self.now.rules (kind_of access) path.now }
+    fn open(&mut self, arena: &mut Bump, now: u64, session: u64) -> Result<Reply, NoMemory>
+        ensures ok { IfOk result (λ reply. outcome self.old now session Event.Open ≡ record { reply = reply; after = self.new }) }
+        ensures err { OnErr result (self.new ≡ self.old) }
+        ensures later { OnErr result (is_refused_at_once self.old session Event.Open ≡ false) }
     {
-        judge::is_granted(&self.rules, access, path)
-    }
-
-    #[tactic(auto, unfolding(crate::specs::Step::Step))]
-    fn open(&mut self, session: u64) -> Reply
-        ensures { (now : ℕ) → Step self.old now session Event.Open result self.new }
-    {
+        let _now = now;
         if self.is_open(session) {
-            return Reply::Refused(Refusal::SessionOpen);
+            return Ok(Reply::Refused(Refusal::SessionOpen));
         }
         if self.sessions() >= MAX_SESSIONS {
-            return Reply::Refused(Refusal::TooManySessions);
+            return Ok(Reply::Refused(Refusal::TooManySessions));
         }
-        match self.add(session) {
-            Ok(()) => Reply::Done,
-            Err(_) => Reply::Refused(Refusal::NoMemory),
-        }
+        reset(arena)?;
+        self.add(session)?;
+        Ok(Reply::Done)
     }
 
     // Adds a session to those that are open.
@@ -143,67 +178,168 @@ impl Core {
         Ok(())
     }
 
-    #[tactic(auto, unfolding(crate::specs::Step::Step))]
-    fn get(&self, session: u64, path: &Path) -> Reply
-        ensures { (now : ℕ) → Step self.now now session (Event.Get path.now) result self.now }
+    fn get(
+        &self,
+        arena: &mut Bump,
+        now: u64,
+        session: u64,
+        path: &Path,
+    ) -> Result<Reply, NoMemory>
+        requires { now ≤ MAX_MOMENT }
+        ensures ok { IfOk result (λ reply. outcome self.now now session (Event.Get path.now) ≡ record { reply = reply; after = self.now }) }
+        ensures later { OnErr result (is_refused_at_once self.now session (Event.Get path.now) ≡ false) }
     {
         if !self.is_open(session) {
-            return Reply::Refused(Refusal::NoSession);
+            return Ok(Reply::Refused(Refusal::NoSession));
         }
-        if !self.grants(Access::Read, path.keys()) {
-            return self.read_denied(path);
+        reset(arena)?;
+        if let Some(refusal) = self.read_refusal(arena, now, path)? {
+            return Ok(Reply::Refused(refusal));
         }
-        match self.copy_at(path.keys()) {
-            Ok(tree) => Reply::Value(tree),
-            Err(_) => Reply::Refused(Refusal::NoMemory),
-        }
+        let tree = self.copy_at(path.keys())?;
+        Ok(Reply::Value(tree))
     }
 
-    // The refusal of a read at a path that no rule grants.
-    fn read_denied(&self, path: &Path) -> Reply
-        ensures { IsReadDenied self.now.rules path.now result }
-    {
-        match named_rules(self.alloc, &self.rules, Access::Read, path.keys()) {
-            Ok(named) => Reply::Refused(Refusal::ReadDenied(named)),
-            Err(_) => Reply::Refused(Refusal::NoMemory),
-        }
-    }
-
-    #[tactic(auto, unfolding(crate::specs::Step::Step))]
-    fn set(&mut self, session: u64, write: Write) -> Reply
-        ensures { (now : ℕ) → Step self.old now session (Event.Set write) result self.new }
+    fn set(
+        &mut self,
+        arena: &mut Bump,
+        now: u64,
+        session: u64,
+        write: Write,
+    ) -> Result<Reply, NoMemory>
+        requires { now ≤ MAX_MOMENT }
+        ensures ok { IfOk result (λ reply. outcome self.old now session (Event.Set write) ≡ record { reply = reply; after = self.new }) }
+        ensures err { OnErr result (self.new ≡ self.old) }
+        ensures later { OnErr result (is_refused_at_once self.old session (Event.Set write) ≡ false) }
     {
         if !self.is_open(session) {
-            return Reply::Refused(Refusal::NoSession);
+            return Ok(Reply::Refused(Refusal::NoSession));
         }
-        if !self.grants(Access::Write, write.at().keys()) {
-            return self.write_denied(write.at());
+        reset(arena)?;
+        if let Some(refusal) = self.write_refusal(arena, now, slice::from_ref(&write))? {
+            return Ok(Reply::Refused(refusal));
         }
-        match self.make(write) {
-            Ok(()) => Reply::Done,
-            Err(_) => Reply::Refused(Refusal::NoMemory),
-        }
+        self.make(write)?;
+        Ok(Reply::Done)
     }
 
-    // The refusal of a write at a location that no rule grants.
-    fn write_denied(&self, at: &Path) -> Reply
-        ensures { IsWriteDenied self.now.rules at.now result }
+    fn update(
+        &mut self,
+        arena: &mut Bump,
+        now: u64,
+        session: u64,
+        writes: Writes,
+    ) -> Result<Reply, NoMemory>
+        requires { now ≤ MAX_MOMENT }
+        ensures ok { IfOk result (λ reply. outcome self.old now session (Event.Update writes) ≡ record { reply = reply; after = self.new }) }
+        ensures err { OnErr result (self.new ≡ self.old) }
+        ensures later { OnErr result (is_refused_at_once self.old session (Event.Update writes) ≡ false) }
     {
-        let Ok(named) = named_rules(self.alloc, &self.rules, Access::Write, at.keys()) else {
-            return Reply::Refused(Refusal::NoMemory);
+        if !self.is_open(session) {
+            return Ok(Reply::Refused(Refusal::NoSession));
+        }
+        let mut writes = writes.into_vec();
+        if writes.is_empty() {
+            return Ok(Reply::Refused(Refusal::EmptyUpdate));
+        }
+        sort(&mut writes);
+        if overlaps(&writes) {
+            return Ok(Reply::Refused(Refusal::Overlap));
+        }
+        self.update_apart(arena, now, writes)
+    }
+
+    // The same of writes of which none overlaps another.
+    fn update_apart(
+        &mut self,
+        arena: &mut Bump,
+        now: u64,
+        writes: Vec<Write>,
+    ) -> Result<Reply, NoMemory>
+        requires moment { now ≤ MAX_MOMENT }
+        requires apart { overlaps writes.items ≡ false }
+        ensures ok { IfOk result (λ reply. makes self.old now writes.items ≡ record { reply = reply; after = self.new }) }
+        ensures err { OnErr result (self.new ≡ self.old) }
+    {
+        reset(arena)?;
+        if let Some(refusal) = self.write_refusal(arena, now, &writes)? {
+            return Ok(Reply::Refused(refusal));
+        }
+        self.make_all(writes)?;
+        Ok(Reply::Done)
+    }
+
+    // What the rules and the trees are judged by.
+    fn scene(&self, now: u64) -> Scene<'_>
+        requires { now ≤ MAX_MOMENT }
+        ensures { scene_of result ≡ scene_at self.now now }
+    {
+        let old = match &self.tree {
+            Some(node) => Some(View::stored(node)),
+            None => None,
         };
-        match at.copy(self.alloc) {
-            Ok(at) => Reply::Refused(Refusal::WriteDenied(at, named)),
-            Err(_) => Reply::Refused(Refusal::NoMemory),
+        Scene {
+            rules: &self.rules,
+            auth: None,
+            moment: Moment::new(now),
+            old,
         }
+    }
+
+    // Why a read is refused, if it is.
+    fn read_refusal(
+        &self,
+        arena: &Bump,
+        now: u64,
+        path: &Path,
+    ) -> Result<Option<Refusal>, NoMemory>
+        requires { now ≤ MAX_MOMENT }
+        ensures { IfOk result (λ refusal. refusal ≡ read_refusal self.now now path.now) }
+    {
+        let asked = Asked::none();
+        let scene = self.scene(now);
+        let verdict = judge_read(self.alloc, arena, &scene, path, &asked)?;
+        Ok(denial(verdict))
+    }
+
+    // Why writes are refused, if they are.
+    fn write_refusal(
+        &self,
+        arena: &Bump,
+        now: u64,
+        writes: &[Write],
+    ) -> Result<Option<Refusal>, NoMemory>
+        requires moment { now ≤ MAX_MOMENT }
+        requires apart { overlaps writes.now ≡ false }
+        ensures { IfOk result (λ refusal. refusal ≡ write_refusal self.now now writes.now) }
+    {
+        let coming = overlay(arena, self.tree.as_ref(), writes)?;
+        let count = count_in(&coming);
+        let scene = self.scene(now);
+        let verdict = judge_write(self.alloc, arena, &scene, coming, writes)?;
+        let Some(denial) = denial(verdict) else {
+            return Ok(full(count));
+        };
+        Ok(Some(denial))
     }
 
     // Makes a write in the tree.
     fn make(&mut self, write: Write) -> Result<(), NoMemory>
-        ensures ok { OnOk result (self.new ≡ written_to self.old write) }
+        requires { count (tree_with self.old (write ∷ [])) ≤ MAX_LOCATIONS }
+        ensures ok { OnOk result (self.new ≡ written_to self.old (write ∷ [])) }
         ensures err { OnErr result (self.new ≡ self.old) }
     {
         write.make(self.alloc, &mut self.tree)
+    }
+
+    // Makes all of these writes in the tree, or none.
+    fn make_all(&mut self, writes: Vec<Write>) -> Result<(), NoMemory>
+        requires apart { overlaps writes.items ≡ false }
+        requires room { count (tree_with self.old writes.items) ≤ MAX_LOCATIONS }
+        ensures ok { OnOk result (self.new ≡ written_to self.old writes.items) }
+        ensures err { OnErr result (self.new ≡ self.old) }
+    {
+        make_all(self.alloc, &mut self.tree, writes)
     }
 
     // A copy of the tree at a path, None where nothing exists.
@@ -218,19 +354,4 @@ impl Core {
             None => Ok(None),
         }
     }
-}
-
-// The node at a path below this one, None where nothing exists.
-fn node_at<'a>(root: &'a Node, path: &[Key]) -> Option<&'a Node>
-    ensures { option_map (λ node. node.now) result ≡ non_null (sub root.now path.now) }
-{
-    root.law();
-    let mut node = root;
-    for key in path {
-        let Some(next) = node.child(key.text()) else {
-            return None;
-        };
-        node = next;
-    }
-    Some(node)
 }

@@ -1,9 +1,8 @@
 //! What an event is answered.
-ghost use Rattle.std.specs.Prelude.{◌≡◌};
 
+use judge::{NamedRules, Why};
 use json_tree::Node;
 use path_capture::{Path, Pattern};
-use std::marker::Model;
 
 /// What an event is answered.
 #[derive(Debug, Drop)]
@@ -25,55 +24,20 @@ pub enum Refusal {
     TooManySessions,
     /// The session is not open.
     NoSession,
+    /// The update has no write.
+    EmptyUpdate,
+    /// A location of the update is at or above that of another of its writes.
+    Overlap,
     /// No `.read` at the path or above it holds; these are all of them.
     ReadDenied(NamedRules),
-    /// No `.write` at the location or above it holds; these are all of them.
+    /// No `.write` at the location or above it holds; these are all of them. Of the locations that are
+    /// not granted it is the least.
     WriteDenied(Path, NamedRules),
+    /// The `.validate` of this pattern does not hold at this place, for this reason. Of the places
+    /// where one fails it is the least.
+    ValidateDenied(Path, Pattern, Why),
+    /// The rules grant the write, and the tree would have more locations than it may.
+    TreeFull,
+    /// Memory was wanting, or the arena could not be reset.
     NoMemory,
-}
-
-/// A rule that a denial names, by its pattern, with the reason why it does not hold.
-#[derive(Debug, Drop)]
-pub struct Named {
-    pub pattern: Pattern,
-    pub why: Why,
-}
-
-/// Why a rule does not hold.
-#[derive(Clone, Copy, Debug, PartialEq, Eq)]
-pub enum Why {
-    /// Its expression is false.
-    No,
-    /// Its expression errs. While rules are true or false none does.
-    Erred,
-}
-
-/// The rules that a denial names, shortest pattern first. Contracts see them as a list.
-#[derive(Debug, Drop)]
-pub struct NamedRules {
-    held: Vec<Named>,
-}
-
-impl Model for NamedRules {
-    ghost use Rattle.std.specs.Prelude.{List};
-    ghost use Rattle.rtdb_core.specs.declared.reply.Named.{Named};
-
-    ghost Value = { List Named };
-
-    ghost view = { λ rules. rules.held.items };
-}
-
-impl NamedRules {
-    /// The rules of a vector, without taking memory.
-    pub fn of_vec(held: Vec<Named>) -> NamedRules
-        ensures { result ≡ held.items }
-    {
-        NamedRules { held }
-    }
-
-    pub fn as_slice(&self) -> &[Named]
-        ensures { result.now ≡ self.now }
-    {
-        self.held.as_slice()
-    }
 }

@@ -2,8 +2,7 @@
 use Rattle.std.proofs.Common.{◌≡◌, ℕ, List, [], length, Result, Ok, Err, IfOk, refl, sym, ap, inl, inr, ◌∙◌}
 use Rattle.std.proofs.lemmas.List.{append-nil}
 use Rattle.std.proofs.lemmas.Result.{IfOk-weaker}
-use Rattle.tree_model.specs.Tree.{null}
-use Rattle.rules_reader.specs.Book.{Book, rules}
+use Rattle.rules_reader.specs.Book.{rules}
 use Rattle.sessions.specs.declared.message.Form.TheVariants.{Script}
 use Rattle.sessions.specs.declared.message.MessageFault.{MessageFault}
 use Rattle.sessions.specs.declared.message.Request.{Request}
@@ -12,7 +11,7 @@ use Rattle.sessions.specs.declared.respond.Answer.{Answer}
 use Rattle.sessions.specs.Message.{Tells, asks}
 use Rattle.sessions.specs.Header.{Opens}
 use Rattle.sessions.specs.Said.{unopened, running, as_line}
-use Rattle.rtdb_core.specs.State.{State, opening}
+use Rattle.rtdb_core.specs.State.{State}
 use Rattle.rtdb_core.specs.Step.{Step}
 use Rattle.sessions.specs.AnswerText.{text, fault_text, accepted_text}
 use Rattle.sessions.specs.Working.Follow.{bytes_of, AnswersAt}
@@ -35,5 +34,5 @@ IfOk-AnswersAt-fault result line state fault told =
     IfOk-weaker result (λ answer. bytes_of answer ≡ as_line (fault_text fault)) (λ answer. AnswersAt (running state) line (running state) (bytes_of answer)) (λ answer e. AnswersAt-fault line state fault told (bytes_of answer) e)
 
 -- a header that is accepted
-pub AnswersAt-accepted : (line : List ℕ) (book : Book) (state : State) (out : List ℕ) → Opens line (Ok book) → state ≡ opening book null → out ≡ as_line (accepted_text (length (rules book))) → AnswersAt unopened line (running state) out
-AnswersAt-accepted line book state out o s e = (Ok book, o, ([], state, s, refl, e ∙ sym (append-nil _)))
+pub AnswersAt-accepted : (line : List ℕ) (state : State) (out : List ℕ) → Opens line (Ok state) → out ≡ as_line (accepted_text (length (rules state.rules))) → AnswersAt unopened line (running state) out
+AnswersAt-accepted line state out o e = (Ok state, o, ([], state, refl, refl, e ∙ sym (append-nil _)))

@@ -1,24 +1,22 @@
 -- What a header is, from what its parts say.
-use Rattle.std.proofs.Common.{◌≡◌, ℕ, true, List, [], Some, Ok, inl, inr, ap, sym, subst, ◌∙◌}
+use Rattle.std.proofs.Common.{◌≡◌, ℕ, List, Some, Ok, ap, sym, subst, ◌∙◌}
 use Rattle.serde_json.specs.Data.{Data}
-use Rattle.path_capture.specs.Pattern as parts
 use Rattle.rules_reader.specs.declared.fault.RulesFault.{RulesFault}
-use Rattle.rules_reader.specs.declared.fault.RulesFault.TheVariants.{BadRulesShape}
-use Rattle.rules_reader.specs.Book.{Book, has_unjudged}
+use Rattle.rules_reader.specs.Book.{Book}
 use Rattle.rules_reader.specs.File.{States}
 use Rattle.rules_reader.specs.Refusal.{Refuses}
-use Rattle.sessions.specs.Message.{value_of, header_of, rules_text, or_fault, unless_fault}
-use Rattle.sessions.specs.Header.{IsRefusedFile}
+use Rattle.sessions.specs.Message.{Header, value_of, header_of, header_in, or_fault, unless_fault}
+use Rattle.sessions.specs.Header.{HasRules}
 use Rattle.sessions.specs.declared.message.MessageFault.TheVariants.{BadRequest}
 
--- the text of the rules file in a line
-pub text_in : (line : List ℕ) (d : Data) (text : List ℕ) → value_of line ≡ Ok d → Some text ≡ header_of d → rules_text line ≡ Ok text
-unfolding rules_text
-text_in line d text v h = ap (λ r. unless_fault r (λ e. or_fault BadRequest (header_of e))) v ∙ ap (or_fault BadRequest) (sym h)
+-- what the header of a line has
+pub header_is : (line : List ℕ) (d : Data) (header : Header) → value_of line ≡ Ok d → Some header ≡ header_of d → header_in line ≡ Ok header
+unfolding header_in
+header_is line d header v h = ap (λ r. unless_fault r (λ e. or_fault BadRequest (header_of e))) v ∙ ap (or_fault BadRequest) (sym h)
 
--- a file that states a rule that is not judged yet
-pub unjudged_refused : (bytes text : List ℕ) (book : Book) (at : parts.Pattern) → bytes ≡ text → States bytes book → true ≡ has_unjudged book → at ≡ [] → IsRefusedFile text (BadRulesShape at)
-unjudged_refused bytes text book at e s v r = inr (book, subst (λ (t : List ℕ). States t book) e s, sym v, ap BadRulesShape r)
+-- and its rules
+pub rules_are : (line : List ℕ) (header : Header) (bytes : List ℕ) (book : Book) → header_in line ≡ Ok header → bytes ≡ header.rules → States bytes book → HasRules line header book
+rules_are line header bytes book is same states = record { is = is; states = subst (λ (t : List ℕ). States t book) same states }
 
-pub faults_refused : (bytes text : List ℕ) (fault : RulesFault) → bytes ≡ text → Refuses bytes fault → IsRefusedFile text fault
-faults_refused bytes text fault e r = inl (subst (λ (t : List ℕ). Refuses t fault) e r)
+pub rules_refused : (header : Header) (bytes : List ℕ) (fault : RulesFault) → bytes ≡ header.rules → Refuses bytes fault → Refuses header.rules fault
+rules_refused header bytes fault same r = subst (λ (t : List ℕ). Refuses t fault) same r

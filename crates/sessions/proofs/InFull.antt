@@ -1,10 +1,10 @@
 -- Each line has one answer in which nothing wants memory.
-use Rattle.std.proofs.Common.{◌≡◌, ◌≢◌, ℕ, Bool, true, false, cond, List, ◌++◌, length, Option, Some, None, Result, Ok, Err, refl, sym, ap, inl, ◌∙◌}
+use Rattle.std.proofs.Common.{◌≡◌, ◌≢◌, ℕ, Bool, true, false, cond, List, ◌++◌, length, Option, Some, None, option_and_then, Result, Ok, Err, refl, sym, ap, inl, ◌∙◌}
 use Rattle.std.specs.Prelude.{codes, nat_le, ◌+◌}
 use Rattle.std.specs.List.{list_all}
 use Rattle.std.specs.Str.{is_utf8}
-use Rattle.serde_json.specs.Data.{Data}
-use Rattle.serde_json.specs.Find.{get}
+use Rattle.serde_json.specs.Data.{Data, Members, no_members, member}
+use Rattle.serde_json.specs.Find.{get, as_object}
 use Rattle.serde_json.specs.Read.{read}
 use Rattle.tree_model.specs.declared.limits.TheConstants.{MAX_DEPTH}
 use Rattle.tree_model.specs.Key.{is_key}
@@ -13,7 +13,7 @@ use Rattle.tree_model.specs.PathMap.{depth}
 use Rattle.tree_model.specs.Tree.{Tree}
 use Rattle.json_tree.specs.Json.{is_lawful, of_json}
 use Rattle.path_capture.specs.Path.{segments}
-use Rattle.rtdb_core.specs.declared.event.Event.TheVariants.{Get, Set}
+use Rattle.rtdb_core.specs.declared.event.Event.TheVariants.{Get, Set, Remove, Update}
 use Rattle.rtdb_core.specs.State.{State}
 use Rattle.rtdb_core.proofs.StepLaws.{some_answer, one_answer}
 use Rattle.sessions.specs.declared.limits.TheConstants.{MAX_MESSAGE_BYTES}
@@ -24,7 +24,7 @@ use Rattle.sessions.specs.declared.message.MessageFault.TheVariants.{TooLarge, B
 use Rattle.sessions.specs.declared.message.Request.{Request}
 use Rattle.sessions.specs.declared.message.Verb.{Verb}
 use Rattle.sessions.specs.declared.message.Verb.TheVariants as verbs
-use Rattle.sessions.specs.Message.{or_fault, unless_fault, value_of, has_only, text_at, form_members, verb_members, stamp_of, path_of, tree_of_value, write_of, event_of, verb_in, request_of, asks}
+use Rattle.sessions.specs.Message.{or_fault, unless_fault, value_of, has_only, text_at, form_members, verb_members, stamp_of, path_of, path_in, path_below, tree_of_value, write_at, write_below, writes_below, event_of, verb_in, request_of, asks}
 use Rattle.sessions.specs.Said.{IsAnsweredBy, IsAnsweredInFullBy, IsAnsweredInFull, IsAnswered}
 use Rattle.sessions.specs.AnswerText as answer
 
@@ -73,19 +73,41 @@ tree_never d =
     (either (nat_le (depth (of_json d)) MAX_DEPTH) _ _ (of_ok (of_json d)) (of_fault TooDeep (λ e. cc)))
     (of_fault BadValue (λ e. cc))
 
-write_never : (path : Path) (tree : Tree) → NeverWants (write_of path tree)
-write_never path tree = either (nat_le (length path + depth tree) MAX_DEPTH) _ _ (of_ok (Set (path, tree))) (of_fault TooDeep (λ e. cc))
+write_never : (path : Path) (tree : Tree) → NeverWants (write_at path tree)
+write_never path tree = either (nat_le (length path + depth tree) MAX_DEPTH) _ _ (of_ok (path, tree)) (of_fault TooDeep (λ e. cc))
+
+below_never : (path : Path) (name : List ℕ) → NeverWants (path_below path name)
+below_never path name = in_turn _ _ (path_never name) (λ below. either (nat_le (length path + length below) MAX_DEPTH) _ _ (of_ok (path ++ below)) (of_fault TooDeep (λ e. cc)))
+
+member_never : (path : Path) (name : List ℕ) (d : Data) → NeverWants (write_below path name d)
+member_never path name d =
+    in_turn _ _ (below_never path name) (λ at.
+    in_turn _ _ (tree_never d) (λ tree. write_never at tree))
+
+members_never : (path : Path) (ms : Members) → NeverWants (writes_below path ms)
+members_never path no_members = of_ok _
+members_never path (member name d ms) =
+    in_turn _ _ (member_never path name d) (λ write.
+    in_turn _ _ (members_never path ms) (λ writes. of_ok _))
+
+path_in_never : (d : Data) → NeverWants (path_in d)
+path_in_never d = in_turn _ _ (of_option BadRequest (text_at (codes "path") d) (λ e. cc)) (λ text. path_never text)
 
 event_never : (verb : Verb) (d : Data) → NeverWants (event_of verb d)
 event_never verbs.Open d = of_ok _
-event_never verbs.Get d =
-    in_turn _ _ (of_option BadRequest (text_at (codes "path") d) (λ e. cc)) (λ text.
-    in_turn _ _ (path_never text) (λ path. of_ok (Get path)))
+event_never verbs.Get d = in_turn _ _ (path_in_never d) (λ path. of_ok (Get path))
 event_never verbs.Set d =
     in_turn _ _ (of_option BadRequest (text_at (codes "path") d) (λ e. cc)) (λ text.
     in_turn _ _ (of_option BadRequest (get (codes "value") d) (λ e. cc)) (λ value.
     in_turn _ _ (path_never text) (λ path.
-    in_turn _ _ (tree_never value) (λ tree. write_never path tree))))
+    in_turn _ _ (tree_never value) (λ tree.
+    in_turn _ _ (write_never path tree) (λ write. of_ok (Set write))))))
+event_never verbs.Remove d = in_turn _ _ (path_in_never d) (λ path. of_ok (Remove path))
+event_never verbs.Update d =
+    in_turn _ _ (of_option BadRequest (text_at (codes "path") d) (λ e. cc)) (λ text.
+    in_turn _ _ (of_option BadRequest (option_and_then as_object (get (codes "values") d)) (λ e. cc)) (λ members.
+    in_turn _ _ (path_never text) (λ path.
+    in_turn _ _ (members_never path members) (λ writes. of_ok (Update writes)))))
 
 request_never : (form : Form) (d : Data) → NeverWants (request_of form d)
 request_never form d =

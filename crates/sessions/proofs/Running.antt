@@ -4,10 +4,8 @@ use Rattle.sessions.specs.declared.message.Form.TheVariants.{Script}
 use Rattle.sessions.specs.declared.message.MessageFault.{MessageFault}
 use Rattle.sessions.specs.declared.message.MessageFault.TheVariants.{NoMemory}
 use Rattle.sessions.specs.declared.message.Request.{Request}
-use Rattle.tree_model.specs.Tree.{null}
-use Rattle.rules_reader.specs.Book.{Book}
 use Rattle.sessions.specs.declared.header.HeaderFault.{HeaderFault}
-use Rattle.rtdb_core.specs.State.{State, opening}
+use Rattle.rtdb_core.specs.State.{State}
 use Rattle.rtdb_core.specs.Step.{Run}
 use Rattle.sessions.specs.Message.{asks}
 use Rattle.sessions.specs.Header.{Opens}
@@ -42,17 +40,17 @@ state_in other unopened = other
 state_in other refused = other
 state_in other (running state) = state
 
-continued : (said_to : List (List ℕ)) (header : List ℕ) (lines : List (List ℕ)) (state : State) (out : List ℕ) → said_to ≡ header ∷ lines → (opened : Result Book HeaderFault) → Opens header opened → Continues opened lines (running state) out → IsSaidByRun said_to state out
+continued : (said_to : List (List ℕ)) (header : List ℕ) (lines : List (List ℕ)) (state : State) (out : List ℕ) → said_to ≡ header ∷ lines → (opened : Result State HeaderFault) → Opens header opened → Continues opened lines (running state) out → IsSaidByRun said_to state out
 unfolding state_in
 continued said_to header lines state out is (Err fault) opens h = let e : running state ≡ refused = h.0 in cc
-continued said_to header lines state out is (Ok book) opens h = record {
+continued said_to header lines state out is (Ok opened) opens h = record {
   header = header;
   lines = lines;
   in_order = is;
-  book = book;
+  opened = opened;
   opens = opens;
   texts = h.0;
-  run = as_run (opening book null) state lines h.0 (subst (λ (s : State). AreAnswered (opening book null) lines h.0 s) (sym (ap (state_in state) h.3)) h.2);
+  run = as_run opened state lines h.0 (subst (λ (s : State). AreAnswered opened lines h.0 s) (sym (ap (state_in state) h.3)) h.2);
   written = h.4;
 }
 

@@ -8,11 +8,11 @@ use Rattle.rules_reader.specs.Book.{Book, rules}
 use Rattle.sessions.specs.declared.desk.Stop.{Stop}
 use Rattle.sessions.specs.declared.desk.Stop.TheVariants as stops
 use Rattle.sessions.specs.declared.header.HeaderFault.{HeaderFault}
-use Rattle.sessions.specs.declared.header.HeaderFault.TheVariants.{Line, Rules}
+use Rattle.sessions.specs.declared.header.HeaderFault.TheVariants.{Line, Rules, Data, TreeFull}
 use Rattle.sessions.specs.declared.message.Form.TheVariants.{Script}
 use Rattle.sessions.specs.declared.message.MessageFault.TheVariants.{TooLarge}
-use Rattle.sessions.specs.Message.{value_of, asks, rules_text}
-use Rattle.sessions.specs.Header.{Opens}
+use Rattle.sessions.specs.Message.{Header, value_of, asks, header_in}
+use Rattle.sessions.specs.Header.{HasRules, Opens}
 use Rattle.sessions.specs.Lines.{non_blank, is_blank}
 use Rattle.sessions.specs.Said.{Phase, unopened, refused, running, IsAnswered, AreAnswered, Continues, IsWritten, as_line}
 use Rattle.sessions.specs.Working.Sent.{tells, Passes}
@@ -60,22 +60,27 @@ asks-shown : (text line : List ℕ) → front text ≡ front line → asks Scrip
 unfolding asks
 asks-shown text line e = rw (value_of-shown text line e) refl
 
-rules_text-shown : (text line : List ℕ) → front text ≡ front line → rules_text text ≡ rules_text line
-unfolding rules_text
-rules_text-shown text line e = rw (value_of-shown text line e) refl
+header_in-shown : (text line : List ℕ) → front text ≡ front line → header_in text ≡ header_in line
+unfolding header_in
+header_in-shown text line e = rw (value_of-shown text line e) refl
 
-Opens-shown : (text line : List ℕ) (opened : Result Book HeaderFault) → rules_text text ≡ rules_text line → Opens text opened → Opens line opened
-Opens-shown text line (Ok book) e o = (o.0, sym e ∙ o.1, o.2, o.3)
+HasRules-shown : (text line : List ℕ) (header : Header) (book : Book) → header_in text ≡ header_in line → HasRules text header book → HasRules line header book
+HasRules-shown text line header book e h = record { is = sym e ∙ h.is; states = h.states }
+
+Opens-shown : (text line : List ℕ) (opened : Result State HeaderFault) → header_in text ≡ header_in line → Opens text opened → Opens line opened
+Opens-shown text line (Ok state) e o = (o.0, o.1, o.2, HasRules-shown text line o.0 o.1 e o.3, o.4, o.5, o.6)
 Opens-shown text line (Err (Line fault)) e (inl o) = inl o
 Opens-shown text line (Err (Line fault)) e (inr o) = inr (sym e ∙ o)
 Opens-shown text line (Err (Rules fault)) e o = (o.0, sym e ∙ o.1, o.2)
+Opens-shown text line (Err (Data fault)) e o = (o.0, o.1, HasRules-shown text line o.0 o.1 e o.2, o.3)
+Opens-shown text line (Err TreeFull) e o = (o.0, o.1, o.2, HasRules-shown text line o.0 o.1 e o.3, o.4, o.5)
 
 IsAnswered-shown : (old : State) (text line said : List ℕ) (new : State) → asks Script text ≡ asks Script line → IsAnswered old text said new → IsAnswered old line said new
 IsAnswered-shown old text line said new e (message, inl asked, a) = (message, inl (asked ∙ e), a)
 IsAnswered-shown old text line said new e (message, inr wanted, a) = (message, inr wanted, a)
 
 AnswersAt-shown : (phase phase' : Phase) (text line out : List ℕ) → front text ≡ front line → AnswersAt phase text phase' out → AnswersAt phase line phase' out
-AnswersAt-shown unopened phase' text line out e a = (a.0, Opens-shown text line a.0 (rules_text-shown text line e) a.1, a.2)
+AnswersAt-shown unopened phase' text line out e a = (a.0, Opens-shown text line a.0 (header_in-shown text line e) a.1, a.2)
 AnswersAt-shown refused phase' text line out e a = a
 AnswersAt-shown (running old) phase' text line out e a = (a.0, a.1, IsAnswered-shown old text line a.0 a.1 (asks-shown text line e) a.2, a.3, a.4)
 
@@ -87,11 +92,11 @@ AreAnswered-append a b c [] (y ∷ ys) line text r h = absurd r
 AreAnswered-append a b c (x ∷ xs) [] line text r h = absurd r
 AreAnswered-append a b c (x ∷ xs) (y ∷ ys) line text r h = (r.0, r.1, AreAnswered-append r.0 b c xs ys line text r.2 h)
 
-Continues-append : (opened : Result Book HeaderFault) (lines : List (List ℕ)) (line : List ℕ) (phase phase' : Phase) (out more : List ℕ) → Continues opened lines phase out → AnswersAt phase line phase' more → Continues opened (lines ++ line ∷ []) phase' (out ++ more)
+Continues-append : (opened : Result State HeaderFault) (lines : List (List ℕ)) (line : List ℕ) (phase phase' : Phase) (out more : List ℕ) → Continues opened lines phase out → AnswersAt phase line phase' more → Continues opened (lines ++ line ∷ []) phase' (out ++ more)
 Continues-append (Err fault) lines line phase phase' out more b a = absurd (subst (λ (x : Phase). AnswersAt x line phase' more) b.0 a)
-Continues-append (Ok book) lines line phase phase' out more b a =
+Continues-append (Ok opened) lines line phase phase' out more b a =
     let a' = subst (λ (x : Phase). AnswersAt x line phase' more) b.3 a in
-    let first = as_line (answer.accepted_text (length (rules book))) in (
+    let first = as_line (answer.accepted_text (length (rules opened.rules))) in (
       b.0 ++ a'.0 ∷ [],
       a'.1,
       AreAnswered-append _ b.1 a'.1 lines b.0 line a'.0 b.2 a'.2,
@@ -107,7 +112,7 @@ IsWritten-append (header ∷ lines) line phase phase' out more s a = (s.0, s.1, 
 
 -- ---- after a refused header no line is answered
 
-Continues-refused : (opened : Result Book HeaderFault) (lines more : List (List ℕ)) (out : List ℕ) → Continues opened lines refused out → Continues opened (lines ++ more) refused out
+Continues-refused : (opened : Result State HeaderFault) (lines more : List (List ℕ)) (out : List ℕ) → Continues opened lines refused out → Continues opened (lines ++ more) refused out
 Continues-refused (Err fault) lines more out b = b
 Continues-refused (Ok book) lines more out b = let e : refused ≡ running b.1 = b.3 in absurd (cc)
 

@@ -18,7 +18,7 @@ use Rattle.rules_reader.specs.declared.fault.RulesFault.TheVariants as rules_fau
 use Rattle.rules_reader.specs.declared.fault.RuleFault.{RuleFault}
 use Rattle.rules_reader.specs.declared.fault.RuleFault.TheVariants as rule_faults
 use Rattle.rules_reader.specs.declared.fault.RuleName.{RuleName}
-use Rattle.rtdb_core.specs.declared.reply.Named.{Named}
+use Rattle.judge.specs.declared.verdict.Named.{Named}
 use Rattle.rtdb_core.specs.declared.reply.Reply.{Reply}
 use Rattle.rtdb_core.specs.declared.reply.Reply.TheVariants.{Done, Value, Refused}
 use Rattle.rtdb_core.specs.declared.reply.Refusal.{Refusal}
@@ -68,8 +68,12 @@ pub refusal_is_no_float : (refusal : Refusal) → has_float (refusal_data refusa
 refusal_is_no_float refusals.SessionOpen = refl
 refusal_is_no_float refusals.TooManySessions = refl
 refusal_is_no_float refusals.NoSession = refl
+refusal_is_no_float refusals.EmptyUpdate = refl
+refusal_is_no_float refusals.Overlap = refl
 refusal_is_no_float (refusals.ReadDenied named) = or_false _ false (named_is_no_float named) refl
 refusal_is_no_float (refusals.WriteDenied at named) = or_false _ false (named_is_no_float named) refl
+refusal_is_no_float (refusals.ValidateDenied at pattern why) = refl
+refusal_is_no_float refusals.TreeFull = refl
 refusal_is_no_float refusals.NoMemory = refl
 
 pub reply_is_no_float : (reply : Reply) → has_float (reply_data reply) ≡ false

@@ -5,6 +5,7 @@ use Rattle.serde_json.specs.Written.{compact_text}
 use Rattle.tree_model.specs.Path.{Path}
 use Rattle.json_tree.specs.Json.{value_of}
 use Rattle.path_capture.specs.Path.{printed}
+use Rattle.path_capture.specs.Pattern as parts
 use Rattle.path_capture.specs.Pattern.{printed_pattern}
 use Rattle.path_capture.specs.Write.{tree_or_null}
 use Rattle.rules_reader.specs.declared.fault.RulesFault.{RulesFault}
@@ -18,9 +19,9 @@ use Rattle.sessions.specs.declared.code.Code.{Code}
 use Rattle.sessions.specs.declared.code.Code.TheVariants as code
 use Rattle.sessions.specs.declared.message.MessageFault.{MessageFault}
 use Rattle.sessions.specs.declared.message.MessageFault.TheVariants as message_faults
-use Rattle.rtdb_core.specs.declared.reply.Named.{Named}
-use Rattle.rtdb_core.specs.declared.reply.Why.{Why}
-use Rattle.rtdb_core.specs.declared.reply.Why.TheVariants.{No, Erred}
+use Rattle.judge.specs.declared.verdict.Named.{Named}
+use Rattle.judge.specs.declared.verdict.Why.{Why}
+use Rattle.judge.specs.declared.verdict.Why.TheVariants.{No, Erred}
 use Rattle.rtdb_core.specs.declared.reply.Reply.{Reply}
 use Rattle.rtdb_core.specs.declared.reply.Reply.TheVariants.{Done, Value, Refused}
 use Rattle.rtdb_core.specs.declared.reply.Refusal.{Refusal}
@@ -34,6 +35,8 @@ number_of code.BadRequest = 102
 number_of code.BadPath = 103
 number_of code.BadValue = 104
 number_of code.TooDeep = 105
+number_of code.EmptyUpdate = 107
+number_of code.Overlap = 108
 number_of code.TooLarge = 109
 number_of code.NoSession = 202
 number_of code.SessionOpen = 203
@@ -47,6 +50,8 @@ number_of code.UnknownName = 406
 number_of code.TooManyRules = 407
 number_of code.ReadDenied = 501
 number_of code.WriteDenied = 502
+number_of code.ValidateDenied = 503
+number_of code.TreeFull = 504
 number_of code.NoMemory = 601
 
 abbrev pub name_of : Code → List ℕ
@@ -55,6 +60,8 @@ name_of code.BadRequest = codes "BadRequest"
 name_of code.BadPath = codes "BadPath"
 name_of code.BadValue = codes "BadValue"
 name_of code.TooDeep = codes "TooDeep"
+name_of code.EmptyUpdate = codes "EmptyUpdate"
+name_of code.Overlap = codes "Overlap"
 name_of code.TooLarge = codes "TooLarge"
 name_of code.NoSession = codes "NoSession"
 name_of code.SessionOpen = codes "SessionOpen"
@@ -68,6 +75,8 @@ name_of code.UnknownName = codes "UnknownName"
 name_of code.TooManyRules = codes "TooManyRules"
 name_of code.ReadDenied = codes "ReadDenied"
 name_of code.WriteDenied = codes "WriteDenied"
+name_of code.ValidateDenied = codes "ValidateDenied"
+name_of code.TreeFull = codes "TreeFull"
 name_of code.NoMemory = codes "NoMemory"
 
 -- what every refusal has, before and after the members that only some have
@@ -105,14 +114,22 @@ read_denied_data named = object (refusal_members code.ReadDenied (member (codes 
 abbrev pub write_denied_data : Path → List Named → Data
 write_denied_data at named = object (member (codes "at") (string (printed at)) (refusal_members code.WriteDenied (member (codes "rules") (rules_data named) no_members)))
 
+-- a refusal with a place, the pattern of the rule that stands there, and why it does not hold
+abbrev pub validate_denied_data : Path → parts.Pattern → Why → Data
+validate_denied_data at pattern why = object (member (codes "at") (string (printed at)) (refusal_members code.ValidateDenied (member (codes "pattern") (string (printed_pattern pattern)) (member (codes "why") (string (why_text why)) no_members))))
+
 -- ---- replies
 
 abbrev pub refusal_data : Refusal → Data
 refusal_data refusals.SessionOpen = plain_data code.SessionOpen
 refusal_data refusals.TooManySessions = plain_data code.TooManySessions
 refusal_data refusals.NoSession = plain_data code.NoSession
+refusal_data refusals.EmptyUpdate = plain_data code.EmptyUpdate
+refusal_data refusals.Overlap = plain_data code.Overlap
 refusal_data (refusals.ReadDenied named) = read_denied_data named
 refusal_data (refusals.WriteDenied at named) = write_denied_data at named
+refusal_data (refusals.ValidateDenied at pattern why) = validate_denied_data at pattern why
+refusal_data refusals.TreeFull = plain_data code.TreeFull
 refusal_data refusals.NoMemory = plain_data code.NoMemory
 
 abbrev pub reply_data : Reply → Data

@@ -1,21 +1,25 @@
 -- What a header opens.
-use Rattle.std.specs.Prelude.{◌≡◌, ℕ, ◌⊎◌, List, [], true, false, Result, Ok, Err}
-use Rattle.rules_reader.specs.declared.fault.RulesFault.{RulesFault}
-use Rattle.rules_reader.specs.declared.fault.RulesFault.TheVariants.{BadRulesShape}
-use Rattle.rules_reader.specs.Book.{Book, has_unjudged}
+use Rattle.std.specs.Prelude.{◌≡◌, ℕ, ◌≤◌, ◌<◌, ◌⊎◌, List, Result, Ok, Err}
+use Rattle.tree_model.specs.Tree.{Tree, count}
+use Rattle.rules_reader.specs.Book.{Book}
 use Rattle.rules_reader.specs.File.{States}
 use Rattle.rules_reader.specs.Refusal.{Refuses}
+use Rattle.rtdb_core.specs.declared.limits.TheConstants.{MAX_LOCATIONS}
+use Rattle.rtdb_core.specs.State.{State, opening}
 use Rattle.sessions.specs.declared.message.MessageFault.TheVariants.{NoMemory}
 use Rattle.sessions.specs.declared.header.HeaderFault.{HeaderFault}
-use Rattle.sessions.specs.declared.header.HeaderFault.TheVariants.{Line, Rules}
-use Rattle.sessions.specs.Message.{rules_text}
+use Rattle.sessions.specs.declared.header.HeaderFault.TheVariants.{Line, Rules, Data, TreeFull}
+use Rattle.sessions.specs.Message.{Header, header_in, opening_tree}
 
--- the rules file of this text is refused: by its first fault, or for a rule that is not judged yet, as a fault of its root
-abbrev pub IsRefusedFile : List ℕ → RulesFault → Type 0
-IsRefusedFile text fault = Refuses text fault ⊎ ((book : Book) × States text book × (has_unjudged book ≡ true) × (fault ≡ BadRulesShape []))
+-- the line is a header with this rules file, which states these rules
+pub record HasRules (line : List ℕ) (header : Header) (book : Book) : Type 0 where
+  pub is : header_in line ≡ Ok header
+  pub states : States header.rules book
 
--- The rules that a header opens with, or its first fault: of the line, then of the rules file in it. Want of memory may come in the place of any. (This project's profile.)
-abbrev pub Opens : List ℕ → Result Book HeaderFault → Type 0
-Opens line (Ok book) = (text : List ℕ) × (rules_text line ≡ Ok text) × States text book × (has_unjudged book ≡ false)
-Opens line (Err (Line fault)) = (fault ≡ NoMemory) ⊎ (rules_text line ≡ Err fault)
-Opens line (Err (Rules fault)) = (text : List ℕ) × (rules_text line ≡ Ok text) × IsRefusedFile text fault
+-- The state that a header opens, or its first fault: of the line, then of the rules file, then of the opening tree, whose locations are counted last. Want of memory may come in the place of any. (This project's profile.)
+abbrev pub Opens : List ℕ → Result State HeaderFault → Type 0
+Opens line (Ok state) = (header : Header) × (book : Book) × (tree : Tree) × HasRules line header book × (opening_tree header.data ≡ Ok tree) × (count tree ≤ MAX_LOCATIONS) × (state ≡ opening book tree)
+Opens line (Err (Line fault)) = (fault ≡ NoMemory) ⊎ (header_in line ≡ Err fault)
+Opens line (Err (Rules fault)) = (header : Header) × (header_in line ≡ Ok header) × Refuses header.rules fault
+Opens line (Err (Data fault)) = (header : Header) × (book : Book) × HasRules line header book × ((fault ≡ NoMemory) ⊎ (opening_tree header.data ≡ Err fault))
+Opens line (Err TreeFull) = (header : Header) × (book : Book) × (tree : Tree) × HasRules line header book × (opening_tree header.data ≡ Ok tree) × (MAX_LOCATIONS < count tree)

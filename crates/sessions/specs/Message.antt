@@ -1,21 +1,22 @@
 -- What a message asks, or its first fault.
-use Rattle.std.specs.Prelude.{◌≡◌, ℕ, ◌+◌, ◌⊎◌, List, [], ◌∷◌, ◌++◌, length, Bool, nat_le, if◌then◌else◌, codes, Option, Some, None, option_and_then, Result, Ok, Err, ⊤, ◌≤◌}
+use Rattle.std.specs.Prelude.{◌≡◌, ℕ, ◌+◌, ◌⊎◌, List, [], ◌∷◌, ◌++◌, length, Bool, nat_le, if◌then◌else◌, codes, Option, Some, None, option_map, option_and_then, Result, Ok, Err, ⊤, ◌≤◌}
 use Rattle.std.specs.List.{list_all, list_any}
 use Rattle.std.specs.Str.{is_utf8, bytes_eq}
 use Rattle.serde_json.specs.Data.{Data, null, boolean, number, string, array, object, Members, no_members, member}
-use Rattle.serde_json.specs.Find.{get, as_str, as_number, as_u64}
+use Rattle.serde_json.specs.Find.{get, as_str, as_number, as_u64, as_object}
 use Rattle.serde_json.specs.Read.{read}
 use Rattle.tree_model.specs.declared.limits.TheConstants.{MAX_DEPTH}
 use Rattle.tree_model.specs.Key.{is_key}
 use Rattle.tree_model.specs.Path.{Path}
 use Rattle.tree_model.specs.PathMap.{depth}
-use Rattle.tree_model.specs.Tree.{Tree}
+use Rattle.tree_model.specs.Tree.{Tree, null as no_tree}
+use Rattle.tree_model.specs.Write.{Write}
 use Rattle.json_tree.specs.Json.{is_lawful, of_json}
 use Rattle.path_capture.specs.Path.{segments}
-use Rattle.rtdb_core.specs.declared.limits.TheConstants.{MAX_MOMENT}
+use Rattle.evaluator.specs.declared.env.TheConstants.{MAX_MOMENT}
 use Rattle.sessions.specs.declared.limits.TheConstants.{MAX_MESSAGE_BYTES}
 use Rattle.rtdb_core.specs.declared.event.Event.{Event}
-use Rattle.rtdb_core.specs.declared.event.Event.TheVariants.{Open, Get, Set}
+use Rattle.rtdb_core.specs.declared.event.Event.TheVariants.{Open, Get, Set, Remove, Update}
 use Rattle.sessions.specs.declared.message.Form.{Form}
 use Rattle.sessions.specs.declared.message.Form.TheVariants.{Script, Socket}
 use Rattle.sessions.specs.declared.message.Stamp.{Stamp}
@@ -73,10 +74,19 @@ whole_at name d = option_and_then (λ n. if nat_le n MAX_MOMENT then Some n else
 
 -- ---- requests. (This project's profile.)
 
+-- the verb of a name that every form has
+abbrev pub verb_named : List ℕ → Option Verb
+verb_named name =
+    if bytes_eq name (codes "get") then Some verbs.Get
+    else if bytes_eq name (codes "set") then Some verbs.Set
+    else if bytes_eq name (codes "remove") then Some verbs.Remove
+    else if bytes_eq name (codes "update") then Some verbs.Update
+    else None
+
 -- the verb of a name; a socket opens no session
 abbrev pub verb_of : Form → List ℕ → Option Verb
-verb_of Script name = if bytes_eq name (codes "open") then Some verbs.Open else (if bytes_eq name (codes "get") then Some verbs.Get else (if bytes_eq name (codes "set") then Some verbs.Set else None))
-verb_of (Socket stamp) name = if bytes_eq name (codes "get") then Some verbs.Get else (if bytes_eq name (codes "set") then Some verbs.Set else None)
+verb_of Script name = if bytes_eq name (codes "open") then Some verbs.Open else verb_named name
+verb_of (Socket stamp) name = verb_named name
 
 -- what a form has in each request
 abbrev pub form_members : Form → List (List ℕ)
@@ -88,6 +98,8 @@ abbrev pub verb_members : Verb → List (List ℕ)
 verb_members verbs.Open = []
 verb_members verbs.Get = codes "path" ∷ []
 verb_members verbs.Set = codes "path" ∷ codes "value" ∷ []
+verb_members verbs.Remove = codes "path" ∷ []
+verb_members verbs.Update = codes "path" ∷ codes "values" ∷ []
 
 -- the moment and the session: a line of a script says both, and of a socket both are known
 abbrev pub stamp_of : Form → Data → Option Stamp
@@ -108,20 +120,46 @@ abbrev pub tree_of_value : Data → Result Tree MessageFault
 tree_of_value d = if is_lawful d then (if nat_le (depth (of_json d)) MAX_DEPTH then Ok (of_json d) else Err TooDeep) else Err BadValue
 
 -- the write of a tree at a path: together they are at most 32 deep
-abbrev pub write_of : Path → Tree → Result Event MessageFault
-write_of path tree = if nat_le (length path + depth tree) MAX_DEPTH then Ok (Set (path, tree)) else Err TooDeep
+abbrev pub write_at : Path → Tree → Result Write MessageFault
+write_at path tree = if nat_le (length path + depth tree) MAX_DEPTH then Ok (path, tree) else Err TooDeep
 
--- what is asked by a verb: first the members, then the path, the value, and the write
+-- the path of a text below another path: both together have at most 32 keys
+abbrev pub path_below : Path → List ℕ → Result Path MessageFault
+path_below path name = unless_fault (path_of name) (λ below. if nat_le (length path + length below) MAX_DEPTH then Ok (path ++ below) else Err TooDeep)
+
+-- the write of one member of an update: its name is a path below that of the update, and the empty text is that path itself
+abbrev pub write_below : Path → List ℕ → Data → Result Write MessageFault
+write_below path name d =
+    unless_fault (path_below path name) (λ at.
+    unless_fault (tree_of_value d) (λ tree. write_at at tree))
+
+-- the writes of an update, one member after another, in the byte order of their names, in which they are read
+abbrev pub writes_below : Path → Members → Result (List Write) MessageFault
+writes_below path no_members = Ok []
+writes_below path (member name d ms) =
+    unless_fault (write_below path name d) (λ write.
+    unless_fault (writes_below path ms) (λ writes. Ok (write ∷ writes)))
+
+-- the path of the member `path`
+abbrev pub path_in : Data → Result Path MessageFault
+path_in d = unless_fault (or_fault BadRequest (text_at (codes "path") d)) (λ text. path_of text)
+
+-- what is asked by a verb: first the members, then the path, the value, and the write; of an update these of each member in turn
 abbrev pub event_of : Verb → Data → Result Event MessageFault
 event_of verbs.Open d = Ok Open
-event_of verbs.Get d =
-    unless_fault (or_fault BadRequest (text_at (codes "path") d)) (λ text.
-    unless_fault (path_of text) (λ path. Ok (Get path)))
+event_of verbs.Get d = unless_fault (path_in d) (λ path. Ok (Get path))
 event_of verbs.Set d =
     unless_fault (or_fault BadRequest (text_at (codes "path") d)) (λ text.
     unless_fault (or_fault BadRequest (get (codes "value") d)) (λ value.
     unless_fault (path_of text) (λ path.
-    unless_fault (tree_of_value value) (λ tree. write_of path tree))))
+    unless_fault (tree_of_value value) (λ tree.
+    unless_fault (write_at path tree) (λ write. Ok (Set write))))))
+event_of verbs.Remove d = unless_fault (path_in d) (λ path. Ok (Remove path))
+event_of verbs.Update d =
+    unless_fault (or_fault BadRequest (text_at (codes "path") d)) (λ text.
+    unless_fault (or_fault BadRequest (option_and_then as_object (get (codes "values") d))) (λ members.
+    unless_fault (path_of text) (λ path.
+    unless_fault (writes_below path members) (λ writes. Ok (Update writes)))))
 
 -- the verb that `do` names
 abbrev pub verb_in : Form → Data → Option Verb
@@ -141,10 +179,20 @@ asks form bytes = unless_fault (value_of bytes) (request_of form)
 
 -- ---- headers. (This project's profile.)
 
--- an object with the one member `rules`, a text
-abbrev pub header_of : Data → Option (List ℕ)
-header_of d = if has_only (codes "rules" ∷ []) d then text_at (codes "rules") d else None
+-- what a header has: the text of a rules file, and perhaps the value that the opening tree is
+pub record Header : Type 0 where
+  pub rules : List ℕ
+  pub data : Option Data
 
--- the text of the rules file that a header has, or its first fault
-unfoldable pub rules_text : List ℕ → Result (List ℕ) MessageFault
-rules_text bytes = unless_fault (value_of bytes) (λ d. or_fault BadRequest (header_of d))
+-- an object with the member `rules`, a text, perhaps the member `data`, and no other
+abbrev pub header_of : Data → Option Header
+header_of d = if has_only (codes "rules" ∷ codes "data" ∷ []) d then option_map (λ rules. record { rules = rules; data = get (codes "data") d }) (text_at (codes "rules") d) else None
+
+-- what the header of a line has, or its first fault
+unfoldable pub header_in : List ℕ → Result Header MessageFault
+header_in bytes = unless_fault (value_of bytes) (λ d. or_fault BadRequest (header_of d))
+
+-- the opening tree, or its fault: null where there is none
+abbrev pub opening_tree : Option Data → Result Tree MessageFault
+opening_tree None = Ok no_tree
+opening_tree (Some d) = tree_of_value d

@@ -1,7 +1,6 @@
 -- What a script is answered.
 use Rattle.std.specs.Prelude.{◌≡◌, ◌≢◌, ℕ, ◌⊎◌, List, [], ◌∷◌, ◌++◌, length, Result, Ok, Err, ⊤, flat_map}
-use Rattle.tree_model.specs.Tree.{null}
-use Rattle.rules_reader.specs.Book.{Book, rules}
+use Rattle.rules_reader.specs.Book.{rules}
 use Rattle.rtdb_core.specs.declared.reply.Refusal.TheVariants as refusals
 use Rattle.rtdb_core.specs.declared.reply.Reply.{Reply}
 use Rattle.rtdb_core.specs.declared.reply.Reply.TheVariants.{Refused}
@@ -10,9 +9,9 @@ use Rattle.sessions.specs.declared.message.Request.{Request}
 use Rattle.sessions.specs.declared.message.MessageFault.{MessageFault}
 use Rattle.sessions.specs.declared.message.MessageFault.TheVariants.{NoMemory}
 use Rattle.sessions.specs.declared.header.HeaderFault.{HeaderFault}
-use Rattle.sessions.specs.declared.header.HeaderFault.TheVariants.{Line, Rules}
+use Rattle.sessions.specs.declared.header.HeaderFault.TheVariants.{Line, Rules, Data, TreeFull}
 use Rattle.sessions.specs.Lines.{cut, non_blank}
-use Rattle.rtdb_core.specs.State.{State, opening}
+use Rattle.rtdb_core.specs.State.{State}
 use Rattle.rtdb_core.specs.Step.{Step, Call, Run}
 use Rattle.sessions.specs.Message.{asks}
 use Rattle.sessions.specs.AnswerText as answer
@@ -91,30 +90,32 @@ pub data Phase : Type 0 where
 abbrev pub header_fault_text : HeaderFault → List ℕ
 header_fault_text (Line fault) = answer.fault_text fault
 header_fault_text (Rules fault) = answer.rules_fault_text fault
+header_fault_text (Data fault) = answer.fault_text fault
+header_fault_text TreeFull = answer.text (Refused refusals.TreeFull)
 
 -- After a header that opened with this, what is written for it and for the lines after it. A refused header is answered alone.
-abbrev pub Continues : Result Book HeaderFault → List (List ℕ) → Phase → List ℕ → Type 0
+abbrev pub Continues : Result State HeaderFault → List (List ℕ) → Phase → List ℕ → Type 0
 Continues (Err fault) lines phase out = (phase ≡ refused) × (out ≡ as_line (header_fault_text fault))
-Continues (Ok book) lines phase out =
-    (texts : List (List ℕ)) × (state : State) × AreAnswered (opening book null) lines texts state
-    × (phase ≡ running state) × (out ≡ as_line (answer.accepted_text (length (rules book))) ++ flat_map as_line texts)
+Continues (Ok opened) lines phase out =
+    (texts : List (List ℕ)) × (state : State) × AreAnswered opened lines texts state
+    × (phase ≡ running state) × (out ≡ as_line (answer.accepted_text (length (rules opened.rules))) ++ flat_map as_line texts)
 
 -- what is written for lines that are not blank, the first of which is the header
 abbrev pub IsWritten : List (List ℕ) → Phase → List ℕ → Type 0
 IsWritten [] phase out = (phase ≡ unopened) × (out ≡ [])
-IsWritten (header ∷ lines) phase out = (opened : Result Book HeaderFault) × Opens header opened × Continues opened lines phase out
+IsWritten (header ∷ lines) phase out = (opened : Result State HeaderFault) × Opens header opened × Continues opened lines phase out
 
 -- The output for an input: the answer to its header, and if that is accepted an answer to each later line, in order.
 abbrev pub Said : List ℕ → Phase → List ℕ → Type 0
 Said input phase out = IsWritten (non_blank (cut input)) phase out
 
--- Lines whose header was accepted: their header, the rules that it opens with, and the output as a run from the state in which a database opens with these rules and null.
+-- Lines whose header was accepted: their header, the state that it opens, and the output as a run from this state.
 pub record IsSaidByRun (said_to : List (List ℕ)) (state : State) (out : List ℕ) : Type 0 where
   pub header : List ℕ
   pub lines : List (List ℕ)
   pub in_order : said_to ≡ header ∷ lines
-  pub book : Book
-  pub opens : Opens header (Ok book)
+  pub opened : State
+  pub opens : Opens header (Ok opened)
   pub texts : List (List ℕ)
-  pub run : AreAnsweredByRun (opening book null) lines texts state
-  pub written : out ≡ as_line (answer.accepted_text (length (rules book))) ++ flat_map as_line texts
+  pub run : AreAnsweredByRun opened lines texts state
+  pub written : out ≡ as_line (answer.accepted_text (length (rules opened.rules))) ++ flat_map as_line texts

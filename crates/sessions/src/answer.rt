@@ -3,12 +3,12 @@
 ghost use Rattle.std.specs.Prelude.{◌≡◌, ◌++◌, codes, option_map, IfOk};
 ghost use Rattle.serde_json.specs.Data.{string, object, member, no_members};
 ghost use Rattle.serde_json.specs.View.{view, members_view};
-ghost use Rattle.sessions.specs.AnswerText.{text, fault_text, rules_fault_text, accepted_text, message_code, refusal_members, plain_data, placed_data, named_data, rules_data, read_denied_data, write_denied_data, accepted_data, refusal_data, rule_data, byte_data, what_data, rule_fault_data, rules_fault_data};
+ghost use Rattle.sessions.specs.AnswerText.{text, fault_text, rules_fault_text, accepted_text, message_code, refusal_members, plain_data, placed_data, named_data, rules_data, read_denied_data, write_denied_data, validate_denied_data, why_text, accepted_data, refusal_data, rule_data, byte_data, what_data, rule_fault_data, rules_fault_data};
 
 use crate::code::Code;
 use crate::message::MessageFault;
 use json_tree::{NoMemory, Node, to_json};
-use path_capture::Path;
+use path_capture::{Path, Pattern};
 use rtdb_core::{Named, NamedRules, Refusal, Reply, Why};
 use rules_reader::{RuleFault, RuleName, RulesFault};
 use serde_json::{Map, Value, json};
@@ -118,8 +118,12 @@ fn value_of_refusal(alloc: Global, refusal: &Refusal) -> Result<Value, NoMemory>
         Refusal::SessionOpen => plain(alloc, Code::SessionOpen),
         Refusal::TooManySessions => plain(alloc, Code::TooManySessions),
         Refusal::NoSession => plain(alloc, Code::NoSession),
+        Refusal::EmptyUpdate => plain(alloc, Code::EmptyUpdate),
+        Refusal::Overlap => plain(alloc, Code::Overlap),
         Refusal::ReadDenied(named) => read_denied(alloc, named),
         Refusal::WriteDenied(path, named) => write_denied(alloc, path, named),
+        Refusal::ValidateDenied(path, pattern, why) => validate_denied(alloc, path, pattern, *why),
+        Refusal::TreeFull => plain(alloc, Code::TreeFull),
         Refusal::NoMemory => plain(alloc, Code::NoMemory),
     }
 }
@@ -228,6 +232,27 @@ fn write_denied(alloc: Global, at: &Path, named: &NamedRules) -> Result<Value, N
     placed_with_rules(alloc, Code::WriteDenied, place.as_str(), rules)
 }
 
+fn validate_denied(
+    alloc: Global,
+    at: &Path,
+    pattern: &Pattern,
+    why: Why,
+) -> Result<Value, NoMemory>
+    ensures { IfOk result (λ value. view value ≡ validate_denied_data at.now pattern.now why) }
+{
+    let code = Code::ValidateDenied;
+    let place = at.print(alloc)?;
+    let pattern = pattern.print()?;
+    Ok(json!(in alloc; {
+        "at": place.as_str(),
+        "code": code.number(),
+        "name": code.name(),
+        "ok": false,
+        "pattern": pattern.as_str(),
+        "why": why_text(why),
+    })?)
+}
+
 // A refusal with a place and rules.
 fn placed_with_rules(
     alloc: Global,
@@ -270,9 +295,14 @@ fn value_of_named(alloc: Global, named: &Named) -> Result<Value, NoMemory>
     ensures { IfOk result (λ value. view value ≡ named_data named.now) }
 {
     let pattern = named.pattern.print()?;
-    let why = match named.why {
+    Ok(json!(in alloc; {"pattern": pattern.as_str(), "why": why_text(named.why)})?)
+}
+
+fn why_text(why: Why) -> &'static str
+    ensures { result.now ≡ why_text why }
+{
+    match why {
         Why::No => "false",
         Why::Erred => "error",
-    };
-    Ok(json!(in alloc; {"pattern": pattern.as_str(), "why": why})?)
+    }
 }

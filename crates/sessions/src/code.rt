@@ -10,6 +10,8 @@ pub enum Code {
     BadPath,
     BadValue,
     TooDeep,
+    EmptyUpdate,
+    Overlap,
     TooLarge,
     NoSession,
     SessionOpen,
@@ -23,6 +25,8 @@ pub enum Code {
     TooManyRules,
     ReadDenied,
     WriteDenied,
+    ValidateDenied,
+    TreeFull,
     NoMemory,
 }
 
@@ -36,6 +40,8 @@ impl Code {
             Code::BadPath => 103,
             Code::BadValue => 104,
             Code::TooDeep => 105,
+            Code::EmptyUpdate => 107,
+            Code::Overlap => 108,
             Code::TooLarge => 109,
             Code::NoSession => 202,
             Code::SessionOpen => 203,
@@ -49,6 +55,8 @@ impl Code {
             Code::TooManyRules => 407,
             Code::ReadDenied => 501,
             Code::WriteDenied => 502,
+            Code::ValidateDenied => 503,
+            Code::TreeFull => 504,
             Code::NoMemory => 601,
         }
     }
@@ -62,6 +70,8 @@ impl Code {
             Code::BadPath => "BadPath",
             Code::BadValue => "BadValue",
             Code::TooDeep => "TooDeep",
+            Code::EmptyUpdate => "EmptyUpdate",
+            Code::Overlap => "Overlap",
             Code::TooLarge => "TooLarge",
             Code::NoSession => "NoSession",
             Code::SessionOpen => "SessionOpen",
@@ -75,6 +85,8 @@ impl Code {
             Code::TooManyRules => "TooManyRules",
             Code::ReadDenied => "ReadDenied",
             Code::WriteDenied => "WriteDenied",
+            Code::ValidateDenied => "ValidateDenied",
+            Code::TreeFull => "TreeFull",
             Code::NoMemory => "NoMemory",
         }
     }

@@ -1,23 +1,30 @@
-//! The header of a script: the rules file that its requests are judged by.
+//! The header of a script: the rules file that its requests are judged by, and the opening tree.
 ghost use Rattle.std.specs.Prelude.{◌≡◌, ◌∷◌, [], codes, option_map};
 ghost use Rattle.std.specs.List.{list_all, list_any};
 ghost use Rattle.std.specs.Str.{bytes_eq};
 ghost use Rattle.serde_json.specs.View.{view, members_view};
-ghost use Rattle.sessions.specs.Message.{names_of, has_only, header_of};
+ghost use Rattle.path_capture.specs.Write.{tree_or_null};
+ghost use Rattle.sessions.specs.Message.{Tells, names_of, has_only, header_of, opening_tree};
 ghost use Rattle.sessions.specs.Header.{Opens};
+ghost use Rattle.sessions.specs.Working.Members.{header_seen};
 ghost use Rattle.sessions.specs.declared.header.HeaderFault.TheVariants.{Line as of_line, Rules as of_rules};
 
-use crate::message::{MessageFault, read_value, text_at};
-use path_capture::Pattern;
-use rules_reader::{Rules, RulesFault, compile};
+use crate::message::{MessageFault, read_value, text_at, tree_of_value};
+use json_tree::Node;
+use rtdb_core::Core;
+use rules_reader::{RulesFault, compile};
 use serde_json::{Map, Value};
 use std::alloc::Global;
 
-/// Why a header is refused: a fault of the line, or of the rules file in it.
+/// Why a header is refused: a fault of the line, of the rules file in it, or of the opening tree.
 #[derive(Debug, Drop)]
 pub enum HeaderFault {
     Line(MessageFault),
     Rules(RulesFault),
+    /// A key or a primitive of the opening tree is not lawful, or one stands too deep.
+    Data(MessageFault),
+    /// The opening tree has more locations than may be.
+    TreeFull,
 }
 
 impl From<MessageFault> for HeaderFault {
@@ -36,51 +43,79 @@ impl From<RulesFault> for HeaderFault {
     }
 }
 
-/// The rules of a header, or its first fault. While nothing is validated and no more than the
-/// literals is judged, a file that states a `.validate`, or a rule that is neither the literal true
-/// nor the literal false, is refused as if its root were at fault, after all other faults.
-#[tactic(auto, unfolding(crate::specs::Message::rules_text))]
-pub fn read_header(alloc: Global, line: &[u8]) -> Result<Rules, HeaderFault>
+// What a header has.
+struct Header<'a> {
+    rules: &'a str,
+    data: Option<&'a Value>,
+}
+
+/// The database that a header opens, or its first fault: a pass over the line, those of its rules
+/// file, and one over its data.
+#[tactic(auto, unfolding(crate::specs::Message::header_in))]
+pub fn read_header(alloc: Global, line: &[u8]) -> Result<Core, HeaderFault>
     ensures { Opens line.now result }
 {
     let value = read_value(alloc, line)?;
-    let Some(text) = header_of(&value) else {
+    let Some(header) = header_of(&value) else {
         return Err(HeaderFault::Line(MessageFault::BadRequest));
     };
-    let rules = compile(alloc, text.as_bytes())?;
-    if rules.states_unjudged() {
-        return Err(HeaderFault::Rules(RulesFault::BadRulesShape(Pattern::new(alloc))));
+    let rules = compile(alloc, header.rules.as_bytes())?;
+    let tree = match opening_tree(alloc, header.data) {
+        Ok(tree) => tree,
+        Err(fault) => return Err(HeaderFault::Data(fault)),
+    };
+    match Core::new(alloc, rules, tree) {
+        Ok(core) => Ok(core),
+        Err(_) => Err(HeaderFault::TreeFull),
     }
-    Ok(rules)
 }
 
-// The text of the one member `rules`.
-fn header_of(value: &Value) -> Option<&str>
-    ensures { option_map (λ text. text.now) result ≡ header_of (view value.now) }
+// The tree of the member `data`: null where there is none.
+fn opening_tree(alloc: Global, data: Option<&Value>) -> Result<Option<Node>, MessageFault>
+    ensures { Tells tree_or_null result (opening_tree (option_map (λ value. view value.now) data)) }
 {
-    if has_rules_alone(value) {
-        text_at(value, "rules")
-    } else {
-        None
+    match data {
+        Some(value) => tree_of_value(alloc, value),
+        None => Ok(None),
     }
 }
 
-fn has_rules_alone(value: &Value) -> bool
-    ensures { result ≡ has_only (codes "rules" ∷ []) (view value.now) }
+// The members of a header, where it has no other.
+fn header_of(value: &Value) -> Option<Header<'_>>
+    ensures { option_map header_seen result ≡ header_of (view value.now) }
+{
+    if !has_header_alone(value) {
+        return None;
+    }
+    let rules = text_at(value, "rules")?;
+    Some(Header {
+        rules,
+        data: value.get("data"),
+    })
+}
+
+fn has_header_alone(value: &Value) -> bool
+    ensures { result ≡ has_only (codes "rules" ∷ codes "data" ∷ []) (view value.now) }
 {
     match value.as_object() {
-        Some(members) => are_rules_alone(members),
+        Some(members) => are_of_header(members),
         None => true,
     }
 }
 
-fn are_rules_alone(members: &Map<String, Value>) -> bool
-    ensures { result ≡ list_all (λ name. list_any (bytes_eq name) (codes "rules" ∷ [])) (names_of (members_view members.now.entries)) }
+fn are_of_header(members: &Map<String, Value>) -> bool
+    ensures { result ≡ list_all (λ name. list_any (bytes_eq name) (codes "rules" ∷ codes "data" ∷ [])) (names_of (members_view members.now.entries)) }
 {
     for (name, _) in members.iter() {
-        if name.as_str() != "rules" {
+        if !is_of_header(name.as_str()) {
             return false;
         }
     }
     true
+}
+
+fn is_of_header(name: &str) -> bool
+    ensures { result ≡ list_any (bytes_eq name.now) (codes "rules" ∷ codes "data" ∷ []) }
+{
+    name == "rules" || name == "data"
 }

@@ -4,13 +4,14 @@ ghost use Rattle.std.specs.List.{list_all, list_any};
 ghost use Rattle.std.specs.Str.{bytes_eq};
 ghost use Rattle.serde_json.specs.View.{view, members_view};
 ghost use Rattle.path_capture.specs.Write.{tree_or_null};
-ghost use Rattle.sessions.specs.Message.{Tells, value_of, names_of, has_only, text_at, whole_at, verb_of, verb_in, form_members, verb_members, stamp_of, IsWithin, path_of, tree_of_value, write_of, event_of, request_of, asks};
+ghost use Rattle.sessions.specs.Message.{Tells, value_of, names_of, has_only, text_at, whole_at, verb_named, verb_of, verb_in, form_members, verb_members, stamp_of, IsWithin, path_of, path_in, path_below, tree_of_value, write_at, write_below, writes_below, event_of, request_of, asks};
 ghost use Rattle.sessions.specs.declared.message.MessageFault.TheVariants.{NoMemory as no_memory};
+ghost use Rattle.sessions.specs.Working.Faults.{fault_of_path};
 
 use crate::limits::MAX_MESSAGE_BYTES;
 use json_tree::{NoMemory, Node, ValueFault, from_json};
 use path_capture::{Path, PathFault, Write};
-use rtdb_core::{Event, MAX_MOMENT};
+use rtdb_core::{Event, MAX_MOMENT, Writes};
 use serde_json::{Map, Value};
 use std::alloc::Global;
 use thiserror::Error;
@@ -37,6 +38,8 @@ pub enum Verb {
     Open,
     Get,
     Set,
+    Remove,
+    Update,
 }
 
 /// What a message asks.
@@ -140,10 +143,20 @@ fn verb_of(form: Form, name: &str) -> Option<Verb>
         },
         Form::Socket(_) => {}
     }
+    verb_named(name)
+}
+
+fn verb_named(name: &str) -> Option<Verb>
+    ensures { result ≡ verb_named name.now }
+{
     if name == "get" {
         Some(Verb::Get)
     } else if name == "set" {
         Some(Verb::Set)
+    } else if name == "remove" {
+        Some(Verb::Remove)
+    } else if name == "update" {
+        Some(Verb::Update)
     } else {
         None
     }
@@ -180,8 +193,9 @@ fn is_member(form: Form, verb: Verb, name: &str) -> bool
     of_form
         || match verb {
             Verb::Open => false,
-            Verb::Get => name == "path",
+            Verb::Get | Verb::Remove => name == "path",
             Verb::Set => name == "path" || name == "value",
+            Verb::Update => name == "path" || name == "values",
         }
 }
 
@@ -225,13 +239,25 @@ fn event_of(alloc: Global, verb: Verb, value: &Value) -> Result<Event, MessageFa
     match verb {
         Verb::Open => Ok(Event::Open),
         Verb::Get => {
-            let Some(text) = text_at(value, "path") else {
-                return Err(MessageFault::BadRequest);
-            };
-            Ok(Event::Get(path_of(alloc, text)?))
+            let path = path_in(alloc, value)?;
+            Ok(Event::Get(path))
         }
         Verb::Set => set_of(alloc, value),
+        Verb::Remove => {
+            let path = path_in(alloc, value)?;
+            Ok(Event::Remove(path))
+        }
+        Verb::Update => update_of(alloc, value),
     }
+}
+
+fn path_in(alloc: Global, value: &Value) -> Result<Path, MessageFault>
+    ensures { Tells (λ path. path) result (path_in (view value.now)) }
+{
+    let Some(text) = text_at(value, "path") else {
+        return Err(MessageFault::BadRequest);
+    };
+    path_of(alloc, text)
 }
 
 fn set_of(alloc: Global, value: &Value) -> Result<Event, MessageFault>
@@ -245,7 +271,62 @@ fn set_of(alloc: Global, value: &Value) -> Result<Event, MessageFault>
     };
     let path = path_of(alloc, text)?;
     let tree = tree_of_value(alloc, written)?;
-    write_of(path, tree)
+    let write = write_at(path, tree)?;
+    Ok(Event::Set(write))
+}
+
+fn update_of(alloc: Global, value: &Value) -> Result<Event, MessageFault>
+    ensures { Tells (λ event. event) result (event_of Verb.Update (view value.now)) }
+{
+    let Some(text) = text_at(value, "path") else {
+        return Err(MessageFault::BadRequest);
+    };
+    let Some(members) = value.get("values").and_then(Value::as_object) else {
+        return Err(MessageFault::BadRequest);
+    };
+    let path = path_of(alloc, text)?;
+    let writes = writes_below(alloc, &path, members)?;
+    Ok(Event::Update(Writes::of_vec(writes)))
+}
+
+// The writes of an update, whose members stand in the byte order of their names.
+fn writes_below(
+    alloc: Global,
+    path: &Path,
+    members: &Map<String, Value>,
+) -> Result<Vec<Write>, MessageFault>
+    ensures { Tells (λ writes. writes.items) result (writes_below path.now (members_view members.now.entries)) }
+{
+    let mut writes = Vec::with_capacity(alloc, members.len())?;
+    for (name, value) in members.iter() {
+        let write = write_below(alloc, path, name.as_str(), value)?;
+        writes.push(write)?;
+    }
+    Ok(writes)
+}
+
+fn write_below(
+    alloc: Global,
+    path: &Path,
+    name: &str,
+    value: &Value,
+) -> Result<Write, MessageFault>
+    ensures { Tells (λ write. write) result (write_below path.now name.now (view value.now)) }
+{
+    let at = path_below(alloc, path, name)?;
+    let tree = tree_of_value(alloc, value)?;
+    write_at(at, tree)
+}
+
+fn path_below(alloc: Global, path: &Path, name: &str) -> Result<Path, MessageFault>
+    ensures { Tells (λ at. at) result (path_below path.now name.now) }
+{
+    let mut below = path_of(alloc, name)?;
+    let mut at = path.copy(alloc)?;
+    match at.join(&mut below) {
+        Ok(()) => Ok(at),
+        Err(fault) => Err(fault_of_path(fault)),
+    }
 }
 
 fn path_of(alloc: Global, text: &str) -> Result<Path, MessageFault>
@@ -253,13 +334,21 @@ fn path_of(alloc: Global, text: &str) -> Result<Path, MessageFault>
 {
     match Path::parse(alloc, text) {
         Ok(path) => Ok(path),
-        Err(PathFault::BadPath) => Err(MessageFault::BadPath),
-        Err(PathFault::TooDeep) => Err(MessageFault::TooDeep),
-        Err(PathFault::NoMemory) => Err(MessageFault::NoMemory),
+        Err(fault) => Err(fault_of_path(fault)),
     }
 }
 
-fn tree_of_value(alloc: Global, value: &Value) -> Result<Option<Node>, MessageFault>
+fn fault_of_path(fault: PathFault) -> MessageFault
+    ensures { result ≡ fault_of_path fault }
+{
+    match fault {
+        PathFault::BadPath => MessageFault::BadPath,
+        PathFault::TooDeep => MessageFault::TooDeep,
+        PathFault::NoMemory => MessageFault::NoMemory,
+    }
+}
+
+pub(crate) fn tree_of_value(alloc: Global, value: &Value) -> Result<Option<Node>, MessageFault>
     ensures { Tells tree_or_null result (tree_of_value (view value.now)) }
 {
     match from_json(alloc, value) {
@@ -270,11 +359,11 @@ fn tree_of_value(alloc: Global, value: &Value) -> Result<Option<Node>, MessageFa
     }
 }
 
-fn write_of(path: Path, tree: Option<Node>) -> Result<Event, MessageFault>
-    ensures { Tells (λ event. event) result (write_of path (tree_or_null tree)) }
+fn write_at(path: Path, tree: Option<Node>) -> Result<Write, MessageFault>
+    ensures { Tells (λ write. write) result (write_at path (tree_or_null tree)) }
 {
     match Write::new(path, tree) {
-        Ok(write) => Ok(Event::Set(write)),
+        Ok(write) => Ok(write),
         Err(_) => Err(MessageFault::TooDeep),
     }
 }

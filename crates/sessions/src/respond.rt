@@ -1,7 +1,7 @@
 //! What a line is answered: a header by its acceptance or its refusal, a request by a reply.
 ghost use Rattle.std.specs.Prelude.{◌≡◌, ◌≢◌, IfOk, IsOk, OnErr};
 ghost use Rattle.sessions.specs.AnswerText.{text, fault_text, rules_fault_text};
-ghost use Rattle.sessions.specs.Said.{unopened, refused, running, as_line};
+ghost use Rattle.sessions.specs.Said.{unopened, refused, running, as_line, header_fault_text};
 ghost use Rattle.sessions.specs.Working.Follow.{phase_of, bytes_of, AnswersAt};
 ghost use Rattle.rtdb_core.specs.declared.reply.Reply.TheVariants as replies;
 ghost use Rattle.rtdb_core.specs.declared.reply.Refusal.TheVariants as refusals;
@@ -99,12 +99,22 @@ fn open(alloc: Global, line: &[u8]) -> Result<(Stage, Answer), NoMemory>
     ensures { IfOk result (λ r. AnswersAt unopened line.now (phase_of r.0) (bytes_of r.1)) }
 {
     match read_header(alloc, line) {
-        Ok(rules) => {
-            let answer = written(write_accepted(alloc, rules.count())?)?;
-            Ok((Stage::Running(Core::new(alloc, rules, None)), answer))
+        Ok(core) => {
+            let answer = written(write_accepted(alloc, core.rules().count())?)?;
+            Ok((Stage::Running(core), answer))
         }
-        Err(HeaderFault::Line(fault)) => Ok((Stage::Refused, say_fault(alloc, fault)?)),
-        Err(HeaderFault::Rules(fault)) => Ok((Stage::Refused, say_rules_fault(alloc, &fault)?)),
+        Err(fault) => Ok((Stage::Refused, say_header_fault(alloc, &fault)?)),
+    }
+}
+
+fn say_header_fault(alloc: Global, fault: &HeaderFault) -> Result<Answer, NoMemory>
+    ensures line { IfOk result (λ answer. bytes_of answer ≡ as_line (header_fault_text fault.now)) }
+{
+    match fault {
+        HeaderFault::Line(fault) => say_fault(alloc, *fault),
+        HeaderFault::Rules(fault) => say_rules_fault(alloc, fault),
+        HeaderFault::Data(fault) => say_fault(alloc, *fault),
+        HeaderFault::TreeFull => say(alloc, &Reply::Refused(Refusal::TreeFull)),
     }
 }
 

@@ -1,7 +1,6 @@
 -- Where a script stands while it runs: after a line, after a piece of the input, and once no more is read.
 use Rattle.std.specs.Prelude.{◌≡◌, ◌≢◌, ℕ, ◌≤◌, ◌^◌, ◌⊎◌, Bool, true, List, [], ◌∷◌, ◌++◌, Option, Some, None, Result}
 use Rattle.std.specs.Io.KnownBytes.{Appends, IsAtEnd}
-use Rattle.rules_reader.specs.Book.{Book}
 use Rattle.sessions.specs.declared.desk.Stop.{Stop}
 use Rattle.sessions.specs.declared.desk.Stop.TheVariants as stops
 use Rattle.sessions.specs.declared.header.HeaderFault.{HeaderFault}
@@ -41,7 +40,7 @@ bytes_of (answers.Written bytes) = bytes.items
 
 -- at a phase a line that is not blank is answered so, and leads to a phase
 abbrev pub AnswersAt : Phase → List ℕ → Phase → List ℕ → Type 0
-AnswersAt unopened line phase out = (opened : Result Book HeaderFault) × Opens line opened × Continues opened [] phase out
+AnswersAt unopened line phase out = (opened : Result State HeaderFault) × Opens line opened × Continues opened [] phase out
 AnswersAt (running old) line phase out = (said : List ℕ) × (new : State) × IsAnswered old line said new × (phase ≡ running new) × (out ≡ as_line said)
 -- after a refused header no line is answered
 AnswersAt refused line phase out = ⊥

@@ -5,7 +5,7 @@ use Rattle.tree_model.specs.Tree.{non_null}
 use Rattle.tree_model.proofs.Existence.{non_null-some}
 use Rattle.tree_model.proofs.Lookups.{sub-root}
 use Rattle.rtdb_core.proofs.Walks.{walked, nothing_there}
-use Rattle.rtdb_core.proofs.machine.node_at.Goals as goal
+use Rattle.rtdb_core.proofs.trees.node_at.Goals as goal
 
 pub loop-key-init : goal.loop-key-init
 loop-key-init c = sym (non_null-some c.args.root.now c.law.ensures.some) ∙ ap non_null (sym (sub-root c.args.root.now))

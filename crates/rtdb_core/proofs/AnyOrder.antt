@@ -1,0 +1,48 @@
+-- Writes of an update in any order: it is answered alike.
+use Rattle.std.proofs.Common.{◌≡◌, ◌==◌, ℕ, Bool, true, false, cond, not, List, length, map, refl, sym, ap, ◌∙◌}
+use Rattle.std.specs.List.Sorted.{IsPermutation}
+use Rattle.std.proofs.lemmas.Bool.{false≢true}
+use Rattle.std.proofs.lemmas.List.Sorted.{IsPermutation-map, IsPermutation-sym, length_permutation}
+use Rattle.tree_model.specs.Path.{Path}
+use Rattle.tree_model.specs.Tree.{Tree}
+use Rattle.tree_model.specs.Write.{Write, location, overlaps, proposed}
+use Rattle.tree_model.proofs.Order.{overlaps-permutation, proposed-permutation}
+use Rattle.rules_reader.specs.Place.{HasOneCapture}
+use Rattle.judge.specs.Question.{Scene}
+use Rattle.judge.specs.Tests.{write_verdict}
+use Rattle.judge.proofs.Tops.{verdict_in_any_order}
+use Rattle.judge.proofs.Verdicts.{writes_decided, one_verdict}
+use Rattle.rtdb_core.specs.declared.reply.Refusal.TheVariants.{NoSession, EmptyUpdate, Overlap}
+use Rattle.rtdb_core.specs.declared.reply.Reply.TheVariants.{Done}
+use Rattle.rtdb_core.specs.State.{State, is_open, scene_at}
+use Rattle.rtdb_core.specs.Step.{Outcome, refused, unless_refused, denial, or_full, tree_with, write_refusal, written_to, makes, updates}
+
+verdict_same : (scene : Scene) (t : Tree) (ls ms : List Path) → HasOneCapture scene.book → IsPermutation ls ms → write_verdict scene t ls ≡ write_verdict scene t ms
+verdict_same scene t ls ms one p =
+    sym (one_verdict scene t ls (write_verdict scene t ms) one (verdict_in_any_order scene t ls ms (write_verdict scene t ms) p (writes_decided scene t ms (write_verdict scene t ms) refl)))
+
+makes_same : (old : State) (now : ℕ) (ws xs : List Write) → HasOneCapture old.rules → IsPermutation ws xs → overlaps ws ≡ false → makes old now ws ≡ makes old now xs
+unfolding write_refusal
+makes_same old now ws xs one p apart =
+    let tree = proposed-permutation old.tree ws xs p apart in
+    let verdict = verdict_same (scene_at old now) (tree_with old ws) (map location ws) (map location xs) one (IsPermutation-map location ws xs p) ∙ ap (λ (t : Tree). write_verdict (scene_at old now) t (map location xs)) tree in
+    λ i. unless_refused old (or_full (denial (verdict i)) (tree i)) (record { reply = Done; after = record old { tree = tree i } })
+
+overlap_same : (ws xs : List Write) → IsPermutation ws xs → overlaps ws ≡ overlaps xs
+overlap_same ws xs p = by_one (overlaps ws) (overlaps xs) refl refl
+  where
+    by_one : (b c : Bool) → overlaps ws ≡ b → overlaps xs ≡ c → overlaps ws ≡ overlaps xs
+    by_one false c e f = e ∙ sym (overlaps-permutation ws xs p e)
+    by_one true true e f = e ∙ sym f
+    by_one true false e f = absurd (false≢true (sym (overlaps-permutation xs ws (IsPermutation-sym ws xs p) f) ∙ e))
+
+-- an update is answered alike, in whatever order its writes stand
+pub updates_same : (old : State) (now session : ℕ) (ws xs : List Write) → HasOneCapture old.rules → IsPermutation ws xs → updates old now session ws ≡ updates old now session xs
+updates_same old now session ws xs one p = by_overlap (overlaps ws) refl
+  where
+    long : length ws ≡ length xs
+    long = sym (length_permutation ws xs p)
+
+    by_overlap : (b : Bool) → overlaps ws ≡ b → updates old now session ws ≡ updates old now session xs
+    by_overlap true e = λ i. cond (not (is_open old session)) (refused old NoSession) (cond (long i == 0) (refused old EmptyUpdate) ((ap (λ (c : Bool). cond c (refused old Overlap) (makes old now ws)) e ∙ ap (λ (c : Bool). cond c (refused old Overlap) (makes old now xs)) (sym e ∙ overlap_same ws xs p)) i))
+    by_overlap false e = λ i. cond (not (is_open old session)) (refused old NoSession) (cond (long i == 0) (refused old EmptyUpdate) (cond (overlap_same ws xs p i) (refused old Overlap) (makes_same old now ws xs one p e i)))

@@ -1,0 +1,42 @@
+//! Why an event is refused: what its judging comes to.
+ghost use Rattle.std.specs.Prelude.{◌≡◌, min};
+ghost use Rattle.tree_model.specs.Tree.{Tree, count};
+ghost use Rattle.rtdb_core.specs.Step.{denial, full};
+
+use crate::limits::MAX_LOCATIONS;
+use crate::reply::Refusal;
+use bumpalo::Bump;
+use json_tree::NoMemory;
+use judge::Verdict;
+
+/// The denial of a verdict, if it is one.
+pub(crate) fn denial(verdict: Verdict) -> Option<Refusal>
+    ensures { result ≡ denial verdict }
+{
+    match verdict {
+        Verdict::Granted => None,
+        Verdict::ReadDenied(rules) => Some(Refusal::ReadDenied(rules)),
+        Verdict::WriteDenied(at, rules) => Some(Refusal::WriteDenied(at, rules)),
+        Verdict::ValidateDenied(at, pattern, why) => {
+            Some(Refusal::ValidateDenied(at, pattern, why))
+        }
+    }
+}
+
+/// The refusal of a tree of so many locations, if they are too many.
+pub(crate) fn full(locations: usize) -> Option<Refusal>
+    ensures { (t : Tree) → locations ≡ min (count t) usize.MAX → result ≡ full t }
+{
+    if locations > MAX_LOCATIONS {
+        return Some(Refusal::TreeFull);
+    }
+    None
+}
+
+/// Makes the arena free for one event. It can't be reset where its owner forgot a collection in it.
+pub(crate) fn reset(arena: &mut Bump) -> Result<(), NoMemory> {
+    let Ok(()) = arena.reset() else {
+        return Err(NoMemory);
+    };
+    Ok(())
+}

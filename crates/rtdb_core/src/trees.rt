@@ -1,0 +1,64 @@
+//! What is looked up and counted in trees, and the writes of an event.
+ghost use Rattle.std.specs.Prelude.{◌≡◌, min, option_map};
+ghost use Rattle.std.specs.List.Sorted.{IsPermutation};
+ghost use Rattle.tree_model.specs.PathMap.{sub};
+ghost use Rattle.tree_model.specs.Tree.{non_null, count};
+ghost use Rattle.path_capture.specs.Write.{tree_or_null};
+ghost use Rattle.rtdb_core.specs.Step.{removal};
+
+use arena_snapshot::View;
+use json_tree::{Key, Node};
+use path_capture::{Path, Write};
+
+/// How many locations exist in a stored tree.
+pub(crate) fn count_of(tree: &Option<Node>) -> usize
+    ensures { result ≡ min (count (tree_or_null tree.now)) usize.MAX }
+{
+    match tree {
+        Some(node) => node.count(),
+        None => 0,
+    }
+}
+
+/// How many locations exist in a tree that is proposed.
+pub(crate) fn count_in(coming: &Option<View<'_>>) -> usize
+    ensures { result ≡ min (count (tree_or_null coming.now)) usize.MAX }
+{
+    match coming {
+        Some(view) => view.count(),
+        None => 0,
+    }
+}
+
+/// The node at a path below this one, None where nothing exists.
+pub(crate) fn node_at<'a>(root: &'a Node, path: &[Key]) -> Option<&'a Node>
+    ensures { option_map (λ node. node.now) result ≡ non_null (sub root.now path.now) }
+{
+    root.law();
+    let mut node = root;
+    for key in path {
+        let Some(next) = node.child(key.text()) else {
+            return None;
+        };
+        node = next;
+    }
+    Some(node)
+}
+
+/// The write that removes what is at this location.
+pub(crate) fn removal(path: Path) -> Write
+    ensures { result ≡ removal path }
+{
+    path.keys();
+    let Ok(write) = Write::new(path, None) else {
+        unreachable!()
+    };
+    write
+}
+
+/// Puts writes in the order of their locations, in place and without taking memory.
+pub(crate) fn sort(writes: &mut Vec<Write>)
+    ensures { IsPermutation writes.old.items writes.new.items }
+{
+    writes.sort_unstable_by(|a, b| a.at().compare(b.at()));
+}
