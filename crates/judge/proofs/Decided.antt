@@ -1,40 +1,39 @@
 -- The relations of what is granted, named and valid, and the tests that decide them.
-use Rattle.std.proofs.Common.{◌≡◌, ◌||◌, Bool, true, false, cond, not, List, [], ◌∷◌, ◌++◌, map, Some, None, Option, is_some, option_map, option_and_then, sym, ap, ◌∙◌, subst, refl, append_assoc, append-nil}
+use Rattle.std.proofs.Common.{◌≡◌, ◌||◌, Bool, true, false, cond, List, [], ◌∷◌, ◌++◌, map, Some, None, Option, option_map, option_and_then, sym, ap, ◌∙◌, subst, refl, append_assoc, append-nil}
 use Rattle.std.specs.Prelude.{◌↔◌, find, filter_map}
 use Rattle.std.specs.List.{list_any, cons_option}
 use Rattle.std.proofs.lemmas.Bool.{false≢true}
-use Rattle.tree_model.specs.Key.{Key}
-use Rattle.tree_model.specs.Path.{Path, is_prefix, prefixes}
+use Rattle.tree_model.specs.Path.{Path, prefixes}
 use Rattle.tree_model.specs.PathMap.{get}
 use Rattle.expr_types.specs.Checked.{Checked}
 use Rattle.rules_reader.specs.Part.{Pattern}
 use Rattle.rules_reader.specs.declared.kind.Kind.{Kind}
-use Rattle.rules_reader.specs.Book.{Book, patterns, stated_for}
-use Rattle.rules_reader.specs.Place.{StandsAt, HasOneCapture}
+use Rattle.rules_reader.specs.Book.{patterns, stated_for}
+use Rattle.rules_reader.specs.Place.{HasOneCapture}
 use Rattle.evaluator.specs.Holds.{outcome}
 use Rattle.evaluator.specs.declared.evaluation.Outcome.{Outcome}
 use Rattle.evaluator.specs.declared.evaluation.Outcome.TheVariants.{Yes}
 use Rattle.judge.specs.Question.{Question, env_at}
 use Rattle.judge.specs.Answers.{Answers, Holds, Fails, why_of}
 use Rattle.judge.specs.Granting.{IsGranted}
-use Rattle.judge.specs.Tests.{Answer, stands_at, standing, answer_of, answer_at, holds, failing, name_of, granted, names, is_granted}
-use Rattle.judge.specs.declared.verdict.Named.{Named}
+use Rattle.judge.specs.Tests.{Answer, stands_at, standing, answer_of, answer_at, holds, failing, name_of, granted, names}
 use Rattle.judge.specs.declared.verdict.Why.{Why}
-use Rattle.judge.specs.Working.Refused.{Ask, granted_below, granted_from, name_at, names_below, names_from}
+use Rattle.judge.specs.Working.Refused.{Ask, granted_from, names_from}
+use Rattle.judge.proofs.Among.{some_same}
 use Rattle.judge.proofs.Deciding.{standing_is, does_stand, at_prefix, from_prefix, any-map}
 
 -- ---- one rule
 
--- what answers at a path is what the test computes
+-- what the rule of a pattern that stands at a path answers is what the test computes
+pub answer_by : (q : Question) (kind : Kind) (path : Path) (pattern : Pattern) (a : Outcome) → Answers q kind path pattern a → answer_of q kind path pattern ≡ Some (pattern, a)
+answer_by q kind path pattern a h =
+    ap (option_map {U = Answer} (λ (rule : Checked). (pattern, outcome rule.tree (env_at q pattern path)))) h.states
+    ∙ ap (λ (o : Outcome). Some (pattern, o)) h.is
+
 pub answer_of_rule : (q : Question) (kind : Kind) (path : Path) (pattern : Pattern) (a : Outcome) → HasOneCapture q.scene.book → Answers q kind path pattern a → answer_at q kind path ≡ Some (pattern, a)
 unfolding answer_at
 answer_of_rule q kind path pattern a one h =
-    ap (option_and_then (answer_of q kind path)) (standing_is q.scene.book pattern path one h.stands)
-    ∙ ap (option_map {U = Answer} (λ (rule : Checked). (pattern, outcome rule.tree (env_at q pattern path)))) h.states
-    ∙ ap (λ (o : Outcome). Some (pattern, o)) h.is
-
-some_same : {A : Type 0} (x y : A) → Some x ≡ Some y → x ≡ y
-some_same x y e = cc
+    ap (option_and_then (answer_of q kind path)) (standing_is q.scene.book pattern path one h.stands) ∙ answer_by q kind path pattern a h
 
 find_passes : {A : Type 0} (test : A → Bool) (xs : List A) (y : A) → find test xs ≡ Some y → test y ≡ true
 find_passes test [] y h = cc
@@ -46,21 +45,24 @@ find_passes test (x ∷ xs) y h = elim (test x) as (λ b. test x ≡ b → cond 
     same : Some x ≡ Some y → x ≡ y
     same e = cc
 
+pub rule_by : (q : Question) (kind : Kind) (path : Path) (p pattern : Pattern) (a : Outcome) → stands_at q.scene.book path p ≡ true → answer_of q kind path p ≡ Some (pattern, a) → Answers q kind path pattern a
+rule_by q kind path p pattern a stands h = by_rule (option_and_then (stated_for kind) (get q.scene.book p)) refl h
+  where
+    by_rule : (o : Option Checked) → option_and_then (stated_for kind) (get q.scene.book p) ≡ o → option_map {U = Answer} (λ (rule : Checked). (p, outcome rule.tree (env_at q p path))) o ≡ Some (pattern, a) → Answers q kind path pattern a
+    by_rule None s e = cc
+    by_rule (Some rule) s e = subst (λ (x : Answer). Answers q kind path x.0 x.1) (some_same {A = Answer} (p, outcome rule.tree (env_at q p path)) (pattern, a) e) record { stands = does_stand q.scene.book path p stands; rule = rule; states = s; is = refl }
+
 pub rule_of_answer : (q : Question) (kind : Kind) (path : Path) (pattern : Pattern) (a : Outcome) → answer_at q kind path ≡ Some (pattern, a) → Answers q kind path pattern a
 unfolding answer_at
 rule_of_answer q kind path pattern a h = by_pattern (standing q.scene.book path) refl h
   where
-    by_rule : (p : Pattern) (o : Option Checked) → option_and_then (stated_for kind) (get q.scene.book p) ≡ o → stands_at q.scene.book path p ≡ true → option_map {U = Answer} (λ (rule : Checked). (p, outcome rule.tree (env_at q p path))) o ≡ Some (pattern, a) → Answers q kind path pattern a
-    by_rule p None s stands e = cc
-    by_rule p (Some rule) s stands e = subst (λ (x : Answer). Answers q kind path x.0 x.1) (some_same {A = Answer} (p, outcome rule.tree (env_at q p path)) (pattern, a) e) record { stands = does_stand q.scene.book path p stands; rule = rule; states = s; is = refl }
-
     by_pattern : (o : Option Pattern) → standing q.scene.book path ≡ o → option_and_then (answer_of q kind path) o ≡ Some (pattern, a) → Answers q kind path pattern a
     by_pattern None s e = cc
-    by_pattern (Some p) s e = by_rule p (option_and_then (stated_for kind) (get q.scene.book p)) refl (find_passes (stands_at q.scene.book path) (patterns q.scene.book) p s) e
+    by_pattern (Some p) s e = rule_by q kind path p pattern a (find_passes (stands_at q.scene.book path) (patterns q.scene.book) p s) e
 
 -- ---- whether one holds, or why not
 
-holds_so : (o : Option Answer) → holds o ≡ true → (pattern : Pattern) × (o ≡ Some (pattern, Yes))
+pub holds_so : (o : Option Answer) → holds o ≡ true → (pattern : Pattern) × (o ≡ Some (pattern, Yes))
 holds_so None h = absurd (false≢true h)
 holds_so (Some (pattern, a)) h = (pattern, ap (λ (x : Outcome). Some (pattern, x)) (yes a h))
   where
@@ -74,19 +76,27 @@ holds_decides q kind path one = (
   λ h. ap holds (answer_of_rule q kind path h.pattern Yes one h.yes),
 )
 
+-- a rule that answers so fails
+pub failing_by : (q : Question) (kind : Kind) (path : Path) (pattern : Pattern) (why : Why) → Fails q kind path pattern why → failing (answer_of q kind path pattern) ≡ Some (pattern, why)
+failing_by q kind path pattern why h = ap failing (answer_by q kind path pattern h.answer h.answers) ∙ ap (option_map {U = Pattern × Why} (λ (w : Why). (pattern, w))) h.reason
+
 pub fails_test : (q : Question) (kind : Kind) (path : Path) (pattern : Pattern) (why : Why) → HasOneCapture q.scene.book → Fails q kind path pattern why → failing (answer_at q kind path) ≡ Some (pattern, why)
 fails_test q kind path pattern why one h = ap failing (answer_of_rule q kind path pattern h.answer one h.answers) ∙ ap (option_map {U = Pattern × Why} (λ (w : Why). (pattern, w))) h.reason
 
-pub fails_so : (q : Question) (kind : Kind) (path : Path) (pattern : Pattern) (why : Why) → failing (answer_at q kind path) ≡ Some (pattern, why) → Fails q kind path pattern why
-fails_so q kind path pattern why h = by_answer (answer_at q kind path) refl h
+-- where this is what answers, and so the test says that it fails, the rule fails
+pub fails_of : (q : Question) (kind : Kind) (path : Path) (pattern : Pattern) (why : Why) (answer : Option Answer) → ((p : Pattern) (a : Outcome) → answer ≡ Some (p, a) → Answers q kind path p a) → failing answer ≡ Some (pattern, why) → Fails q kind path pattern why
+fails_of q kind path pattern why None so h = cc
+fails_of q kind path pattern why (Some (p, a)) so h = by_why (why_of a) refl h
   where
-    by_why : (p : Pattern) (a : Outcome) (o : Option Why) → why_of a ≡ o → answer_at q kind path ≡ Some (p, a) → option_map {U = Pattern × Why} (λ (w : Why). (p, w)) o ≡ Some (pattern, why) → Fails q kind path pattern why
-    by_why p a None s at e = cc
-    by_why p a (Some w) s at e = subst (λ (x : Pattern × Why). Fails q kind path x.0 x.1) (some_same {A = Pattern × Why} (p, w) (pattern, why) e) record { answer = a; answers = rule_of_answer q kind path p a at; reason = s }
+    by_why : (o : Option Why) → why_of a ≡ o → option_map {U = Pattern × Why} (λ (w : Why). (p, w)) o ≡ Some (pattern, why) → Fails q kind path pattern why
+    by_why None s e = cc
+    by_why (Some w) s e = subst (λ (x : Pattern × Why). Fails q kind path x.0 x.1) (some_same {A = Pattern × Why} (p, w) (pattern, why) e) record { answer = a; answers = so p a refl; reason = s }
 
-    by_answer : (o : Option Answer) → answer_at q kind path ≡ o → failing o ≡ Some (pattern, why) → Fails q kind path pattern why
-    by_answer None at e = cc
-    by_answer (Some (p, a)) at e = by_why p a (why_of a) refl at e
+pub fails_so : (q : Question) (kind : Kind) (path : Path) (pattern : Pattern) (why : Why) → failing (answer_at q kind path) ≡ Some (pattern, why) → Fails q kind path pattern why
+fails_so q kind path pattern why h = fails_of q kind path pattern why (answer_at q kind path) (rule_of_answer q kind path) h
+
+pub fails_by : (q : Question) (kind : Kind) (path : Path) (p pattern : Pattern) (why : Why) → stands_at q.scene.book path p ≡ true → failing (answer_of q kind path p) ≡ Some (pattern, why) → Fails q kind path pattern why
+fails_by q kind path p pattern why stands h = fails_of q kind path pattern why (answer_of q kind path p) (λ r a e. rule_by q kind path p r a stands e) h
 
 -- ---- what is granted
 

@@ -1,6 +1,6 @@
 -- Which pattern stands at a path, by a test; and what holds at some prefix of a path.
-use Rattle.std.proofs.Common.{◌≡◌, ℕ, zero, suc, ◌<◌, Bool, true, false, cond, ◌||◌, List, [], ◌∷◌, ◌++◌, map, length, take, get_or, Some, None, Option, is_some, sym, ap, ◌∙◌, refl, arith, append_assoc, append-nil}
-use Rattle.std.specs.Prelude.{◌↔◌, find}
+use Rattle.std.proofs.Common.{◌≡◌, ℕ, zero, suc, ◌<◌, Bool, true, false, cond, ◌||◌, List, [], ◌∷◌, ◌++◌, map, length, take, get_or, Some, None, is_some, sym, ap, ◌∙◌, refl, arith, append_assoc, append-nil}
+use Rattle.std.specs.Prelude.{find}
 use Rattle.std.specs.List.{list_any}
 use Rattle.std.specs.Cmp.{first_so, second_so}
 use Rattle.std.specs.FinMap as map_of
@@ -10,10 +10,9 @@ use Rattle.std.proofs.lemmas.List.Folds.{list_any_at}
 use Rattle.std.proofs.lemmas.Map.Views.{Contains-from_any}
 use Rattle.tree_model.specs.Key.{Key}
 use Rattle.tree_model.specs.Path.{Path, strip_prefix, is_prefix, prefixes}
-use Rattle.tree_model.proofs.Choices.{not_true, both_so, or_right}
+use Rattle.tree_model.proofs.Choices.{both_so, or_right}
 use Rattle.tree_model.proofs.Orders.{same_key, same_path, bytes_eq-self}
 use Rattle.rules_reader.specs.Part.{Pattern}
-use Rattle.rules_reader.specs.declared.kind.Kind.{Kind}
 use Rattle.rules_reader.specs.Book.{Book, patterns}
 use Rattle.rules_reader.specs.Place.{StandsAt, HasOneCapture, matches}
 use Rattle.rules_reader.proofs.Standing.{one_stands}
@@ -80,7 +79,7 @@ module _ {A : Type 0} (test : A → Bool) where
       ] refl
 
 -- a pattern of the book is among its patterns
-among_patterns : (book : Book) (test : Pattern → Bool) (p : Pattern) → map_of.contains_key book p ≡ true → test p ≡ true → list_any test (patterns book) ≡ true
+pub among_patterns : (book : Book) (test : Pattern → Bool) (p : Pattern) → map_of.contains_key book p ≡ true → test p ≡ true → list_any test (patterns book) ≡ true
 among_patterns book test p listed passes =
     let at = Contains-from_any same_path p (patterns book) (sym (map_of.contains_key-keys book p) ∙ listed) in
     list_any_at test (patterns book) at.0 p at.1 (ap test at.2 ∙ passes)

@@ -1,18 +1,16 @@
 -- Sorted locations, in groups that begin with one key.
-use Rattle.std.proofs.Common.{◌≡◌, ◌≢◌, ◌-◌, reverse, ℕ, zero, suc, ◌+◌, ◌≤◌, ◌<◌, add-one, ◌⊎◌, inl, inr, ◌&&◌, ◌||◌, Bool, true, false, cond, List, [], ◌∷◌, ◌++◌, map, length, take, drop, slice_get, length-drop, length-append, get_or, Some, None, Option, is_some, sym, ap, ◌∙◌, subst, refl, arith}
+use Rattle.std.proofs.Common.{◌≡◌, ◌≢◌, ◌-◌, reverse, ℕ, zero, suc, ◌+◌, ◌≤◌, ◌<◌, add-one, ◌⊎◌, inl, inr, ◌||◌, true, false, cond, List, [], ◌∷◌, ◌++◌, map, length, take, drop, slice_get, length-drop, length-append, get_or, Some, None, Option, is_some, sym, ap, ◌∙◌, subst, refl, arith}
 use Rattle.std.specs.Prelude.{IfSome, MatchOption}
-use Rattle.std.specs.List.{AllByRecursion, list_any}
+use Rattle.std.specs.List.{AllByRecursion}
 use Rattle.std.specs.Borrow.{Bor}
 use Rattle.std.proofs.lemmas.List.{take_more, drop_more, take-append-drop, map-append, length-take-le, reverse-append, length-map, length-reverse}
-use Rattle.std.specs.declared.cmp.Ordering.{Ordering}
 use Rattle.std.specs.declared.cmp.Ordering.TheVariants.{Less, Equal, Greater}
 use Rattle.std.specs.Ordering.{ordering_then, ordering_reverse}
 use Rattle.std.specs.Cmp.{tied_itself}
 use Rattle.std.proofs.lemmas.Bool.{false≢true}
-use Rattle.std.proofs.lemmas.List.Folds.{list_any-append}
 use Rattle.std.specs.Str.{bytes_eq}
 use Rattle.tree_model.specs.Key.{Key, key_cmp}
-use Rattle.tree_model.specs.Path.{Path, path_cmp, is_path, is_prefix, strip_prefix}
+use Rattle.tree_model.specs.Path.{Path, path_cmp, is_path, strip_prefix}
 use Rattle.tree_model.specs.Tree.{first_key}
 use Rattle.tree_model.specs.declared.limits.TheConstants.{MAX_DEPTH}
 use Rattle.tree_model.proofs.Lawful.{path_length}

@@ -1,4 +1,5 @@
 pub mod Order
+pub mod Among
 pub mod Groups
 pub mod Sorting
 pub mod Walks
@@ -7,5 +8,7 @@ pub mod Deciding
 pub mod Places
 pub mod Refusing
 pub mod Decided
+pub mod Verdicts
 pub mod Tops
 pub mod Reaching
+pub mod Coming

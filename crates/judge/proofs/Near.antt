@@ -1,11 +1,9 @@
 -- A walk that goes only where locations lead.
-use Rattle.std.proofs.Common.{◌≡◌, ◌≢◌, ℕ, ◌+◌, ◌⊎◌, inl, inr, ◌||◌, Bool, true, false, List, [], ◌∷◌, ◌++◌, map, drop, slice_get, length, Some, None, Option, sym, ap, ◌∙◌, subst, refl, append-nil, append_assoc}
-use Rattle.std.specs.List.{AllByRecursion, list_any}
+use Rattle.std.proofs.Common.{◌≡◌, ℕ, ◌+◌, ◌⊎◌, inl, inr, ◌||◌, Bool, true, false, List, [], ◌∷◌, ◌++◌, drop, slice_get, Some, None, Option, sym, ap, ◌∙◌, subst, refl}
 use Rattle.std.proofs.lemmas.Bool.{false≢true}
 use Rattle.std.proofs.lemmas.List.Folds.{list_any-append}
-use Rattle.std.specs.declared.cmp.Ordering.TheVariants.{Less}
-use Rattle.tree_model.specs.Key.{Key, key_cmp}
-use Rattle.tree_model.specs.Path.{Path, path_cmp, is_prefix}
+use Rattle.tree_model.specs.Key.{Key}
+use Rattle.tree_model.specs.Path.{Path, is_prefix}
 use Rattle.tree_model.specs.PathMap.{sub}
 use Rattle.tree_model.specs.Tree.{Tree, first_key, non_null}
 use Rattle.tree_model.proofs.Choices.{or_right}
@@ -13,8 +11,8 @@ use Rattle.judge.specs.Failing.{is_near, is_touched}
 use Rattle.judge.specs.declared.validate.Failure.{Failure}
 use Rattle.judge.specs.Working.Locations.{rests, PathsAscend, AllBegin, NextIs, NextIsNot}
 use Rattle.judge.specs.Working.Refused.{Ask}
-use Rattle.judge.specs.Working.Found.{Fault, IsFirst, Found, FailsFrom, FaultsHere, Below, Near, place_of, fault_of}
-use Rattle.judge.proofs.Order.{IsIn, NoneBefore, first_among, none_at_all, first_at_root, in_all}
+use Rattle.judge.specs.Working.Found.{Fault, Found, FailsFrom, FaultsHere, Below, Near, place_of, fault_of}
+use Rattle.judge.proofs.Order.{NoneBefore, first_among, none_at_all, in_all}
 use Rattle.judge.proofs.Groups.{NoneEnds, heads, touched_head, next_none_before, others_differ, heads-append, AllHeads, all_heads, all_first, all_second, ascend_second, none_ends, rests-append, ascend_below, touched_below, group_under}
 use Rattle.judge.proofs.Walks.{found_as, first_as, here_as, from_key, to_key}
 

@@ -1,5 +1,5 @@
 -- The rule that stands where a walk stands, and what it answers.
-use Rattle.std.proofs.Common.{◌≡◌, ℕ, suc, ◌+◌, ◌-◌, add-one, ◌<◌, Bool, cond, List, [], ◌∷◌, ◌++◌, length, take, get_or, zip, true, false, Some, None, Option, is_some, option_map, option_and_then, slice_get, sym, ap, ◌∙◌, subst, refl, arith, append_assoc, append-nil, length-append}
+use Rattle.std.proofs.Common.{◌≡◌, ℕ, suc, ◌-◌, add-one, ◌<◌, Bool, cond, List, [], ◌∷◌, ◌++◌, length, take, get_or, zip, true, false, Some, None, Option, option_map, option_and_then, slice_get, sym, ap, ◌∙◌, subst, refl, arith, append-nil, length-append}
 use Rattle.std.specs.Prelude.{filter_map, if◌then◌else◌}
 use Rattle.std.specs.List.{cons_option}
 use Rattle.std.proofs.lemmas.List.Elements.{filter_map-append}
@@ -23,12 +23,12 @@ use Rattle.rules_reader.specs.Node.{Point, NoneMatches, Steps}
 use Rattle.rules_reader.proofs.Reached.{Reached, reached_root, not_reached, reached_step}
 use Rattle.evaluator.specs.Value.{Snapshot}
 use Rattle.evaluator.specs.Snapshot.{below}
-use Rattle.evaluator.specs.Env.{Env, Access, access_of, reads, writes, is_for, HasCaptures, Suits}
+use Rattle.evaluator.specs.Env.{Access, access_of, is_for, Suits}
 use Rattle.evaluator.specs.Holds.{outcome}
 use Rattle.evaluator.specs.declared.evaluation.Outcome.{Outcome}
 use Rattle.judge.specs.Question.{Question, Request, read, write, env_at, access_at}
-use Rattle.judge.specs.Tests.{Answer, standing, answer_of, answer_at}
-use Rattle.judge.specs.Working.Standing.{AsksFor, IsAt, last_name, last_bound, access_below, coming_at, proposed_by, Stands, coming_of, path_of, question_of}
+use Rattle.judge.specs.Tests.{answer_of, answer_at}
+use Rattle.judge.specs.Working.Standing.{AsksFor, IsAt, last_bound, access_below, coming_at, proposed_by, Stands, coming_of, path_of, question_of}
 use Rattle.judge.specs.declared.spot.Asking.{Asking}
 use Rattle.judge.specs.declared.spot.Spot.{Spot}
 use Rattle.std.specs.Borrow.{Bor}

@@ -1,5 +1,5 @@
 -- Laws of what is granted.
-use Rattle.std.proofs.Common.{◌≡◌, true, ◌++◌, sym, ap, ◌∙◌, append_assoc}
+use Rattle.std.proofs.Common.{◌≡◌, true, ◌++◌, ap, ◌∙◌, append_assoc}
 use Rattle.tree_model.specs.Path.{Path, is_prefix}
 use Rattle.tree_model.proofs.Paths.{prefix-append}
 use Rattle.tree_model.proofs.Proposals.{prefix_is}

@@ -1,16 +1,14 @@
 -- A walk over locations that asks who may.
-use Rattle.std.proofs.Common.{◌≡◌, ℕ, zero, suc, ◌+◌, ◌≤◌, add-one, Bool, true, false, cond, not, ◌||◌, List, [], ◌∷◌, ◌++◌, map, drop, length, slice_get, Some, None, Option, option_map, sym, ap, ◌∙◌, subst, refl, arith, append_assoc, append-nil}
+use Rattle.std.proofs.Common.{◌≡◌, ℕ, ◌+◌, Bool, true, false, cond, not, ◌||◌, List, [], ◌∷◌, ◌++◌, drop, slice_get, Some, None, Option, option_map, sym, ap, ◌∙◌, subst, refl, append_assoc, append-nil}
 use Rattle.std.specs.Prelude.{find}
 use Rattle.std.specs.List.{AllByRecursion, cons_option}
-use Rattle.std.proofs.lemmas.Bool.{false≢true}
 use Rattle.tree_model.specs.Key.{Key}
 use Rattle.tree_model.specs.Path.{Path}
 use Rattle.tree_model.specs.Tree.{first_key}
 use Rattle.judge.specs.Tests.{Answer, holds, failing, name_of}
-use Rattle.judge.specs.declared.verdict.Named.{Named}
 use Rattle.judge.specs.declared.grant.Denial.{Denial}
 use Rattle.judge.specs.Working.Locations.{AllBegin}
-use Rattle.judge.specs.Working.Refused.{Ask, granted_below, granted_from, name_at, names_below, names_from, seen_names, Refuses}
+use Rattle.judge.specs.Working.Refused.{Ask, granted_below, granted_from, names_below, names_from, seen_names, Refuses}
 use Rattle.judge.proofs.Groups.{begins_with}
 
 -- ---- the first of a list

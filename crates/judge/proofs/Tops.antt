@@ -1,14 +1,13 @@
 -- What the walks from the root say of reads and writes.
-use Rattle.std.proofs.Common.{◌≡◌, ◌≢◌, ℕ, zero, suc, ◌≤◌, ◌<◌, ◌⊎◌, inl, inr, Bool, true, false, cond, not, List, [], ◌∷◌, ◌++◌, map, length, drop, get_or, Some, None, Option, sym, ap, ◌∙◌, subst, refl, arith}
-use Rattle.std.specs.Prelude.{Contains, find, ◌↔◌, MatchOption}
-use Rattle.std.specs.List.{AllByRecursion, list_any}
+use Rattle.std.proofs.Common.{◌≡◌, ◌≢◌, ℕ, ◌≤◌, ◌⊎◌, inl, inr, Bool, true, false, cond, not, List, [], ◌∷◌, map, length, Some, None, Option, sym, ap, ◌∙◌, subst, refl, arith}
+use Rattle.std.specs.Prelude.{Contains, find, MatchOption}
+use Rattle.std.specs.List.{AllByRecursion}
 use Rattle.std.specs.List.Sorted.{IsPermutation}
 use Rattle.std.specs.Cmp.{tied_itself}
 use Rattle.std.proofs.lemmas.Bool.{false≢true}
 use Rattle.std.proofs.lemmas.List.Sorted.{Contains-permutation, IsPermutation-sym, list_any-IsPermutation}
 use Rattle.std.specs.declared.cmp.Ordering.TheVariants.{Less}
 use Rattle.tree_model.specs.Path.{Path, path_cmp}
-use Rattle.tree_model.specs.PathMap.{exists}
 use Rattle.tree_model.specs.Tree.{Tree}
 use Rattle.tree_model.proofs.Choices.{true_is_not_false}
 use Rattle.tree_model.proofs.Orders.{paths_total}
@@ -20,8 +19,8 @@ use Rattle.evaluator.specs.Asked.{Asked}
 use Rattle.judge.specs.Question.{Scene, Question, reading, writing}
 use Rattle.judge.specs.Granting.{IsGranted}
 use Rattle.judge.specs.Failing.{is_near, is_touched, FailsAt, IsValid, IsFirstFailing}
-use Rattle.judge.specs.Tests.{answer_at, granted, names, named_rules, failing}
-use Rattle.judge.specs.Judging.{MayRead, MayWrite, MayWriteAll, IsLeastRefused, IsReadVerdict, IsWriteVerdict}
+use Rattle.judge.specs.Tests.{answer_at, granted, named_rules}
+use Rattle.judge.specs.Judging.{MayRead, MayWriteAll, IsLeastRefused, IsReadVerdict, IsWriteVerdict}
 use Rattle.judge.specs.declared.verdict.Why.{Why}
 use Rattle.judge.specs.declared.verdict.Named.{Named}
 use Rattle.judge.specs.declared.verdict.Verdict.{Verdict}
@@ -30,7 +29,7 @@ use Rattle.judge.specs.declared.grant.Denial.{Denial}
 use Rattle.judge.specs.declared.validate.Failure.{Failure}
 use Rattle.judge.specs.Working.Locations.{rests, PathsAscend}
 use Rattle.judge.specs.Working.Refused.{Ask, granted_from, names_from, seen_names, Refuses}
-use Rattle.judge.specs.Working.Found.{Found, FailsFrom, Near, place_of, fault_of}
+use Rattle.judge.specs.Working.Found.{Found, FailsFrom, Near, place_of}
 use Rattle.std.specs.Borrow.{Bor}
 use Rattle.std.specs.FinMap as map_of
 use Rattle.tree_model.specs.declared.limits.TheConstants.{MAX_DEPTH}
@@ -46,26 +45,11 @@ use Rattle.judge.specs.Working.Standing.{AsksFor, IsAt, Stands, StandsAtRoot, as
 use Rattle.judge.proofs.Groups.{length-back}
 use Rattle.judge.proofs.Walks.{room_for_place}
 use Rattle.judge.proofs.Places.{is_at_root}
+use Rattle.judge.proofs.Among.{IsOf, of_contained, contained}
+use Rattle.judge.proofs.Verdicts.{valid_if}
 use Rattle.judge.proofs.Decided.{granted_decides, granted_is, named_is, fails_test, fails_so}
 
 -- ---- lists
-
-abbrev IsOf : Path → List Path → Type 0
-IsOf m [] = ⊥
-IsOf m (l ∷ ls) = (l ≡ m) ⊎ IsOf m ls
-
-of_contained : (ls : List Path) (m : Path) → Contains ls m → IsOf m ls
-of_contained ls m h = go ls h.0 h.1 h.2
-  where
-    go : (ks : List Path) (i : ℕ) → i < length ks → get_or ks i m ≡ m → IsOf m ks
-    go [] i l e = absurd (omega arith)
-    go (x ∷ ks) zero l e = inl e
-    go (x ∷ ks) (suc i) l e = inr (go ks i (omega arith) e)
-
-contained : (ls : List Path) (m : Path) → IsOf m ls → Contains ls m
-contained [] m i = elim i [ ]
-contained (l ∷ ls) m (inl e) = (0, omega arith, e)
-contained (l ∷ ls) m (inr i) = let h = contained ls m i in (suc h.0, omega (arith, h.1), h.2)
 
 none_passes : (P : Path → Bool) (ls : List Path) (m : Path) → find P ls ≡ None → IsOf m ls → P m ≡ false
 none_passes P [] m h i = elim i [ ]
@@ -194,7 +178,7 @@ from_near : (scene : Scene) (t : Tree) (ls : List Path) (place : Path) (pattern 
 from_near scene t ls place pattern why f = record { exists = f.1.0; touched = f.0; fails = fails_so (writing scene t) Validate place pattern why f.1.1 }
 
 pub valid : (scene : Scene) (t : Tree) (ls : List Path) → HasOneCapture scene.book → Found (Near ls (FailsFrom (answer_at (writing scene t) Validate) t [])) None → IsValid scene t ls
-valid scene t ls one none place pattern why f = none place (pattern, why) (to_near scene t ls place pattern why one f)
+valid scene t ls one none = valid_if scene t ls (λ place pattern why f. none place (pattern, why) (to_near scene t ls place pattern why one f))
 
 pub first_failing : (scene : Scene) (t : Tree) (ls : List Path) (f : Failure) → HasOneCapture scene.book → Found (Near ls (FailsFrom (answer_at (writing scene t) Validate) t [])) (Some f) → IsFirstFailing scene t ls (place_of f) (texts f.pattern.now) f.why
 first_failing scene t ls f one found = record {
@@ -204,11 +188,14 @@ first_failing scene t ls f one found = record {
 
 -- ---- any order
 
+touched_in : (ls ms : List Path) (place : Path) → IsPermutation ls ms → is_touched ls place ≡ true → is_touched ms place ≡ true
+touched_in ls ms place e h = sym (list_any-IsPermutation (is_near place) ls ms e) ∙ h
+
 fails_in : (scene : Scene) (t : Tree) (ls ms : List Path) → IsPermutation ls ms → (place : Path) (pattern : Pattern) (why : Why) → FailsAt scene t ls place pattern why → FailsAt scene t ms place pattern why
-fails_in scene t ls ms e place pattern why f = record { exists = f.exists; touched = sym (list_any-IsPermutation (is_near place) ls ms e) ∙ f.touched; fails = f.fails }
+fails_in scene t ls ms e place pattern why f = record { exists = f.exists; touched = touched_in ls ms place e f.touched; fails = f.fails }
 
 pub verdict_in_any_order : (scene : Scene) (t : Tree) (xs ys : List Path) (v : Verdict) → IsPermutation xs ys → IsWriteVerdict scene t ys v → IsWriteVerdict scene t xs v
-verdict_in_any_order scene t xs ys Granted p h = ((λ l i. h.0 l (Contains-permutation xs ys l p i)), λ place pattern why f. h.1 place pattern why (fails_in scene t xs ys p place pattern why f))
+verdict_in_any_order scene t xs ys Granted p h = ((λ l i. h.0 l (Contains-permutation xs ys l p i)), λ place pattern answer there touched g. h.1 place pattern answer there (touched_in xs ys place p touched) g)
 verdict_in_any_order scene t xs ys (ReadDenied named) p h = h
 verdict_in_any_order scene t xs ys (WriteDenied location named) p h = (
   record {
@@ -224,6 +211,7 @@ verdict_in_any_order scene t xs ys (ValidateDenied place pattern why) p h = (
     fails = fails_in scene t ys xs (IsPermutation-sym xs ys p) place (texts pattern) why h.1.fails;
     least = λ other r w f. h.1.least other r w (fails_in scene t xs ys p other r w f);
   },
+  h.2,
 )
 
 -- ---- a question that is asked from the root
@@ -306,14 +294,15 @@ valid_answer_none asking spot ls o e root is h =
     valid (scene_of asking.scene.now) (coming_of asking) ls root.here.at.one
     (found_anew asking spot (writing (scene_of asking.scene.now) (coming_of asking)) ls o None root e (question_is asking Validate e validate_is_no_read root.here.asks) is h)
 
-pub valid_answer_some : (asking : Asking) (spot : Spot) (ls : List Path) (o : Option Failure) (f : Failure) (place : Path) (pattern : parts.Pattern) → asking.kind ≡ Validate → StandsAtRoot asking spot → MayWriteAll (scene_of asking.scene.now) (coming_of asking) ls → o ≡ Some f → place ≡ place_of f → pattern ≡ f.pattern.now
+pub valid_answer_some : (asking : Asking) (spot : Spot) (ls : List Path) (o : Option Failure) (f : Failure) (place : Path) (pattern : parts.Pattern) → asking.kind ≡ Validate → StandsAtRoot asking spot → MayWriteAll (scene_of asking.scene.now) (coming_of asking) ls → o ≡ Some f → place ≡ place_of f → pattern ≡ f.pattern.now → map parts.part_of_text (texts pattern) ≡ pattern
     → Found (Near (rests (length (path_of spot)) ls) (FailsFrom (ask_of asking) (coming_of asking) (path_of spot))) o → IsWriteVerdict (scene_of asking.scene.now) (coming_of asking) ls (ValidateDenied place pattern f.why)
-valid_answer_some asking spot ls o f place pattern e root granted is at same h = (
+valid_answer_some asking spot ls o f place pattern e root granted is at same lawful h = (
   granted,
   subst (λ (p : Path). IsFirstFailing (scene_of asking.scene.now) (coming_of asking) ls p (texts pattern) f.why) (sym at)
       (subst (λ (p : parts.Pattern). IsFirstFailing (scene_of asking.scene.now) (coming_of asking) ls (place_of f) (texts p) f.why) (sym same)
       (first_failing (scene_of asking.scene.now) (coming_of asking) ls f root.here.at.one
       (found_anew asking spot (writing (scene_of asking.scene.now) (coming_of asking)) ls o (Some f) root e (question_is asking Validate e validate_is_no_read root.here.asks) is h))),
+  lawful,
 )
 
 pub room_for_failure : (asking : Asking) (spot : Spot) (ls : List Path) (o : Option Failure) (f : Failure) (keys : List (Bor Key)) → asking.kind ≡ Validate → StandsAtRoot asking spot → IsLawful (coming_of asking) → o ≡ Some f → keys ≡ f.keys.items

@@ -181,6 +181,7 @@ fn validate_denied<'a>(
         Some(failure) => {
             let place = place_of(alloc, failure.keys.as_slice())?;
             let pattern = failure.pattern.copy()?;
+            pattern.law();
             let why = failure.why;
             Ok(Some(Verdict::ValidateDenied(place, pattern, why)))
         }

@@ -1,15 +1,19 @@
 //! Laws of what is granted, and of verdicts: of the definitions alone.
-ghost use Rattle.std.specs.Prelude.{◌≡◌, ◌++◌, List, true, IsPermutation};
+ghost use Rattle.std.specs.Prelude.{◌≡◌, ◌↔◌, ◌++◌, List, true, Contains, IsTrue, IsPermutation};
 ghost use Rattle.tree_model.specs.Path.{Path, is_prefix};
 ghost use Rattle.tree_model.specs.Tree.{Tree};
 ghost use Rattle.tree_model.specs.Write.{Write, proposed};
 ghost use Rattle.rules_reader.specs.Part.{Pattern};
 ghost use Rattle.rules_reader.specs.declared.kind.Kind.{Kind};
+ghost use Rattle.rules_reader.specs.Place.{HasOneCapture};
+ghost use Rattle.evaluator.specs.Asked.{Asked};
 ghost use Rattle.evaluator.specs.Env.{writes};
 ghost use Rattle.judge.specs.Question.{Scene, Question, writing, env_at};
 ghost use Rattle.judge.specs.Answers.{Holds};
 ghost use Rattle.judge.specs.Granting.{IsGranted};
-ghost use Rattle.judge.specs.Judging.{IsWriteVerdict};
+ghost use Rattle.judge.specs.Judging.{IsReadVerdict, IsWriteVerdict, IsToBeNamed};
+ghost use Rattle.judge.specs.Tests.{is_granted, named_rules, read_verdict, write_verdict};
+ghost use Rattle.judge.specs.declared.verdict.Named.{Named as AnyNamed};
 ghost use Rattle.judge.specs.declared.verdict.Verdict.{Verdict as AnyVerdict};
 
 /// What a rule grants, no deeper rule takes back: what is granted at a path is granted at each path
@@ -34,4 +38,21 @@ pub fn every_write_sees_the_whole()
 /// In which order the locations of an event stand changes no verdict. It does nothing.
 pub fn the_order_of_writes_changes_nothing()
     ensures { (scene : Scene) (t : Tree) (one other : List Path) (v : AnyVerdict) → IsPermutation one other → IsWriteVerdict scene t other v → IsWriteVerdict scene t one v }
+{}
+
+/// What can be computed agrees with what is said in words: what is granted, and the verdicts. A book of
+/// a rules file has one capture in an object at most, and so writes have one verdict. It does nothing.
+pub fn the_tests_decide()
+    ensures granted { (q : Question) (kind : Kind) (path : Path) → IsTrue (is_granted q kind path) ↔ IsGranted q kind path }
+    ensures reads { (scene : Scene) (asked : Asked) (path : Path) (v : AnyVerdict) → (v ≡ read_verdict scene asked path) ↔ IsReadVerdict scene asked path v }
+    ensures writes { (scene : Scene) (t : Tree) (locations : List Path) (v : AnyVerdict) → v ≡ write_verdict scene t locations → IsWriteVerdict scene t locations v }
+    ensures one_verdict { (scene : Scene) (t : Tree) (locations : List Path) (v : AnyVerdict) → HasOneCapture scene.book → IsWriteVerdict scene t locations v → v ≡ write_verdict scene t locations }
+{}
+
+/// A denial names exactly the rules of its kind at the path and above it that do not hold, each with
+/// its reason: each named rule stands there and does not hold, and each that does not hold is named. It
+/// does nothing. (The names of a denial are this project's profile.)
+pub fn each_named_rule_does_not_hold()
+    ensures named { (q : Question) (kind : Kind) (path : Path) (named : AnyNamed) → Contains (named_rules q kind path) named → IsToBeNamed q kind path named }
+    ensures all { (q : Question) (kind : Kind) (path : Path) (named : AnyNamed) → HasOneCapture q.scene.book → IsToBeNamed q kind path named → Contains (named_rules q kind path) named }
 {}

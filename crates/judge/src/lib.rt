@@ -15,8 +15,8 @@ mod verdict;
 
 pub use judging::{judge_read, judge_write};
 pub use laws::{
-    a_grant_reaches_down, every_write_sees_the_whole, only_rules_above_grant,
-    the_order_of_writes_changes_nothing,
+    a_grant_reaches_down, each_named_rule_does_not_hold, every_write_sees_the_whole,
+    only_rules_above_grant, the_order_of_writes_changes_nothing, the_tests_decide,
 };
 pub use scene::Scene;
 pub use verdict::{Named, NamedRules, Verdict, Why};

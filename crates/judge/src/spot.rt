@@ -78,10 +78,11 @@ pub(crate) fn enter<'a>(
     requires room { length (path_of spot.now) < most_keys }
     ensures { IfOk result (Entering asking.now (path_of spot.now) key.now captures.old captures.new) }
 {
-    let Some(rule) = spot.rule.step(key.text()) else {
+    let text = key.text();
+    let Some(rule) = spot.rule.step(text) else {
         return Ok(None);
     };
-    let here = spot.here.below(asking.bump, key.text())?;
+    let here = spot.here.below(asking.bump, text)?;
     let access = access_below(asking.bump, spot.access, key)?;
     bind(rule, key, captures)?;
     Ok(Some(Spot { rule, here, access }))

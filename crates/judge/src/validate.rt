@@ -128,8 +128,8 @@ pub(crate) fn towards<'a>(
     let Some(_) = coming(spot) else {
         return Ok(None);
     };
-    let own = failing(alloc, asking, spot, captures)?;
-    if let Some(failure) = own {
+    let above = failing(alloc, asking, spot, captures)?;
+    if let Some(failure) = above {
         return Ok(Some(failure));
     }
     let mut start = 0;

@@ -7,6 +7,7 @@ use std::marker::Model;
 /// What the rules say of a read or of writes.
 #[derive(Debug, Drop)]
 pub enum Verdict {
+    /// The rules let it be done.
     Granted,
     /// No `.read` at the path or above it holds; these are all of them.
     ReadDenied(NamedRules),
@@ -57,6 +58,7 @@ impl NamedRules {
         NamedRules { held }
     }
 
+    /// The rules, shortest pattern first. It takes no memory.
     pub fn as_slice(&self) -> &[Named]
         ensures { result.now ≡ self.now }
     {

@@ -16,7 +16,7 @@ use Rattle.rules_reader.proofs.Reached.{Reached}
 use Rattle.evaluator.specs.Value.{Snapshot}
 use Rattle.evaluator.specs.Snapshot.{below}
 use Rattle.evaluator.specs.Env.{Access, reads, writes, access_of}
-use Rattle.judge.specs.Question.{Scene, Request, read, write, Question, access_at, scene_of}
+use Rattle.judge.specs.Question.{Request, read, write, Question, access_at, scene_of}
 use Rattle.judge.specs.Tests.{Answer, answer_at}
 use Rattle.judge.specs.declared.spot.Asking.{Asking}
 use Rattle.judge.specs.declared.spot.Spot.{Spot}

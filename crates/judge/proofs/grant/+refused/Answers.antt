@@ -1,15 +1,13 @@
-use Rattle.std.proofs.Common.{◌≡◌, ◌+◌, List, Option, Some, option_map, length, drop, sym, ap, ◌∙◌, subst, arith}
+use Rattle.std.proofs.Common.{◌+◌, Some, option_map, length, drop, sym, ap, ◌∙◌, subst, arith}
 use Rattle.std.specs.List.{cons_option}
 use Rattle.rules_reader.specs.Part.{Pattern}
 use Rattle.evaluator.specs.declared.evaluation.Outcome.{Outcome}
 use Rattle.judge.specs.Tests.{holds, failing, name_of}
-use Rattle.judge.specs.declared.grant.Denial.{Denial}
-use Rattle.judge.specs.declared.spot.Spot.{Spot}
 use Rattle.judge.specs.Working.Standing.{ask_of, path_of, Entering}
 use Rattle.judge.specs.Working.Locations.{paths}
 use Rattle.judge.specs.Working.Refused.{granted_below, names_below, seen_names, Refuses}
-use Rattle.judge.proofs.Groups.{first_left, nothing_behind, one_longer}
-use Rattle.judge.proofs.Refusing.{refused_end, refused_found, refused_passed, none_refused, refused_beyond, refused_key, all_granted, refused_none, refused_some}
+use Rattle.judge.proofs.Groups.{first_left, one_longer}
+use Rattle.judge.proofs.Refusing.{refused_found, refused_passed, refused_beyond, refused_key, all_granted, refused_none, refused_some}
 use Rattle.judge.proofs.grant.+refused.Goals as goal
 
 -- ---- below a key

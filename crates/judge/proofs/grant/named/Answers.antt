@@ -1,4 +1,4 @@
-use Rattle.std.proofs.Common.{◌≡◌, ◌++◌, [], ◌∷◌, sym, ap, ◌∙◌, arith}
+use Rattle.std.proofs.Common.{◌++◌, [], ◌∷◌, sym, ◌∙◌, arith}
 use Rattle.judge.specs.declared.grant.Seen.{Seen}
 use Rattle.judge.proofs.Groups.{back_step, back_end, back_whole}
 use Rattle.judge.proofs.grant.named.Goals as goal

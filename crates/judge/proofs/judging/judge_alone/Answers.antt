@@ -1,4 +1,4 @@
-use Rattle.std.proofs.Common.{◌≡◌, refl, ap, ◌∙◌, Some, None}
+use Rattle.std.proofs.Common.{refl, ap, ◌∙◌}
 use Rattle.rules_reader.specs.declared.kind.Kind.TheVariants.{Read}
 use Rattle.evaluator.specs.declared.env.Access.TheVariants.{Reads}
 use Rattle.evaluator.specs.Asked.{asked_of}

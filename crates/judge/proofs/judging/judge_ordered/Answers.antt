@@ -1,6 +1,6 @@
-use Rattle.std.proofs.Common.{◌≡◌, refl, ap, ◌∙◌, sym, subst}
+use Rattle.std.proofs.Common.{refl, ap, sym, subst}
 use Rattle.path_capture.specs.Write.{tree_or_null}
-use Rattle.tree_model.specs.Tree.{Tree, IsLawful}
+use Rattle.tree_model.specs.Tree.{IsLawful}
 use Rattle.rules_reader.specs.declared.kind.Kind.TheVariants.{Write, Validate}
 use Rattle.evaluator.specs.Value.{Snapshot}
 use Rattle.evaluator.specs.declared.env.Access.TheVariants.{Writes}

@@ -19,7 +19,7 @@ place_of-requires c = room_for_failure c.args.asking.now c.args.spot.now (paths 
 pub returns-in-Some : goal.returns-in-Some
 returns-in-Some c =
     valid_answer_some c.args.asking.now c.args.spot.now (paths c.args.locations.now) c.in_ok-failure.failure c.in-Some.failure _ _ c.requires.kind c.requires.root c.requires.granted c.in-Some.is
-    (c.in_ok-place-in-Some.ensures ∙ ap (λ (ks : List (Bor Key)). map (λ (key : Bor Key). key.now) (reverse ks)) c.as_slice.ensures.value) c.in_ok-pattern-in-Some.ensures c.in_ok-failure.ensures.found
+    (c.in_ok-place-in-Some.ensures ∙ ap (λ (ks : List (Bor Key)). map (λ (key : Bor Key). key.now) (reverse ks)) c.as_slice.ensures.value) c.in_ok-pattern-in-Some.ensures c.law.ensures c.in_ok-failure.ensures.found
 
 pub returns : goal.returns
 returns c = valid_answer_none c.args.asking.now c.args.spot.now (paths c.args.locations.now) c.in_ok-failure.failure c.requires.kind c.requires.root c.in-None.is c.in_ok-failure.ensures.found

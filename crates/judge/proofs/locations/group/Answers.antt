@@ -1,4 +1,4 @@
-use Rattle.std.proofs.Common.{◌≡◌, ◌+◌, ◌++◌, List, drop, length, subst, sym, ap, ◌∙◌}
+use Rattle.std.proofs.Common.{◌++◌, List, length, subst, sym, ap, ◌∙◌}
 use Rattle.std.specs.Borrow.{Bor}
 use Rattle.tree_model.specs.Path.{Path}
 use Rattle.judge.specs.Working.Locations.{paths, rests, NextIs, NextIsNot}

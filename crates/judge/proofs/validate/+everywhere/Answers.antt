@@ -1,8 +1,6 @@
-use Rattle.std.proofs.Common.{◌≡◌, Some, None, sym, ap, ◌∙◌, subst, refl, arith}
-use Rattle.judge.specs.declared.validate.Failure.{Failure}
+use Rattle.std.proofs.Common.{sym, ◌∙◌, subst, refl, arith}
 use Rattle.judge.specs.Working.Standing.{ask_of, path_of, coming_of, Stands, Entering}
 use Rattle.judge.specs.Working.Found.{Found, FailsFrom, Below, FaultsHere}
-use Rattle.judge.proofs.Groups.{one_longer}
 use Rattle.judge.proofs.Places.{stands_there, nothing_stands}
 use Rattle.judge.proofs.Walks.{key_there, nothing_there, nothing_below, below_key, here_as, ahead_at_first, child_found, child_passed, all_passed, room_for_child}
 use Rattle.tree_model.specs.Tree.{child_keys}

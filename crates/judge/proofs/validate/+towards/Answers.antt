@@ -1,9 +1,8 @@
-use Rattle.std.proofs.Common.{◌≡◌, ◌+◌, ◌<◌, ℕ, Bool, false, nat_eq, List, [], ◌∷◌, Some, None, length, drop, slice_get, sym, ap, ◌∙◌, subst, refl, arith}
+use Rattle.std.proofs.Common.{◌≡◌, ◌+◌, ◌<◌, ℕ, Bool, false, nat_eq, List, [], ◌∷◌, Some, length, drop, slice_get, sym, ap, ◌∙◌, subst, refl, arith}
 use Rattle.std.specs.Borrow.{Bor}
 use Rattle.tree_model.specs.Key.{Key}
 use Rattle.tree_model.specs.Path.{Path}
 use Rattle.tree_model.specs.Tree.{first_key}
-use Rattle.judge.specs.declared.validate.Failure.{Failure}
 use Rattle.judge.specs.Working.Standing.{ask_of, path_of, coming_of, Stands, Entering}
 use Rattle.judge.specs.Working.Locations.{paths, rests, PathsAscend, AllBegin, NextIs, NextIsNot}
 use Rattle.judge.specs.Working.Found.{Found, FailsFrom, Below, Near, FaultsHere}
@@ -27,15 +26,15 @@ at_least_one (l ∷ ls) b h e = omega arith
 goes_on : (ls : List Path) (from l : Path) (deep : ℕ) (k : Key) → deep ≡ length from → Some l ≡ slice_get ls 0 → Some k ≡ first_key (drop deep l) → NextIs k (rests (length from) ls)
 goes_on ls from l deep k same first key = next_is k (length from) ls l first (key ∙ ap (λ n. first_key (drop n l)) same)
 
-pub towards-returns-in-Some-own-clause-found : goal.towards-returns-in-Some-own-clause-found
-towards-returns-in-Some-own-clause-found t c =
+pub towards-returns-in-Some-above-clause-found : goal.towards-returns-in-Some-above-clause-found
+towards-returns-in-Some-above-clause-found t c =
     let ask = ask_of c.args.asking.now in
     let from = path_of c.args.spot.now in
     let some = at_least_one c.args.locations.now c.is_empty.result c.is_empty.ensures c.if-is_empty.false in
-    near_here ask (coming_of c.args.asking.now) c.in-Some-coming.field-0.now from (rests (length from) (paths c.args.locations.now)) c.in-Some.field-0.now c.in-Some-own.failure
+    near_here ask (coming_of c.args.asking.now) c.in-Some-coming.field-0.now from (rests (length from) (paths c.args.locations.now)) c.in-Some.field-0.now c.in-Some-above.failure
     (goes_on (paths c.args.locations.now) from c.index-locations-0.result.now c.depth-depth.result c.in-Some.field-0.now c.depth-depth.ensures.depth (first_left c.args.locations.now 0 c.index-locations-0.result some c.index-locations-0.is) c.in-Some.ensures.key)
     (stands_there c.args.asking.now c.args.spot.now c.args.captures.now c.coming.result c.in-Some-coming.field-0 c.requires.here c.in-Some-coming.is c.coming.ensures)
-    (subst (FaultsHere ask from) c.in-Some-own.is c.in_ok-own.ensures)
+    (subst (FaultsHere ask from) c.in-Some-above.is c.in_ok-above.ensures)
 
 pub towards-loop-start-init : goal.towards-loop-start-init
 towards-loop-start-init t c =
@@ -44,7 +43,7 @@ towards-loop-start-init t c =
     let from = path_of c.args.spot.now in (
       near_start (FailsFrom ask (coming_of c.args.asking.now) from) c.in-Some.field-0.now (rests (length from) (paths c.args.locations.now))
           (goes_on (paths c.args.locations.now) from c.index-locations-0.result.now c.depth-depth.result c.in-Some.field-0.now c.depth-depth.ensures.depth (first_left c.args.locations.now 0 c.index-locations-0.result some c.index-locations-0.is) c.in-Some.ensures.key)
-          c.requires.sorted (not_here ask (coming_of c.args.asking.now) from (subst (FaultsHere ask from) c.in_default-own.is c.in_ok-own.ensures)),
+          c.requires.sorted (not_here ask (coming_of c.args.asking.now) from (subst (FaultsHere ask from) c.in_default-above.is c.in_ok-above.ensures)),
       refl,
       omega arith,
     )

@@ -1,4 +1,4 @@
-use Rattle.std.proofs.Common.{◌≡◌, ◌++◌, [], ◌∷◌, sym, ap, ◌∙◌, length, arith}
+use Rattle.std.proofs.Common.{◌++◌, [], ◌∷◌, sym, ap, ◌∙◌, length, arith}
 use Rattle.std.specs.Borrow.{Bor}
 use Rattle.tree_model.specs.Key.{Key}
 use Rattle.judge.proofs.Groups.{back_step, back_end, back_whole, length-back}
