@@ -230,7 +230,7 @@ part_named (sign ∷ rest) =
       | false ↦ λ _. refl
     ] refl
 
-texts_named : (p : Pattern) → texts (map part_of_text p) ≡ p
+pub texts_named : (p : Pattern) → texts (map part_of_text p) ≡ p
 texts_named [] = refl
 texts_named (text ∷ p) = λ i. part_named text i ∷ texts_named p i
 
