@@ -1,8 +1,8 @@
 -- Writes of an update in any order: it is answered alike.
-use Rattle.std.proofs.Common.{◌≡◌, ◌==◌, ℕ, Bool, true, false, cond, not, List, length, map, refl, sym, ap, ◌∙◌}
+use Rattle.std.proofs.Common.{◌≡◌, ◌==◌, ◌||◌, ℕ, Bool, true, false, cond, not, List, length, map, refl, sym, ap, ◌∙◌}
 use Rattle.std.specs.List.Sorted.{IsPermutation}
 use Rattle.std.proofs.lemmas.Bool.{false≢true}
-use Rattle.std.proofs.lemmas.List.Sorted.{IsPermutation-map, IsPermutation-sym, length_permutation}
+use Rattle.std.proofs.lemmas.List.Sorted.{IsPermutation-map, IsPermutation-sym}
 use Rattle.tree_model.specs.Path.{Path}
 use Rattle.tree_model.specs.Tree.{Tree}
 use Rattle.tree_model.specs.Write.{Write, location, overlaps, proposed}
@@ -12,10 +12,11 @@ use Rattle.judge.specs.Question.{Scene}
 use Rattle.judge.specs.Tests.{write_verdict}
 use Rattle.judge.proofs.Tops.{verdict_in_any_order}
 use Rattle.judge.proofs.Verdicts.{writes_decided, one_verdict}
+use Rattle.rtdb_core.specs.declared.event.Event.TheVariants.{Update}
 use Rattle.rtdb_core.specs.declared.reply.Refusal.TheVariants.{NoSession, EmptyUpdate, Overlap}
 use Rattle.rtdb_core.specs.declared.reply.Reply.TheVariants.{Done}
 use Rattle.rtdb_core.specs.State.{State, is_open, scene_at}
-use Rattle.rtdb_core.specs.Step.{Outcome, refused, unless_refused, denial, or_full, tree_with, write_refusal, written_to, makes, updates}
+use Rattle.rtdb_core.specs.Step.{Outcome, refused, unless_refused, denial, or_full, tree_with, write_refusal, written_to, makes, updates, is_refused_at_once}
 
 verdict_same : (scene : Scene) (t : Tree) (ls ms : List Path) → HasOneCapture scene.book → IsPermutation ls ms → write_verdict scene t ls ≡ write_verdict scene t ms
 verdict_same scene t ls ms one p =
@@ -36,13 +37,18 @@ overlap_same ws xs p = by_one (overlaps ws) (overlaps xs) refl refl
     by_one true true e f = e ∙ sym f
     by_one true false e f = absurd (false≢true (sym (overlaps-permutation xs ws (IsPermutation-sym ws xs p) f) ∙ e))
 
--- an update is answered alike, in whatever order its writes stand
-pub updates_same : (old : State) (now session : ℕ) (ws xs : List Write) → HasOneCapture old.rules → IsPermutation ws xs → updates old now session ws ≡ updates old now session xs
-updates_same old now session ws xs one p = by_overlap (overlaps ws) refl
-  where
-    long : length ws ≡ length xs
-    long = sym (length_permutation ws xs p)
+-- ---- an update of an open session that has a write, by what is found of its writes in another order
 
-    by_overlap : (b : Bool) → overlaps ws ≡ b → updates old now session ws ≡ updates old now session xs
-    by_overlap true e = λ i. cond (not (is_open old session)) (refused old NoSession) (cond (long i == 0) (refused old EmptyUpdate) ((ap (λ (c : Bool). cond c (refused old Overlap) (makes old now ws)) e ∙ ap (λ (c : Bool). cond c (refused old Overlap) (makes old now xs)) (sym e ∙ overlap_same ws xs p)) i))
-    by_overlap false e = λ i. cond (not (is_open old session)) (refused old NoSession) (cond (long i == 0) (refused old EmptyUpdate) (cond (overlap_same ws xs p i) (refused old Overlap) (makes_same old now ws xs one p e i)))
+module _ (old : State) (now session : ℕ) (ws xs : List Write) (opened : is_open old session ≡ true) (some : length ws == 0 ≡ false) (p : IsPermutation ws xs) where
+  pub update_overlaps : overlaps xs ≡ true → updates old now session ws ≡ refused old Overlap
+  update_overlaps h =
+      λ i. cond (not (opened i)) (refused old NoSession) (cond (some i) (refused old EmptyUpdate) (cond ((overlap_same ws xs p ∙ h) i) (refused old Overlap) (makes old now ws)))
+
+  pub update_made : HasOneCapture old.rules → overlaps xs ≡ false → updates old now session ws ≡ makes old now xs
+  update_made one h =
+      let apart = overlap_same ws xs p ∙ h in
+      let by : updates old now session ws ≡ makes old now ws = (λ i. cond (not (opened i)) (refused old NoSession) (cond (some i) (refused old EmptyUpdate) (cond (apart i) (refused old Overlap) (makes old now ws)))) in
+      by ∙ makes_same old now ws xs one p apart
+
+  pub update_is_judged : overlaps xs ≡ false → is_refused_at_once old session (Update ws) ≡ false
+  update_is_judged h = λ i. not (opened i) || some i || (overlap_same ws xs p ∙ h) i

@@ -1,8 +1,10 @@
 pub mod Sessions
 pub mod Walks
+pub mod Room
+pub mod Refusing
 pub mod Outcomes
-pub mod Reads
-pub mod Written
+pub mod ReadJudging
+pub mod WriteJudging
 pub mod AnyOrder
 pub mod StepLaws
 pub mod RunLaws

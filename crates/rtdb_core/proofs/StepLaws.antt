@@ -13,8 +13,8 @@ use Rattle.rtdb_core.specs.State.{State}
 use Rattle.rtdb_core.specs.Step.{Outcome, refused, removal, outcome, Step, Call}
 use Rattle.rtdb_core.specs.Headline.{AsksFor, IsReadJudged, IsWriteJudged, IsJudged}
 use Rattle.rtdb_core.proofs.Outcomes.{fine}
-use Rattle.rtdb_core.proofs.Reads.{ReadJudged, read_for_memory, read_judged}
-use Rattle.rtdb_core.proofs.Written.{WriteJudged, write_for_memory, set_judged, update_judged}
+use Rattle.rtdb_core.proofs.ReadJudging.{ReadJudged, read_for_memory, read_judged}
+use Rattle.rtdb_core.proofs.WriteJudging.{WriteJudged, write_for_memory, set_judged, update_judged}
 
 -- ---- laws of every step
 

@@ -7,7 +7,7 @@ use Rattle.tree_model.specs.Write.{Write, location, overlaps}
 use Rattle.path_capture.specs.Pattern as parts
 use Rattle.path_capture.specs.Pattern.{part_of_text}
 use Rattle.rules_reader.specs.Part.{Pattern, texts}
-use Rattle.rules_reader.specs.declared.kind.Kind.TheVariants.{Read as reads, Write as writes}
+use Rattle.rules_reader.specs.declared.kind.Kind.TheVariants.{Read as read_rules, Write as write_rules}
 use Rattle.evaluator.specs.Asked.{no_query}
 use Rattle.judge.specs.Question.{Question, reading, writing}
 use Rattle.judge.specs.Failing.{IsValid, IsFirstFailing}
@@ -33,7 +33,7 @@ GrantsRead before now path = MayRead (scene_at before now) no_query path
 
 -- the `.read` rules at the path and its prefixes, each with the reason why it does not hold
 abbrev pub named_for_read : State → ℕ → Path → List Named
-named_for_read before now path = named_rules (reading (scene_at before now) no_query) reads path
+named_for_read before now path = named_rules (reading (scene_at before now) no_query) read_rules path
 
 -- A read of an open session is answered by what stands there where it is granted, and denied with the names of its rules where it is not, but for want of memory; never the other way; and it changes nothing. (Guide "Core syntax", `.read` and `.write` rules cascade; the names are this project's profile.)
 pub record IsReadJudged (before : State) (now session : ℕ) (path : Path) (reply : Reply) (after : State) : Type 0 where
@@ -69,7 +69,7 @@ IsLeastDenied before now writes at = IsLeastRefused (scene_at before now) (tree_
 
 -- the `.write` rules at the location and its prefixes, each with the reason why it does not hold
 abbrev pub named_for_write : State → ℕ → List Write → Path → List Named
-named_for_write before now all at = named_rules (writing (scene_at before now) (tree_with before all)) writes at
+named_for_write before now writes at = named_rules (writing (scene_at before now) (tree_with before writes)) write_rules at
 
 -- the rules in force validate these writes: each `.validate` holds where it stands at a place that exists in the tree that they propose, at, above or below one of their locations. (Guide "Core syntax", `.validate` rules do not cascade.)
 abbrev pub Validates : State → ℕ → List Write → Type 0

@@ -26,10 +26,14 @@ pub struct Writes {
 }
 
 impl Model for Writes {
-    ghost use Rattle.std.specs.Prelude.{List};
+    ghost use Rattle.std.specs.Prelude.{ℕ, List};
+    ghost use Rattle.std.specs.Coded.{coded×, coded_list, coded_ℕ};
+    ghost use Rattle.tree_model.specs.Tree.{tree_code};
     ghost use Rattle.tree_model.specs.Write.{Write};
 
     ghost Value = { List Write };
+
+    ghost coded = { coded_list (coded× (coded_list (coded_list coded_ℕ)) tree_code) };
 
     ghost view = { λ writes. writes.held.items };
 }

@@ -83,6 +83,7 @@ impl Core {
     /// the same for each of its locations, and what is written. Nothing grows with what is stored beside
     /// them. The arena is for what one event needs: it is reset before anything is placed in it, once no
     /// refusal is left but those of the rules, of room and of memory.
+    #[tactic(auto, unfolding(crate::specs::Step::Step))]
     pub fn step(&mut self, arena: &mut Bump, now: u64, session: u64, event: Event) -> Reply
         requires { now ≤ MAX_MOMENT }
         ensures { Step self.old now session event result self.new }
@@ -200,6 +201,7 @@ impl Core {
         Ok(Reply::Value(tree))
     }
 
+    #[tactic(auto, using(crate::proofs::Room::has_room))]
     fn set(
         &mut self,
         arena: &mut Bump,
@@ -238,6 +240,7 @@ impl Core {
         if !self.is_open(session) {
             return Ok(Reply::Refused(Refusal::NoSession));
         }
+        self.rules();
         let mut writes = writes.into_vec();
         if writes.is_empty() {
             return Ok(Reply::Refused(Refusal::EmptyUpdate));
@@ -250,6 +253,7 @@ impl Core {
     }
 
     // The same of writes of which none overlaps another.
+    #[tactic(auto, using(crate::proofs::Room::has_room))]
     fn update_apart(
         &mut self,
         arena: &mut Bump,
@@ -287,6 +291,7 @@ impl Core {
     }
 
     // Why a read is refused, if it is.
+    #[tactic(auto, unfolding(crate::specs::Step::read_refusal))]
     fn read_refusal(
         &self,
         arena: &Bump,
@@ -303,6 +308,7 @@ impl Core {
     }
 
     // Why writes are refused, if they are.
+    #[tactic(auto, unfolding(crate::specs::Step::write_refusal))]
     fn write_refusal(
         &self,
         arena: &Bump,
@@ -313,6 +319,7 @@ impl Core {
         requires apart { overlaps writes.now ≡ false }
         ensures { IfOk result (λ refusal. refusal ≡ write_refusal self.now now writes.now) }
     {
+        self.rules();
         let coming = overlay(arena, self.tree.as_ref(), writes)?;
         let count = count_in(&coming);
         let scene = self.scene(now);

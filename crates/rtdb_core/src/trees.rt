@@ -11,6 +11,7 @@ use json_tree::{Key, Node};
 use path_capture::{Path, Write};
 
 /// How many locations exist in a stored tree.
+#[tactic(auto, using(crate::proofs::Room::count_null))]
 pub(crate) fn count_of(tree: &Option<Node>) -> usize
     ensures { result ≡ min (count (tree_or_null tree.now)) usize.MAX }
 {
@@ -21,6 +22,7 @@ pub(crate) fn count_of(tree: &Option<Node>) -> usize
 }
 
 /// How many locations exist in a tree that is proposed.
+#[tactic(auto, using(crate::proofs::Room::count_null))]
 pub(crate) fn count_in(coming: &Option<View<'_>>) -> usize
     ensures { result ≡ min (count (tree_or_null coming.now)) usize.MAX }
 {

@@ -1,7 +1,7 @@
 -- Writes are judged together.
 use Rattle.std.proofs.Common.{◌≡◌, ◌≢◌, ◌==◌, ◌≤◌, ◌<◌, ℕ, Bool, true, false, cond, not, List, [], ◌∷◌, length, map, Option, Some, None, refl, sym, ap, subst, ◌∙◌, arith}
 use Rattle.std.specs.Prelude.{nat_le}
-use Rattle.std.proofs.lemmas.Bool.{false≢true, leb-true, leb-false}
+use Rattle.std.proofs.lemmas.Bool.{false≢true, leb-true, leb-false, eqb-true}
 use Rattle.tree_model.specs.Path.{Path}
 use Rattle.tree_model.specs.Tree.{Tree, count}
 use Rattle.tree_model.specs.Write.{Write, location, overlaps}
@@ -196,7 +196,7 @@ update_judged old now session all one = by_session (is_open old session) refl
       where
         nil : (ws : List Write) → length ws == 0 ≡ true → ws ≡ []
         nil [] g = refl
-        nil (w ∷ ws) g = absurd (false≢true g)
+        nil (w ∷ ws) g = let z : length (w ∷ ws) ≡ 0 = eqb-true (length (w ∷ ws)) 0 g in absurd (omega arith)
 
     by_overlap : is_open old session ≡ true → length all == 0 ≡ false → (b : Bool) → overlaps all ≡ b → WriteJudged old now session all (cond b (refused old Overlap) (makes old now all))
     by_overlap e f true g = write_stopped old now session all Overlap refl (λ _ j. false≢true (sym j.apart ∙ g))

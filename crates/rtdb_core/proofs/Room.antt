@@ -1,0 +1,48 @@
+-- How many locations a tree has, and whether that is too many.
+use Rattle.std.proofs.Common.{◌≡◌, ◌≤◌, ◌<◌, ℕ, Bool, true, false, cond, List, [], ◌∷◌, length, map, Option, Some, None, min, refl, sym, ap, ◌∙◌, arith}
+use Rattle.std.specs.Prelude.{nat_le, flat_map}
+use Rattle.std.specs.FinMap as map_of
+use Rattle.std.specs.FinSet as set_of
+use Rattle.std.proofs.lemmas.Bool.{leb-true, leb-false}
+use Rattle.std.specs.List.{list_all}
+use Rattle.std.specs.Cmp.{second_so}
+use Rattle.tree_model.specs.declared.limits.TheConstants.{MAX_DEPTH}
+use Rattle.tree_model.specs.Key.{is_key}
+use Rattle.tree_model.specs.Path.{Path, path_cmp, is_path, prefixes}
+use Rattle.tree_model.specs.Primitive.{Primitive}
+use Rattle.tree_model.specs.Tree.{Tree, null, count, existing}
+use Rattle.tree_model.specs.Write.{Write}
+use Rattle.rtdb_core.specs.declared.limits.TheConstants.{MAX_LOCATIONS}
+use Rattle.rtdb_core.specs.declared.reply.Refusal.{Refusal}
+use Rattle.rtdb_core.specs.declared.reply.Refusal.TheVariants.{TreeFull}
+use Rattle.rtdb_core.specs.State.{State}
+use Rattle.rtdb_core.specs.Step.{denial, full, or_full, tree_with, verdict_on, write_refusal}
+
+nil : {A : Type 0} (xs : List A) → length xs ≡ 0 → xs ≡ []
+nil [] h = refl
+nil (x ∷ xs) h = absurd (omega arith)
+
+pub count_null : count null ≡ 0
+unfolding count existing
+count_null = ap (λ (es : List (Path × Primitive)). set_of.len (set_of.from_list {R = path_cmp} (flat_map prefixes (map (λ e. e.0) es)))) no_entries ∙ set_of.len-empty path_cmp
+  where
+    no_entries : map_of.entries {X = Primitive} {R = path_cmp} map_of.empty ≡ []
+    no_entries = nil (map_of.entries map_of.empty) (sym (map_of.len-entries map_of.empty) ∙ map_of.len-empty path_cmp Primitive)
+
+-- a path has no more keys than it may
+pub short_path : (p : Path) → is_path p ≡ true → length p ≤ MAX_DEPTH
+unfolding is_path
+short_path p h = leb-true (length p) MAX_DEPTH (second_so (list_all is_key p) _ h)
+
+-- writes that are not refused propose a tree that has room
+room_of : (o : Option Refusal) (tree : Tree) → or_full o tree ≡ None → count tree ≤ MAX_LOCATIONS
+room_of (Some refusal) tree h = cc
+room_of None tree h = by_room (nat_le (count tree) MAX_LOCATIONS) refl h
+  where
+    by_room : (b : Bool) → nat_le (count tree) MAX_LOCATIONS ≡ b → cond b None (Some TreeFull) ≡ None → count tree ≤ MAX_LOCATIONS
+    by_room true e g = leb-true (count tree) MAX_LOCATIONS e
+    by_room false e g = cc
+
+pub has_room : (old : State) (now : ℕ) (writes : List Write) → write_refusal old now writes ≡ None → count (tree_with old writes) ≤ MAX_LOCATIONS
+unfolding write_refusal
+has_room old now writes h = room_of (denial (verdict_on old now writes)) (tree_with old writes) h
