@@ -3,7 +3,8 @@ use bumpalo::Bump;
 use json_tree::{Leaf, Node};
 use path_capture::Pattern;
 use rtdb_core::{Core, Event, Named, NamedRules, Refusal, Reply, Why};
-use sessions::{Form, MessageFault, Stamp, read_header, read_request, write_reply};
+use rules_reader::compile;
+use sessions::{Form, MessageFault, Stamp, read_request, write_reply};
 use std::alloc::AllocError;
 
 const SOCKET: Form = Form::Socket(Stamp { now: 5, session: 7 });
@@ -113,8 +114,8 @@ fn a_rule_that_errs_is_named_so(rt: HostRuntime) -> Result<(), AllocError> {
 
 #[test]
 fn a_core_shows_its_tree_its_rules_and_its_sessions(rt: HostRuntime) {
-    let header = br#"{"rules":"{\"rules\":{\".read\":true,\"a\":{\".write\":false}}}"}"#;
-    let Ok(rules) = read_header(rt.alloc(), header) else {
+    let file = br#"{"rules":{".read":true,"a":{".write":false}}}"#;
+    let Ok(rules) = compile(rt.alloc(), file) else {
         assert!(rt; false);
         return;
     };
@@ -122,7 +123,10 @@ fn a_core_shows_its_tree_its_rules_and_its_sessions(rt: HostRuntime) {
         assert!(rt; false);
         return;
     };
-    let mut core = Core::new(rt.alloc(), rules, Some(node));
+    let Ok(mut core) = Core::new(rt.alloc(), rules, Some(node)) else {
+        assert!(rt; false);
+        return;
+    };
     assert!(rt; core.rules().count() == 2);
     assert!(rt; core.sessions() == 0);
     let mut arena = Bump::new(rt.alloc());

@@ -10,7 +10,7 @@ pub struct Row {
     pub end: ScriptEnd,
 }
 
-pub const ROWS: [Row; 25] = [
+pub const ROWS: [Row; 29] = [
     Row {
         name: "deeper_grant_stays_deep",
         input: br#"{"rules":"{\"rules\":{\".read\":false,\"a\":{\".read\":false,\"b\":{\".read\":true}}}}"}
@@ -50,8 +50,6 @@ pub const ROWS: [Row; 25] = [
         input: br#"{"rules":"{\"rules\":{\".read\":true,\".write\":true}}"}
 {"do":"open","now":1,"s":1}
 {"do":"get","now":1,"path":"/","query":{},"s":1}
-{"do":"update","now":1,"path":"/","s":1,"values":{"a":1}}
-{"do":"remove","now":1,"path":"/","s":1}
 {"do":"close","now":1,"s":1}
 {"do":"signout","now":1,"s":1}
 {"do":"poll","now":1,"s":1}
@@ -59,8 +57,6 @@ pub const ROWS: [Row; 25] = [
 "#,
         output: br#"{"ok":true,"rules":2}
 {"ok":true}
-{"code":102,"name":"BadRequest","ok":false}
-{"code":102,"name":"BadRequest","ok":false}
 {"code":102,"name":"BadRequest","ok":false}
 {"code":102,"name":"BadRequest","ok":false}
 {"code":102,"name":"BadRequest","ok":false}
@@ -94,12 +90,16 @@ pub const ROWS: [Row; 25] = [
         end: ScriptEnd::Finished,
     },
     Row {
-        name: "an expression that is not judged yet",
+        name: "nobody is signed in",
         input: br#"{"rules":"{\"rules\":{\"a\":{\".read\":\"auth != null\"}}}"}
+{"do":"open","now":1,"s":1}
+{"do":"get","now":1,"path":"/a","s":1}
 "#,
-        output: br#"{"at":"/","code":402,"name":"BadRulesShape","ok":false}
+        output: br#"{"ok":true,"rules":1}
+{"ok":true}
+{"code":501,"name":"ReadDenied","ok":false,"rules":[{"pattern":"/a","why":"false"}]}
 "#,
-        end: ScriptEnd::BadHeader,
+        end: ScriptEnd::Finished,
     },
     Row {
         name: "an expression that is none",
@@ -120,8 +120,28 @@ pub const ROWS: [Row; 25] = [
     Row {
         name: "a header with data",
         input: br#"{"data":1,"rules":"{\"rules\":{\".read\":true,\".write\":true}}"}
+{"do":"open","now":1,"s":1}
+{"do":"get","now":1,"path":"/","s":1}
 "#,
-        output: br#"{"code":102,"name":"BadRequest","ok":false}
+        output: br#"{"ok":true,"rules":2}
+{"ok":true}
+{"ok":true,"value":1}
+"#,
+        end: ScriptEnd::Finished,
+    },
+    Row {
+        name: "a header with data that is not lawful",
+        input: br#"{"data":1.5,"rules":"{\"rules\":{}}"}
+"#,
+        output: br#"{"code":104,"name":"BadValue","ok":false}
+"#,
+        end: ScriptEnd::BadHeader,
+    },
+    Row {
+        name: "the rules of a header before its data",
+        input: br#"{"data":1.5,"rules":"{"}
+"#,
+        output: br#"{"code":401,"name":"BadRulesJson","ok":false}
 "#,
         end: ScriptEnd::BadHeader,
     },
@@ -160,12 +180,66 @@ pub const ROWS: [Row; 25] = [
         end: ScriptEnd::BadHeader,
     },
     Row {
-        name: "a file that validates",
-        input: br#"{"rules":"{\"rules\":{\"a\":{\".validate\":true}}}"}
+        name: "validation reaches up",
+        input: br#"{"rules":"{\"rules\":{\".read\":true,\".write\":true,\"w\":{\"$id\":{\".validate\":\"newData.hasChildren(['color','size'])\"}}}}"}
+{"do":"open","now":1,"s":1}
+{"do":"set","now":1,"path":"/w/1","s":1,"value":{"color":"red"}}
+{"do":"set","now":1,"path":"/w/1","s":1,"value":{"color":"red","size":3}}
+{"do":"remove","now":1,"path":"/w/1/size","s":1}
+{"do":"remove","now":1,"path":"/w/1","s":1}
+{"do":"get","now":1,"path":"/","s":1}
 "#,
-        output: br#"{"at":"/","code":402,"name":"BadRulesShape","ok":false}
+        output: br#"{"ok":true,"rules":3}
+{"ok":true}
+{"at":"/w/1","code":503,"name":"ValidateDenied","ok":false,"pattern":"/w/$id","why":"false"}
+{"ok":true}
+{"at":"/w/1","code":503,"name":"ValidateDenied","ok":false,"pattern":"/w/$id","why":"false"}
+{"ok":true}
+{"ok":true,"value":null}
 "#,
-        end: ScriptEnd::BadHeader,
+        end: ScriptEnd::Finished,
+    },
+    Row {
+        name: "an update is judged whole",
+        input: br#"{"rules":"{\"rules\":{\"a\":{\".write\":\"newData.parent().child('b/n').val() == newData.child('n').val()\"},\"b\":{\".write\":\"newData.parent().child('a/n').val() == newData.child('n').val()\"}}}"}
+{"do":"open","now":1,"s":1}
+{"do":"set","now":1,"path":"/a/n","s":1,"value":1}
+{"do":"set","now":1,"path":"/b/n","s":1,"value":1}
+{"do":"update","now":1,"path":"/","s":1,"values":{"a/n":1,"b/n":1}}
+"#,
+        output: br#"{"ok":true,"rules":2}
+{"ok":true}
+{"at":"/a/n","code":502,"name":"WriteDenied","ok":false,"rules":[{"pattern":"/a","why":"false"}]}
+{"at":"/b/n","code":502,"name":"WriteDenied","ok":false,"rules":[{"pattern":"/b","why":"false"}]}
+{"ok":true}
+"#,
+        end: ScriptEnd::Finished,
+    },
+    Row {
+        name: "updates that are refused",
+        input: br#"{"rules":"{\"rules\":{\".write\":true}}"}
+{"do":"open","now":1,"s":1}
+{"do":"update","now":1,"path":"/","s":1,"values":{"a/b":1,"a//b":2}}
+{"do":"update","now":1,"path":"/","s":1,"values":{"a":1,"a/b":2}}
+{"do":"update","now":1,"path":"/","s":1,"values":{}}
+{"do":"update","now":1,"path":"/","s":1,"values":{"a":null}}
+{"do":"update","now":1,"path":"/","s":1,"values":{"":{"x":1}}}
+{"do":"update","now":1,"path":"/","s":1,"values":[1]}
+{"do":"update","now":1,"path":"/a","s":1,"values":{"b.c":1,"d":1.5}}
+{"do":"update","now":1,"path":"/a","s":1,"values":{"b":1.5,"d.e":1}}
+"#,
+        output: br#"{"ok":true,"rules":1}
+{"ok":true}
+{"code":108,"name":"Overlap","ok":false}
+{"code":108,"name":"Overlap","ok":false}
+{"code":107,"name":"EmptyUpdate","ok":false}
+{"ok":true}
+{"ok":true}
+{"code":102,"name":"BadRequest","ok":false}
+{"code":103,"name":"BadPath","ok":false}
+{"code":104,"name":"BadValue","ok":false}
+"#,
+        end: ScriptEnd::Finished,
     },
     Row {
         name: "first_script",

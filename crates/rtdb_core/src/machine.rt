@@ -39,6 +39,7 @@ pub struct Core {
 }
 
 /// The tree has more than [`MAX_LOCATIONS`] locations. Rules and tree are handed back.
+#[derive(Drop)]
 pub struct TooLarge {
     pub rules: Rules,
     pub tree: Option<Node>,

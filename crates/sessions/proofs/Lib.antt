@@ -11,3 +11,4 @@ pub mod Going
 pub mod Ending
 pub mod Running
 pub mod InFull
+pub mod Members

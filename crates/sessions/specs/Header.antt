@@ -18,8 +18,8 @@ pub record HasRules (line : List ℕ) (header : Header) (book : Book) : Type 0 w
 
 -- The state that a header opens, or its first fault: of the line, then of the rules file, then of the opening tree, whose locations are counted last. Want of memory may come in the place of any. (This project's profile.)
 abbrev pub Opens : List ℕ → Result State HeaderFault → Type 0
-Opens line (Ok state) = (header : Header) × (book : Book) × (tree : Tree) × HasRules line header book × (opening_tree header.data ≡ Ok tree) × (count tree ≤ MAX_LOCATIONS) × (state ≡ opening book tree)
+Opens line (Ok state) = (header : Header) × (book : Book) × (tree : Tree) × HasRules line header book × (opening_tree header.opening ≡ Ok tree) × (count tree ≤ MAX_LOCATIONS) × (state ≡ opening book tree)
 Opens line (Err (Line fault)) = (fault ≡ NoMemory) ⊎ (header_in line ≡ Err fault)
 Opens line (Err (Rules fault)) = (header : Header) × (header_in line ≡ Ok header) × Refuses header.rules fault
-Opens line (Err (Data fault)) = (header : Header) × (book : Book) × HasRules line header book × ((fault ≡ NoMemory) ⊎ (opening_tree header.data ≡ Err fault))
-Opens line (Err TreeFull) = (header : Header) × (book : Book) × (tree : Tree) × HasRules line header book × (opening_tree header.data ≡ Ok tree) × (MAX_LOCATIONS < count tree)
+Opens line (Err (Data fault)) = (header : Header) × (book : Book) × HasRules line header book × ((fault ≡ NoMemory) ⊎ (opening_tree header.opening ≡ Err fault))
+Opens line (Err TreeFull) = (header : Header) × (book : Book) × (tree : Tree) × HasRules line header book × (opening_tree header.opening ≡ Ok tree) × (MAX_LOCATIONS < count tree)

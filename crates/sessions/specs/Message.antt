@@ -182,11 +182,11 @@ asks form bytes = unless_fault (value_of bytes) (request_of form)
 -- what a header has: the text of a rules file, and perhaps the value that the opening tree is
 pub record Header : Type 0 where
   pub rules : List ℕ
-  pub data : Option Data
+  pub opening : Option Data
 
 -- an object with the member `rules`, a text, perhaps the member `data`, and no other
 abbrev pub header_of : Data → Option Header
-header_of d = if has_only (codes "rules" ∷ codes "data" ∷ []) d then option_map (λ rules. record { rules = rules; data = get (codes "data") d }) (text_at (codes "rules") d) else None
+header_of d = if has_only (codes "rules" ∷ codes "data" ∷ []) d then option_map (λ rules. record { rules = rules; opening = get (codes "data") d }) (text_at (codes "rules") d) else None
 
 -- what the header of a line has, or its first fault
 unfoldable pub header_in : List ℕ → Result Header MessageFault

@@ -3,4 +3,4 @@ pub mod Parts
 pub mod Sent
 pub mod Follow
 pub mod Faults
-pub mod Members
+pub mod Opening

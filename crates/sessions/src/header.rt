@@ -1,18 +1,19 @@
 //! The header of a script: the rules file that its requests are judged by, and the opening tree.
-ghost use Rattle.std.specs.Prelude.{◌≡◌, ◌∷◌, [], codes, option_map};
+ghost use Rattle.std.specs.Prelude.{◌≡◌, ◌∷◌, [], Ok, codes, Option, option_map};
 ghost use Rattle.std.specs.List.{list_all, list_any};
 ghost use Rattle.std.specs.Str.{bytes_eq};
 ghost use Rattle.serde_json.specs.View.{view, members_view};
 ghost use Rattle.path_capture.specs.Write.{tree_or_null};
 ghost use Rattle.sessions.specs.Message.{Tells, names_of, has_only, header_of, opening_tree};
 ghost use Rattle.sessions.specs.Header.{Opens};
-ghost use Rattle.sessions.specs.Working.Members.{header_seen};
+ghost use Rattle.sessions.specs.Working.Opening.{OpensBy, header_seen};
+ghost use Rattle.serde_json.specs.Data.{Data as AnyData};
 ghost use Rattle.sessions.specs.declared.header.HeaderFault.TheVariants.{Line as of_line, Rules as of_rules};
 
 use crate::message::{MessageFault, read_value, text_at, tree_of_value};
 use json_tree::Node;
 use rtdb_core::Core;
-use rules_reader::{RulesFault, compile};
+use rules_reader::{Rules, RulesFault, compile};
 use serde_json::{Map, Value};
 use std::alloc::Global;
 
@@ -44,9 +45,10 @@ impl From<RulesFault> for HeaderFault {
 }
 
 // What a header has.
+#[derive(Clone, Copy)]
 struct Header<'a> {
     rules: &'a str,
-    data: Option<&'a Value>,
+    opening: Option<&'a Value>,
 }
 
 /// The database that a header opens, or its first fault: a pass over the line, those of its rules
@@ -60,10 +62,22 @@ pub fn read_header(alloc: Global, line: &[u8]) -> Result<Core, HeaderFault>
         return Err(HeaderFault::Line(MessageFault::BadRequest));
     };
     let rules = compile(alloc, header.rules.as_bytes())?;
-    let tree = match opening_tree(alloc, header.data) {
-        Ok(tree) => tree,
-        Err(fault) => return Err(HeaderFault::Data(fault)),
-    };
+    open(alloc, rules, header.opening)
+}
+
+// The database with these rules and the tree of this value.
+fn open(alloc: Global, rules: Rules, opening: Option<&Value>) -> Result<Core, HeaderFault>
+    ensures { OpensBy rules (option_map (λ value. view value.now) opening.entry) result }
+{
+    match opening_tree(alloc, opening) {
+        Ok(tree) => with_tree(alloc, rules, tree),
+        Err(fault) => Err(HeaderFault::Data(fault)),
+    }
+}
+
+fn with_tree(alloc: Global, rules: Rules, tree: Option<Node>) -> Result<Core, HeaderFault>
+    ensures { (value : Option AnyData) → opening_tree value ≡ Ok (tree_or_null tree) → OpensBy rules value result }
+{
     match Core::new(alloc, rules, tree) {
         Ok(core) => Ok(core),
         Err(_) => Err(HeaderFault::TreeFull),
@@ -71,10 +85,10 @@ pub fn read_header(alloc: Global, line: &[u8]) -> Result<Core, HeaderFault>
 }
 
 // The tree of the member `data`: null where there is none.
-fn opening_tree(alloc: Global, data: Option<&Value>) -> Result<Option<Node>, MessageFault>
-    ensures { Tells tree_or_null result (opening_tree (option_map (λ value. view value.now) data)) }
+fn opening_tree(alloc: Global, opening: Option<&Value>) -> Result<Option<Node>, MessageFault>
+    ensures { Tells tree_or_null result (opening_tree (option_map (λ value. view value.now) opening.entry)) }
 {
-    match data {
+    match opening {
         Some(value) => tree_of_value(alloc, value),
         None => Ok(None),
     }
@@ -90,7 +104,7 @@ fn header_of(value: &Value) -> Option<Header<'_>>
     let rules = text_at(value, "rules")?;
     Some(Header {
         rules,
-        data: value.get("data"),
+        opening: value.get("data"),
     })
 }
 

@@ -1,5 +1,5 @@
 //! Messages: what a line of a script or a message of a socket asks.
-ghost use Rattle.std.specs.Prelude.{◌≡◌, ◌≤◌, ◌++◌, option_map, IfOk, IfSome};
+ghost use Rattle.std.specs.Prelude.{◌≡◌, ◌≤◌, ◌++◌, ◌∷◌, [], option_map, IfOk, IfSome, OnOk};
 ghost use Rattle.std.specs.List.{list_all, list_any};
 ghost use Rattle.std.specs.Str.{bytes_eq};
 ghost use Rattle.serde_json.specs.View.{view, members_view};
@@ -290,6 +290,7 @@ fn update_of(alloc: Global, value: &Value) -> Result<Event, MessageFault>
 }
 
 // The writes of an update, whose members stand in the byte order of their names.
+#[tactic(auto, using(crate::proofs::Members::at_first, crate::proofs::Members::at_last, crate::proofs::Members::one_more, crate::proofs::Members::at_fault))]
 fn writes_below(
     alloc: Global,
     path: &Path,
@@ -297,12 +298,25 @@ fn writes_below(
 ) -> Result<Vec<Write>, MessageFault>
     ensures { Tells (λ writes. writes.items) result (writes_below path.now (members_view members.now.entries)) }
 {
-    let mut writes = Vec::with_capacity(alloc, members.len())?;
+    let mut writes = with_room(alloc, members.len())?;
     for (name, value) in members.iter() {
         let write = write_below(alloc, path, name.as_str(), value)?;
-        writes.push(write)?;
+        keep(&mut writes, write)?;
     }
     Ok(writes)
+}
+
+fn with_room(alloc: Global, count: usize) -> Result<Vec<Write>, NoMemory>
+    ensures { IfOk result (λ writes. writes.items ≡ []) }
+{
+    Ok(Vec::with_capacity(alloc, count)?)
+}
+
+fn keep(writes: &mut Vec<Write>, write: Write) -> Result<(), NoMemory>
+    ensures { OnOk result (writes.new.items ≡ writes.old.items ++ write ∷ []) }
+{
+    writes.push(write)?;
+    Ok(())
 }
 
 fn write_below(
