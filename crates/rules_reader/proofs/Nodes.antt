@@ -1,12 +1,11 @@
 -- What holds of every rule node, and whether it has a rule that is not judged yet.
-use Rattle.std.proofs.Common.{◌≡◌, ℕ, ◌+◌, true, ◌||◌, List, [], ◌∷◌, map, length, Option, is_some, sym, ap, ◌∙◌, refl}
-use Rattle.std.specs.List.{AllByRecursion, sum_by, list_any}
+use Rattle.std.proofs.Common.{◌≡◌, ℕ, true, ◌||◌, List, [], ◌∷◌, map, Option, is_some, ap, ◌∙◌, refl}
+use Rattle.std.specs.List.{AllByRecursion, list_any}
 use Rattle.std.specs.FinMap as map_of
-use Rattle.std.proofs.lemmas.List.Sums.{sum_by-cons}
 use Rattle.path_capture.specs.declared.pattern.Part.{Part}
 use Rattle.expr_types.specs.Checked.{Checked}
-use Rattle.rules_reader.specs.Part.{PartText, Pattern}
-use Rattle.rules_reader.specs.Book.{Stated, Book, rules, has_unjudged, own_unjudged}
+use Rattle.rules_reader.specs.Part.{Pattern}
+use Rattle.rules_reader.specs.Book.{Stated, has_unjudged, own_unjudged}
 use Rattle.rules_reader.specs.Place.{HasOneCapture, one_capture_at_most}
 use Rattle.rules_reader.specs.Node.{Point, grown, text_of, books, names, unjudged_below, IsChild, IsNode}
 use Rattle.rules_reader.specs.Working.NodeFalls.{get-grown-root}

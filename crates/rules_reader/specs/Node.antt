@@ -1,6 +1,6 @@
 -- What a rule node is seen as: a point of a rules file.
-use Rattle.std.specs.Prelude.{◌≡◌, ℕ, ◌++◌, List, [], ◌∷◌, map, length, flat_map, Bool, true, false, Option, Some, MatchOption, refl, slice_get, option_map}
-use Rattle.std.specs.List.{AllByRecursion, list_any, sum_by}
+use Rattle.std.specs.Prelude.{◌≡◌, ℕ, ◌++◌, List, [], ◌∷◌, map, flat_map, Bool, true, false, Option, Some, MatchOption, refl, slice_get, option_map}
+use Rattle.std.specs.List.{AllByRecursion, list_any}
 use Rattle.std.specs.FinMap as map_of
 use Rattle.std.specs.Coded.{Coded, code_by, coded×, coded_ℕ, coded_list}
 use Rattle.tree_model.specs.Key.{Key, key_cmp}
@@ -8,7 +8,7 @@ use Rattle.tree_model.specs.PathMap.{sub, exists, under}
 use Rattle.path_capture.specs.declared.pattern.Part.{Part}
 use Rattle.path_capture.specs.Pattern.{part_of, part_text}
 use Rattle.rules_reader.specs.Part.{PartText, Pattern, is_capture}
-use Rattle.rules_reader.specs.Book.{Stated, BookOf, Book, rules, has_unjudged, stated_for, book_code}
+use Rattle.rules_reader.specs.Book.{Stated, BookOf, Book, has_unjudged, stated_for, book_code}
 use Rattle.rules_reader.specs.declared.kind.Kind.{Kind}
 use Rattle.rules_reader.specs.Spelled.{IsLawful}
 use Rattle.expr_types.specs.Checked.{Checked}

@@ -1,8 +1,6 @@
 //! The rules of one object of a rules file.
-ghost use Rattle.std.specs.Prelude.{◌≡◌, ◌≤◌, Option, length, option_map};
-ghost use Rattle.expr_types.specs.Checked as checked;
-ghost use Rattle.rules_reader.specs.Part.{Pattern};
-ghost use Rattle.rules_reader.specs.Book.{stated, stated_for, stated_count, is_literal, is_more, own_unjudged};
+ghost use Rattle.std.specs.Prelude.{◌≡◌, option_map};
+ghost use Rattle.rules_reader.specs.Book.{stated_for, is_literal, is_more, own_unjudged};
 
 use crate::kind::Kind;
 use expr_parser::Expr;
@@ -62,14 +60,6 @@ impl RuleSet {
     {
         is_more(&self.read) || self.validate.is_some() || is_more(&self.write)
     }
-
-    /// How many rules are stated.
-    pub(crate) fn count(&self) -> usize
-        ensures stated { result ≡ stated_count self.now }
-        ensures few { result ≤ 3 }
-    {
-        count_of(&self.read) + (count_of(&self.validate) + count_of(&self.write))
-    }
 }
 
 // Whether there is a rule that is neither the literal true nor the literal false.
@@ -86,15 +76,4 @@ fn is_literal(rule: &Checked) -> bool
     ensures { result ≡ is_literal rule.now.tree }
 {
     matches!(rule.expr(), Expr::True | Expr::False)
-}
-
-// One rule, or none.
-fn count_of(rule: &Option<Checked>) -> usize
-    ensures stated { (at : Pattern) (kind : Kind) → result ≡ length (stated {A = checked.Checked} at kind rule.now) }
-    ensures few { result ≤ 1 }
-{
-    match rule {
-        Some(_) => 1,
-        None => 0,
-    }
 }
