@@ -7,6 +7,7 @@ use rules_reader::Rules;
 /// What one step of the database judges by: the rules in force, who asks if somebody is signed in, the
 /// moment, and the whole tree before the step, if it is not null. (Reference, variables: `auth`, `now`,
 /// `root` and `data`.)
+#[derive(Drop)]
 pub struct Scene<'a> {
     pub rules: &'a Rules,
     pub auth: Option<&'a Identity>,
