@@ -7,7 +7,7 @@ ghost use Rattle.expr_types.specs.declared.sort.Sort.{Sort};
 ghost use Rattle.expr_types.specs.HasSort.{is_value};
 ghost use Rattle.evaluator.specs.Value as meanings;
 ghost use Rattle.evaluator.specs.Value.{as_value, sort_of_part};
-ghost use Rattle.evaluator.specs.Operators.{in_truth, as_truth, operated, chosen};
+ghost use Rattle.evaluator.specs.Operators.{in_truth, as_truth, other_truth, minus_of, operated};
 ghost use Rattle.evaluator.specs.Calls.{call_of, called_with, called_with_two, called_with_list, have_children};
 ghost use Rattle.evaluator.specs.Env.{env_of, Suits};
 ghost use Rattle.evaluator.specs.Mean.{mean, given as meant, values};
@@ -48,14 +48,8 @@ fn part<'a>(arena: &'a Bump, expr: &'a Expr, env: &Env<'a>) -> Result<Part<'a>, 
             let receiver = part(arena, receiver, env)?;
             call(arena, receiver, name.as_str(), given.as_slice(), env)
         }
-        Expr::Not(inner) => {
-            let b = truth(arena, inner, env)?;
-            Ok(Part::Value(Value::Truth(!b)))
-        }
-        Expr::Negate(inner) => {
-            let number = value(arena, inner, env)?;
-            Ok(Part::Value(wanted(minus_of(number))?))
-        }
+        Expr::Not(inner) => Ok(Part::Value(other_truth(arena, inner, env)?)),
+        Expr::Negate(inner) => Ok(Part::Value(opposite(arena, inner, env)?)),
         Expr::Operation(operator, left, right) => {
             let first = value(arena, left, env)?;
             let both = operation(arena, *operator, first, right, env)?;
@@ -87,6 +81,26 @@ fn truth<'a>(arena: &'a Bump, expr: &'a Expr, env: &Env<'a>) -> Result<bool, Sto
 {
     let value = value(arena, expr, env)?;
     wanted(in_truth(value))
+}
+
+// The other boolean.
+#[cycle(evaluation)]
+fn other_truth<'a>(arena: &'a Bump, expr: &'a Expr, env: &Env<'a>) -> Result<Value<'a>, Stop>
+    ensures value { IfOk result (λ v. other_truth (as_value (mean (view expr.now) (env_of env.now))) ≡ Some (value_of v)) }
+    ensures erred { IsErrOf result Stop.Erred → other_truth (as_value (mean (view expr.now) (env_of env.now))) ≡ None }
+{
+    let b = truth(arena, expr, env)?;
+    Ok(Value::Truth(!b))
+}
+
+// The number with the other sign.
+#[cycle(evaluation)]
+fn opposite<'a>(arena: &'a Bump, expr: &'a Expr, env: &Env<'a>) -> Result<Value<'a>, Stop>
+    ensures value { IfOk result (λ v. option_and_then minus_of (as_value (mean (view expr.now) (env_of env.now))) ≡ Some (value_of v)) }
+    ensures erred { IsErrOf result Stop.Erred → option_and_then minus_of (as_value (mean (view expr.now) (env_of env.now))) ≡ None }
+{
+    let number = value(arena, expr, env)?;
+    wanted(minus_of(number))
 }
 
 // What an operator gives behind its left value. Where that decides, the right operand is not evaluated.

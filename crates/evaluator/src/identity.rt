@@ -1,5 +1,5 @@
 //! Who asks: an identity, and its claims.
-ghost use Rattle.std.specs.Prelude.{◌≡◌, ◌++◌, ◌≤◌, [], ◌∷◌, length, option_map, slice_get, string_bytes, IfOk, OnOk, OnErr};
+ghost use Rattle.std.specs.Prelude.{◌≡◌, ◌++◌, ◌≤◌, [], ◌∷◌, length, option_map, string_bytes, IfOk, OnOk, OnErr};
 ghost use Rattle.json_tree.specs.Leaf.{primitive_of};
 ghost use Rattle.evaluator.specs.Identity as identities;
 ghost use Rattle.evaluator.specs.Identity.{claim_named, claimed, AreLawfulClaims, IsLawfulIdentity};

@@ -1,0 +1,155 @@
+//! Snapshots: what is asked of a location where nothing, a primitive of each type, or children stand,
+//! and which locations `child` and `parent` give.
+use crate::scene::{Scene, answer_in, asked_by_nobody};
+use crate::tables::{LongRow, Row, first_other, first_other_of_long};
+use std::alloc::Global;
+use std::test::Fail;
+
+const TREE: &str =
+    "{\"b\":true,\"g\":{\"x\":{\"y\":1}},\"n\":1,\"p\":{\"q\":1},\"t\":\"x\",\"\u{e9}\":{\"\u{20ac}\":{\"\u{1d11e}\":2}}}";
+
+const CALLS: [&str; 11] = [
+    "val() == null",
+    "val() == true",
+    "val() == 1",
+    "val() == 'x'",
+    "val() != null",
+    "exists()",
+    "hasChildren()",
+    "hasChild('q')",
+    "isNumber()",
+    "isString()",
+    "isBoolean()",
+];
+
+// A location, and whether each call holds there.
+const LOCATIONS: [(&str, [&str; 11]); 6] = [
+    (
+        "z",
+        [
+            "yes", "no", "no", "no", "no", "no", "no", "no", "no", "no", "no",
+        ],
+    ),
+    (
+        "b",
+        [
+            "no", "yes", "no", "no", "yes", "yes", "no", "no", "no", "no", "yes",
+        ],
+    ),
+    (
+        "n",
+        [
+            "no", "no", "yes", "no", "yes", "yes", "no", "no", "yes", "no", "no",
+        ],
+    ),
+    (
+        "t",
+        [
+            "no", "no", "no", "yes", "yes", "yes", "no", "no", "no", "yes", "no",
+        ],
+    ),
+    (
+        "p",
+        [
+            "no", "no", "no", "no", "yes", "yes", "yes", "yes", "no", "no", "no",
+        ],
+    ),
+    (
+        "g",
+        [
+            "no", "no", "no", "no", "yes", "yes", "yes", "no", "no", "no", "no",
+        ],
+    ),
+];
+
+// The first call of another outcome at a location, and that; else nothing.
+fn first_other_call(
+    alloc: Global,
+    scene: &Scene,
+    location: &str,
+    wanted: [&str; 11],
+) -> Result<String, Fail> {
+    for (call, want) in CALLS.iter().zip(&wanted) {
+        let text = format!(in alloc; "root.child('{location}').{call}")?;
+        let found = answer_in(alloc, scene, text.as_str());
+        if found != *want {
+            return Ok(format!(in alloc; "{text}: {found} and not {want}")?);
+        }
+    }
+    Ok(String::new(alloc))
+}
+
+fn first_other_location(alloc: Global, scene: &Scene) -> Result<String, Fail> {
+    for (location, wanted) in LOCATIONS {
+        let other = first_other_call(alloc, scene, location, wanted)?;
+        if !other.is_empty() {
+            return Ok(other);
+        }
+    }
+    Ok(String::new(alloc))
+}
+
+#[test]
+fn what_stands_at_a_location(rt: HostRuntime) -> Result<(), Fail> {
+    let scene = asked_by_nobody(rt.alloc(), TREE)?;
+    let other = first_other_location(rt.alloc(), &scene)?;
+    assert_eq!(rt; other.as_str(), "");
+    Ok(())
+}
+
+const PATHS: [Row; 26] = [
+    ("root.child('p/q').val() == 1", "yes"),
+    ("root.child('/p//q/').val() == 1", "yes"),
+    ("root.child('p').child('q').val() == 1", "yes"),
+    ("root.child('p').child('').hasChild('q')", "yes"),
+    ("root.child('/').hasChild('p')", "yes"),
+    ("root.hasChild('')", "yes"),
+    ("root.child('z').hasChild('')", "no"),
+    ("root.child('\u{e9}/\u{20ac}/\u{1d11e}').val() == 2", "yes"),
+    ("root.hasChildren(['p/q', 'n', 'g/x/y'])", "yes"),
+    ("root.hasChildren(['p/q', 'n', 'g/x/z'])", "no"),
+    ("root.hasChildren(['z', 'a.b'])", "erred"),
+    ("root.child('p/q').parent().hasChild('q')", "yes"),
+    ("root.child('z/y').parent().parent().hasChild('p')", "yes"),
+    ("root.child('z/y').parent().exists()", "no"),
+    ("root.child('p').parent().parent().exists()", "erred"),
+    ("root.parent().exists()", "erred"),
+    ("root.child('').parent().exists()", "erred"),
+    ("data.child('p').exists() && data.hasChildren()", "yes"),
+    ("root.child('a.b').exists()", "erred"),
+    ("root.child('a/$b').exists()", "erred"),
+    ("root.child('a#').exists()", "erred"),
+    ("root.child('a[').exists()", "erred"),
+    ("root.child('a]').exists()", "erred"),
+    ("root.child('a\\u007f').exists()", "erred"),
+    ("root.child('a\\n').exists()", "erred"),
+    ("root.child('a b').exists()", "no"),
+];
+
+#[test]
+fn where_child_and_parent_lead(rt: HostRuntime) -> Result<(), Fail> {
+    let scene = asked_by_nobody(rt.alloc(), TREE)?;
+    let other = first_other(rt.alloc(), &scene, &PATHS)?;
+    assert_eq!(rt; other.as_str(), "");
+    Ok(())
+}
+
+// A path has at most 32 keys, also where it is made in two steps, and a key at most 768 bytes.
+const LONG_PATHS: [LongRow; 8] = [
+    ("root.hasChild('", "k/", 32, "')", "no"),
+    ("root.hasChild('", "k/", 33, "')", "erred"),
+    ("root.child('k').hasChild('", "k/", 31, "')", "no"),
+    ("root.child('k').hasChild('", "k/", 32, "')", "erred"),
+    ("root.hasChild('", "k", 768, "')", "no"),
+    ("root.hasChild('", "k", 769, "')", "erred"),
+    ("root.hasChild('", "\u{20ac}", 256, "')", "no"),
+    ("root.hasChild('k", "\u{20ac}", 256, "')", "erred"),
+];
+
+#[test]
+fn the_longest_paths(rt: HostRuntime) -> Result<(), Fail> {
+    let scene = asked_by_nobody(rt.alloc(), TREE)?;
+    let other = first_other_of_long(rt.alloc(), &scene, &LONG_PATHS)?;
+    assert_eq!(rt; other.as_str(), "");
+    Ok(())
+}
