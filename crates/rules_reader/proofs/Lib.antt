@@ -2,7 +2,6 @@ pub mod Books
 pub mod Standing
 pub mod Faulty
 pub mod Grown
-pub mod Unjudged
 pub mod Steps
 pub mod Ahead
 pub mod NameLemmas

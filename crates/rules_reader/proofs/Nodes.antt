@@ -1,16 +1,15 @@
--- What holds of every rule node, and whether it has a rule that is not judged yet.
+-- What holds of every rule node.
 use Rattle.std.proofs.Common.{◌≡◌, ℕ, true, ◌||◌, List, [], ◌∷◌, map, Option, is_some, ap, ◌∙◌, refl}
 use Rattle.std.specs.List.{AllByRecursion, list_any}
 use Rattle.std.specs.FinMap as map_of
 use Rattle.path_capture.specs.declared.pattern.Part.{Part}
 use Rattle.expr_types.specs.Checked.{Checked}
 use Rattle.rules_reader.specs.Part.{Pattern}
-use Rattle.rules_reader.specs.Book.{Stated, has_unjudged, own_unjudged}
+use Rattle.rules_reader.specs.Book.{Stated}
 use Rattle.rules_reader.specs.Place.{HasOneCapture, one_capture_at_most}
-use Rattle.rules_reader.specs.Node.{Point, grown, text_of, books, names, unjudged_below, IsChild, IsNode}
+use Rattle.rules_reader.specs.Node.{Point, grown, text_of, books, names, IsChild, IsNode}
 use Rattle.rules_reader.specs.Working.NodeFalls.{get-grown-root}
 use Rattle.rules_reader.proofs.Grown.{HasOneCapture-grown}
-use Rattle.rules_reader.proofs.Unjudged.{has_unjudged-grown}
 
 -- ---- what holds of every node
 
@@ -27,12 +26,3 @@ each_one at (c ∷ cs) h = (h.0.one, each_one at cs h.1)
 
 pub one_of_node : (own : Stated Checked) (at : Pattern) (children : List (Part × Point)) (place : Option ℕ) → IsNode at own children place → HasOneCapture (grown own (books children))
 one_of_node own at children place n = HasOneCapture-grown own (books children) n.ascending (each_one at children n.each) (ap one_capture_at_most (names_of_books children) ∙ n.few)
-
--- ---- whether there is a rule that is not judged yet
-
-any_of_books : (children : List (Part × Point)) → list_any (λ c. has_unjudged c.1) (books children) ≡ unjudged_below children
-any_of_books [] = refl
-any_of_books (c ∷ cs) = ap (λ b. has_unjudged c.1.book || b) (any_of_books cs)
-
-pub unjudged_of_node : (own : Stated Checked) (at : Pattern) (children : List (Part × Point)) (place : Option ℕ) → IsNode at own children place → has_unjudged (grown own (books children)) ≡ (own_unjudged own || unjudged_below children)
-unjudged_of_node own at children place n = has_unjudged-grown own (books children) n.ascending ∙ ap (λ b. own_unjudged own || b) (any_of_books children)

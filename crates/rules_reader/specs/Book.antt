@@ -60,34 +60,6 @@ own_rules e = stated e.0 Read e.1.read ++ stated e.0 Validate e.1.validate ++ st
 unfoldable pub rules : {A : Type 0} → BookOf A → List (RuleOf A)
 rules b = flat_map own_rules (map_of.entries b)
 
-abbrev pub is_validate : Kind → Bool
-is_validate Read = false
-is_validate Write = false
-is_validate Validate = true
-
--- the literals true and false
-abbrev pub is_literal : t.Tree → Bool
-is_literal t.True = true
-is_literal t.False = true
-is_literal _ = false
-
--- a rule that is not judged yet: a `.validate`, or one that is neither the literal true nor the literal false
-abbrev pub is_unjudged : RuleOf Checked → Bool
-is_unjudged rule = is_validate rule.1 || not (is_literal rule.2.tree)
-
--- whether a rule of the file is not judged yet
-abbrev pub has_unjudged : Book → Bool
-has_unjudged b = list_any is_unjudged (rules b)
-
--- whether a rule, if there is one, is more than a literal
-abbrev pub is_more : Option Checked → Bool
-is_more None = false
-is_more (Some rule) = not (is_literal rule.tree)
-
--- whether an object states a rule that is not judged yet
-abbrev pub own_unjudged : Stated Checked → Bool
-own_unjudged s = is_more s.read || is_some s.validate || is_more s.write
-
 -- how many rules an object states
 abbrev pub stated_count : {A : Type 0} → Stated A → ℕ
 stated_count s = length (stated [] Read s.read) + (length (stated [] Validate s.validate) + length (stated [] Write s.write))

@@ -8,7 +8,7 @@ use Rattle.tree_model.specs.PathMap.{sub, exists, under}
 use Rattle.path_capture.specs.declared.pattern.Part.{Part}
 use Rattle.path_capture.specs.Pattern.{part_of, part_text}
 use Rattle.rules_reader.specs.Part.{PartText, Pattern, is_capture}
-use Rattle.rules_reader.specs.Book.{Stated, BookOf, Book, has_unjudged, stated_for, book_code}
+use Rattle.rules_reader.specs.Book.{Stated, BookOf, Book, stated_for, book_code}
 use Rattle.rules_reader.specs.declared.kind.Kind.{Kind}
 use Rattle.rules_reader.specs.Spelled.{IsLawful}
 use Rattle.expr_types.specs.Checked.{Checked}
@@ -47,10 +47,6 @@ text_of part = part_text (part_of part)
 -- the books of a node's children
 abbrev pub books : List (Part × Point) → List (PartText × Book)
 books children = map (λ c. (text_of c.0, c.1.book)) children
-
--- whether a rule that is not judged yet is stated at or below one of the children
-abbrev pub unjudged_below : List (Part × Point) → Bool
-unjudged_below children = list_any (λ c. has_unjudged c.1.book) children
 
 abbrev pub names : List (Part × Point) → List PartText
 names children = map (λ c. text_of c.0) children

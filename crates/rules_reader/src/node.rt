@@ -6,11 +6,11 @@ ghost use Rattle.std.specs.FinMap as map_of;
 ghost use Rattle.tree_model.specs.Key.{key_cmp};
 ghost use Rattle.tree_model.specs.PathMap.{get};
 ghost use Rattle.rules_reader.specs.Part.{texts, is_capture};
-ghost use Rattle.rules_reader.specs.Book.{rules, has_unjudged, stated_for};
+ghost use Rattle.rules_reader.specs.Book.{rules, stated_for};
 ghost use Rattle.rules_reader.specs.Spelled.{IsLawful};
 ghost use Rattle.rules_reader.specs.declared.kind.Kind.TheVariants.{Read, Write, Validate};
 ghost use Rattle.rules_reader.specs.Place.{HasOneCapture, one_capture_at_most};
-ghost use Rattle.rules_reader.specs.Node.{Steps, NoneMatches, IsCaptureAt, IsChild, AreLawful, books, names, grown, text_of, unjudged_below};
+ghost use Rattle.rules_reader.specs.Node.{Steps, NoneMatches, IsCaptureAt, IsChild, AreLawful, books, names, grown, text_of};
 ghost use Rattle.rules_reader.specs.Working.Stepped.{stepped};
 
 use crate::kind::Kind;
@@ -123,16 +123,6 @@ impl RuleNode {
         self.rule(Kind::Validate)
     }
 
-    /// Whether a rule that is not judged yet is stated at or below the node. At most one pass over the
-    /// nodes, and no memory.
-    #[cycle(states_unjudged)]
-    pub(crate) fn states_unjudged(&self) -> bool
-        ensures { result ≡ has_unjudged self.now.book }
-    {
-        let here = self.rules.states_unjudged();
-        here || some_states_unjudged(&self.children)
-    }
-
     /// What holds of every node: its own object is listed, and in each object at and below it at
     /// most one part is a capture.
     pub(crate) fn law(&self)
@@ -141,18 +131,6 @@ impl RuleNode {
     {
         let _children = &self.children;
     }
-}
-
-#[cycle(states_unjudged)]
-fn some_states_unjudged(children: &Vec<(Part, RuleNode)>) -> bool
-    ensures { result ≡ unjudged_below children.now.items }
-{
-    for child in children {
-        if child.1.states_unjudged() {
-            return true;
-        }
-    }
-    false
 }
 
 fn child_of<'a>(

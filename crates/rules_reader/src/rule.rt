@@ -1,9 +1,8 @@
 //! The rules of one object of a rules file.
 ghost use Rattle.std.specs.Prelude.{◌≡◌, option_map};
-ghost use Rattle.rules_reader.specs.Book.{stated_for, is_literal, is_more, own_unjudged};
+ghost use Rattle.rules_reader.specs.Book.{stated_for};
 
 use crate::kind::Kind;
-use expr_parser::Expr;
 use expr_types::Checked;
 use std::marker::Model;
 
@@ -53,27 +52,4 @@ impl RuleSet {
             Kind::Validate => self.validate.as_ref(),
         }
     }
-
-    /// Whether a rule is stated that is not judged yet.
-    pub(crate) fn states_unjudged(&self) -> bool
-        ensures { result ≡ own_unjudged self.now }
-    {
-        is_more(&self.read) || self.validate.is_some() || is_more(&self.write)
-    }
-}
-
-// Whether there is a rule that is neither the literal true nor the literal false.
-fn is_more(rule: &Option<Checked>) -> bool
-    ensures { result ≡ is_more rule.now }
-{
-    match rule {
-        Some(checked) => !is_literal(checked),
-        None => false,
-    }
-}
-
-fn is_literal(rule: &Checked) -> bool
-    ensures { result ≡ is_literal rule.now.tree }
-{
-    matches!(rule.expr(), Expr::True | Expr::False)
 }

@@ -6,7 +6,7 @@ ghost use Rattle.tree_model.specs.Path.{Path};
 ghost use Rattle.tree_model.specs.PathMap.{sub};
 ghost use Rattle.path_capture.specs.Name.{is_name};
 ghost use Rattle.rules_reader.specs.Part.{Pattern};
-ghost use Rattle.rules_reader.specs.Book.{rules, has_unjudged};
+ghost use Rattle.rules_reader.specs.Book.{rules};
 ghost use Rattle.rules_reader.specs.Place.{StandsAt, IsCaptureOf, HasOneCapture, HasNamesOnce, captures};
 
 use crate::node::RuleNode;
@@ -63,15 +63,6 @@ impl Rules {
         ensures { result ≡ length (rules self.now) }
     {
         self.count
-    }
-
-    /// Whether some object of the file states a rule that is not judged yet: a `.validate`, or one
-    /// that is neither the literal true nor the literal false. At most one pass over the nodes, and no
-    /// memory.
-    pub fn states_unjudged(&self) -> bool
-        ensures { result ≡ has_unjudged self.now }
-    {
-        self.root.states_unjudged()
     }
 
     /// The object whose pattern stands at a path, if one does: one step for each key. It takes no
