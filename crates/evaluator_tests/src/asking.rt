@@ -1,22 +1,23 @@
 //! What an expression sees of what is asked: the query of a read, `newData` of a write, the moment and
 //! the captures.
+ghost use Rattle.std.specs.Prelude.{[], ◌∷◌, IfOk};
 ghost use Rattle.path_capture.specs.Captures.{names};
 ghost use Rattle.expr_types.specs.declared.place.Place.TheVariants.{ValidateRule};
 ghost use Rattle.evaluator_tests.specs.Rule.{IsFor};
 
-use crate::scene::{ann, checked, in_a_read, in_a_write, tree_of, view_of};
+use crate::scene::{Answer, ann, answer_in, answer_to, checked, nothing, root_of, tree_of};
 use crate::tables::Row;
 use bumpalo::Bump;
-use evaluator::{Asked, Identity, Snapshot};
+use evaluator::{Access, Asked, Env, Identity, MAX_MOMENT, Moment, Snapshot, evaluate};
 use expr_types::{Checked, Place};
-use json_tree::{Key, Leaf, Number};
+use json_tree::{Key, Leaf, Node, Number};
 use path_capture::{CaptureName, Captures};
 use std::alloc::Global;
 use std::test::Fail;
 use tree_model::MAX_DEPTH;
 
 // The first row with another outcome, and that; else nothing.
-fn first_other<F: Fn(Global, &str) -> Result<&'static str, Fail>>(
+fn first_other<F: Fn(Global, &str) -> Result<Answer, Fail>>(
     alloc: Global,
     rows: &[Row],
     ask: F,
@@ -24,7 +25,7 @@ fn first_other<F: Fn(Global, &str) -> Result<&'static str, Fail>>(
     requires { F.IsAlwaysCallable ask }
 {
     for (text, want) in rows {
-        let found = ask(alloc, text)?;
+        let found = ask(alloc, text)?.word();
         if found != *want {
             return Ok(format!(in alloc; "{text}: {found} and not {want}")?);
         }
@@ -49,7 +50,7 @@ const OF_A_QUERY: [Row; 12] = [
     ("query.limitToFirst", "erred"),
 ];
 
-fn in_a_query(alloc: Global, text: &str) -> Result<&'static str, Fail> {
+fn in_a_query(alloc: Global, text: &str) -> Result<Answer, Fail> {
     let start = Leaf::Truth(true);
     let end = Leaf::Whole(Number::new(5).ok_or("a number")?);
     let equal = Leaf::words(alloc, "x")?;
@@ -63,18 +64,7 @@ fn in_a_query(alloc: Global, text: &str) -> Result<&'static str, Fail> {
         limit_to_first: Some(10),
         limit_to_last: Some(1_000),
     };
-    Ok(of_null(alloc, &asked, text))
-}
-
-// What it comes to where nothing is stored.
-fn of_null(alloc: Global, asked: &Asked, text: &str) -> &'static str {
-    let root = Snapshot::root(None);
-    let captures = Captures::new(alloc);
-    let arena = Bump::new(alloc);
-    match checked(alloc, text, Place::ReadRule, &captures) {
-        Ok(rule) => in_a_read(&arena, &rule, &root, asked, &captures, None),
-        Err(why) => why,
-    }
+    Ok(answer_to(alloc, &Bump::new(alloc), &nothing(), &asked, text))
 }
 
 const OF_NO_QUERY: [Row; 10] = [
@@ -90,8 +80,8 @@ const OF_NO_QUERY: [Row; 10] = [
     ("now == 1000 && !root.exists()", "yes"),
 ];
 
-fn in_no_query(alloc: Global, text: &str) -> Result<&'static str, Fail> {
-    Ok(of_null(alloc, &Asked::none(), text))
+fn in_no_query(alloc: Global, text: &str) -> Result<Answer, Fail> {
+    Ok(answer_in(alloc, &nothing(), text))
 }
 
 #[test]
@@ -138,46 +128,88 @@ const OF_A_WRITE: [Row; 16] = [
     ("auth.uid + '@' + auth.provider == 'ann@custom'", "yes"),
 ];
 
-fn in_the_lobby(alloc: Global, text: &str) -> Result<&'static str, Fail> {
+// The trees before and after the write, who makes it, and the capture.
+#[derive(Drop)]
+struct Lobby {
+    stored: Option<Node>,
+    proposed: Option<Node>,
+    who: Identity,
+    name: CaptureName,
+    key: Key,
+}
+
+fn make_lobby(alloc: Global) -> Result<Lobby, Fail> {
+    let stored = tree_of(alloc, STORED)?;
+    let proposed = tree_of(alloc, PROPOSED)?;
+    let who = ann(alloc)?;
     let name = CaptureName::new(alloc, "room")?;
     let key = Key::new(alloc, "lobby")?;
-    let mut captures = Captures::new(alloc);
-    captures.push(&name, &key)?;
-    match checked(alloc, text, Place::ValidateRule, &captures) {
-        Ok(rule) => of_a_write(alloc, &rule, &captures),
+    Ok(Lobby {
+        stored,
+        proposed,
+        who,
+        name,
+        key,
+    })
+}
+
+fn in_the_lobby(alloc: Global, text: &str) -> Result<Answer, Fail> {
+    let lobby = make_lobby(alloc)?;
+    match rule_of(alloc, &lobby, text)? {
+        Ok(rule) => of_a_write(alloc, &Bump::new(alloc), &rule, &lobby),
         Err(why) => Ok(why),
     }
 }
 
-fn of_a_write(alloc: Global, rule: &Checked, captures: &Captures) -> Result<&'static str, Fail>
-    requires { IsFor ValidateRule (names captures.now) rule.now }
+// The expression in a rule below the capture, or why there is none.
+fn rule_of(alloc: Global, lobby: &Lobby, text: &str) -> Result<Result<Checked, Answer>, Fail>
+    ensures { IfOk result (λ found. IfOk found (λ rule. IsFor ValidateRule (lobby.now.name ∷ []) rule)) }
 {
-    let stored = tree_of(alloc, STORED)?;
-    let proposed = tree_of(alloc, PROPOSED)?;
-    let before = Snapshot::root(view_of(&stored));
-    let after = Snapshot::root(view_of(&proposed));
-    let who = ann(alloc)?;
-    let arena = Bump::new(alloc);
-    below_the_roots(&arena, rule, &before, &after, captures, &who)
+    let mut captures = Captures::new(alloc);
+    captures.push(&lobby.name, &lobby.key)?;
+    Ok(checked(alloc, text, Place::ValidateRule, &captures))
 }
 
-fn below_the_roots<'a>(
+fn of_a_write<'a>(
+    alloc: Global,
     arena: &'a Bump,
     rule: &'a Checked,
-    before: &'a Snapshot<'a>,
-    after: &'a Snapshot<'a>,
-    captures: &'a Captures<'a>,
+    lobby: &'a Lobby,
+) -> Result<Answer, Fail>
+    requires { IsFor ValidateRule (lobby.now.name ∷ []) rule.now }
+{
+    let mut captures = Captures::new(alloc);
+    captures.push(&lobby.name, &lobby.key)?;
+    let here = lobby_of(arena, &lobby.stored)?;
+    let coming = lobby_of(arena, &lobby.proposed)?;
+    Ok(write_at(arena, rule, here, coming, &lobby.who, &captures))
+}
+
+// What a rule comes to at a location, at the greatest moment.
+fn write_at<'a>(
+    arena: &'a Bump,
+    rule: &'a Checked,
+    here: &'a Snapshot<'a>,
+    coming: &'a Snapshot<'a>,
     who: &'a Identity,
-) -> Result<&'static str, Fail>
+    captures: &Captures<'a>,
+) -> Answer
     requires { IsFor ValidateRule (names captures.now) rule.now }
 {
-    let here = lobby_of(arena, before)?;
-    let coming = lobby_of(arena, after)?;
-    Ok(in_a_write(arena, rule, here, coming, captures, Some(who)))
+    let env = Env {
+        auth: Some(&*who),
+        moment: Moment::new(MAX_MOMENT),
+        here: &*here,
+        access: Access::Writes(&*coming),
+        captures: &*captures,
+    };
+    let found = evaluate(&*arena, &*rule, &env);
+    Answer::of(found)
 }
 
 // The location at `/rooms/lobby`.
-fn lobby_of<'a>(arena: &'a Bump, root: &'a Snapshot<'a>) -> Result<&'a Snapshot<'a>, Fail> {
+fn lobby_of<'a>(arena: &'a Bump, tree: &'a Option<Node>) -> Result<&'a Snapshot<'a>, Fail> {
+    let root = root_of(arena, tree)?;
     let rooms = child_of(arena, root, "rooms")?;
     child_of(arena, rooms, "lobby")
 }

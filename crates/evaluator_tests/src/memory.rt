@@ -1,5 +1,5 @@
 //! What is answered where the arena is refused memory, and what takes none.
-use crate::scene::{Scene, ann, answer_in, answer_over, asked_by_ann};
+use crate::scene::{Answer, Scene, ann, answer_in, answer_over, asked_by_ann};
 use bumpalo::Bump;
 use evaluator::Claims;
 use std::alloc::Global;
@@ -27,12 +27,12 @@ const TAKING: [(&str, &str); 7] = [
 // More steps of a few bytes than any of them takes, and the bytes of a chunk that holds these.
 const MOST_STEPS: usize = 128;
 
-const STEP_BYTES: usize = 4;
+const STEP_BYTES: usize = 8;
 
-const CHUNK_BYTES: usize = 1_024;
+const CHUNK_BYTES: usize = 2_048;
 
 // What an expression comes to over an arena that has so many bytes left, and gets no more.
-fn within(alloc: Global, scene: &Scene, text: &str, left: usize) -> Result<&'static str, Fail> {
+fn within(alloc: Global, scene: &Scene, text: &str, left: usize) -> Result<Answer, Fail> {
     let arena = Bump::try_with_capacity(alloc, CHUNK_BYTES)?;
     let given = arena.chunk_capacity().saturating_sub(left);
     arena.try_alloc_str("x".repeat(alloc, given)?.as_str())?;
@@ -47,9 +47,9 @@ fn steps_wanted(alloc: Global, scene: &Scene, row: (&str, &str)) -> Result<usize
     let mut wanted = 0;
     for step in 0..MOST_STEPS {
         let found = within(alloc, scene, text, step * STEP_BYTES)?;
-        if found == "no memory" && wanted == step {
+        if found == Answer::NoMemory && wanted == step {
             wanted = step + 1;
-        } else if found != want {
+        } else if found.word() != want {
             return Err("another answer")?;
         }
     }
@@ -60,7 +60,7 @@ fn steps_wanted(alloc: Global, scene: &Scene, row: (&str, &str)) -> Result<usize
 fn a_refused_growth_is_want_of_memory(rt: HostRuntime) -> Result<(), Fail> {
     let scene = asked_by_ann(rt.alloc(), TREE)?;
     for (text, want) in TAKING {
-        assert_eq!(rt; answer_in(rt.alloc(), &scene, text), want);
+        assert_eq!(rt; answer_in(rt.alloc(), &scene, text).word(), want);
         let wanted = steps_wanted(rt.alloc(), &scene, (text, want))?;
         assert!(rt; 0 < wanted && wanted < MOST_STEPS, "{text}: {wanted}");
     }
@@ -90,7 +90,7 @@ fn what_borrows_takes_no_memory(rt: HostRuntime) -> Result<(), Fail> {
     arena.set_allocation_limit(Some(0));
     for (text, want) in BORROWING {
         assert_eq!(rt;
-            answer_over(rt.alloc(), &arena, &scene, text),
+            answer_over(rt.alloc(), &arena, &scene, text).word(),
             want,
             "{text}"
         );

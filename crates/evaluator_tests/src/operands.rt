@@ -41,31 +41,23 @@ const USES: [(&str, &str, &str); 19] = [
     ("root.hasChildren(['c', ", "])", "eeeeneee"),
 ];
 
-fn letter(alloc: Global, scene: &Scene, text: &str) -> char {
-    match answer_in(alloc, scene, text) {
-        "yes" => 'y',
-        "no" => 'n',
-        "erred" => 'e',
-        _ => '?',
-    }
-}
-
 // A letter for each operand.
 fn letters(alloc: Global, scene: &Scene, front: &str, back: &str) -> Result<String, Fail> {
     let mut found = String::new(alloc);
     for operand in OPERANDS {
         let text = format!(in alloc; "{front}{operand}{back}")?;
-        found.push(letter(alloc, scene, text.as_str()))?;
+        found.push(answer_in(alloc, scene, text.as_str()).letter())?;
     }
     Ok(found)
 }
 
 // The first use with other letters, and those; else nothing.
 fn first_other_use(alloc: Global, scene: &Scene) -> Result<String, Fail> {
-    for (front, back, want) in USES {
+    for row in &USES {
+        let (front, back, want) = *row;
         let found = letters(alloc, scene, front, back)?;
         if found.as_str() != want {
-            return Ok(format!(in alloc; "{front}..{back}: {found} and not {want}")?);
+            return Ok(format!(in alloc; "{front}..{back}: {found}")?);
         }
     }
     Ok(String::new(alloc))
@@ -81,107 +73,77 @@ fn each_operand_of_each_use(rt: HostRuntime) -> Result<(), Fail> {
 
 // ---- two operands
 
-const NONE: &str = "eeeeeeee";
+// The letters of each left operand, one behind another.
+const EQUAL: &str = "ynnnnnne nynnnnne nnynnnne nnnynnne nnnnynne nnnnneee nnnnneee eeeeeeee";
 
-const ALL: &str = "yyyyyyyy";
+const UNEQUAL: &str = "nyyyyyye ynyyyyye yynyyyye yyynyyye yyyynyye yyyyyeee yyyyyeee eeeeeeee";
 
-// What stands before, between and behind two operands, and the letters of each left one.
-type Pair = (&'static str, &'static str, &'static str, [&'static str; 8]);
+const NEVER_BELOW_ITSELF: &str =
+    "eeeeeeee eeeeeeee eeeeeeee eeeneeee eeeeneee eeeeeeee eeeeeeee eeeeeeee";
 
-const NUMBERS_ALONE: [&str; 8] = [NONE, NONE, NONE, "eeeyeeee", NONE, NONE, NONE, NONE];
+const NUMBERS_OR_TEXTS: &str =
+    "eeeeeeee eeeeeeee eeeeeeee eeeyeeee eeeeyeee eeeeeeee eeeeeeee eeeeeeee";
 
-const TEXTS_ALONE: [&str; 8] = [NONE, NONE, NONE, NONE, "eeeeyeee", NONE, NONE, NONE];
+const NUMBERS_ALONE: &str =
+    "eeeeeeee eeeeeeee eeeeeeee eeeyeeee eeeeeeee eeeeeeee eeeeeeee eeeeeeee";
 
-const NUMBERS_OR_TEXTS: [&str; 8] = [NONE, NONE, NONE, "eeeyeeee", "eeeeyeee", NONE, NONE, NONE];
+const TEXTS_ALONE: &str = "eeeeeeee eeeeeeee eeeeeeee eeeeeeee eeeeyeee eeeeeeee eeeeeeee eeeeeeee";
 
-const NEVER_BELOW_ITSELF: [&str; 8] = [NONE, NONE, NONE, "eeeneeee", "eeeeneee", NONE, NONE, NONE];
+const JOINED: &str = "eeeeeeee eeeeeeee eeeeeeee eeeyyeee eeeyyeee eeeeeeee eeeeeeee eeeeeeee";
 
-const PAIRS: [Pair; 18] = [
-    (
-        "",
-        " == ",
-        "",
-        [
-            "ynnnnnne", "nynnnnne", "nnynnnne", "nnnynnne", "nnnnynne", "nnnnneee", "nnnnneee",
-            NONE,
-        ],
-    ),
-    (
-        "",
-        " != ",
-        "",
-        [
-            "nyyyyyye", "ynyyyyye", "yynyyyye", "yyynyyye", "yyyynyye", "yyyyyeee", "yyyyyeee",
-            NONE,
-        ],
-    ),
+const BOTH: &str = "eeeeeeee eyneeeee nnnnnnnn eeeeeeee eeeeeeee eeeeeeee eeeeeeee eeeeeeee";
+
+const EITHER: &str = "eeeeeeee yyyyyyyy eyneeeee eeeeeeee eeeeeeee eeeeeeee eeeeeeee eeeeeeee";
+
+const WHERE_TRUE: &str = "eeeeeeee eyneeeee yyyyyyyy eeeeeeee eeeeeeee eeeeeeee eeeeeeee eeeeeeee";
+
+// What stands before, between and behind two operands, and the letters. What `&&`, `||` and `?:` do not
+// look at is not evaluated, even where it errs.
+const PAIRS: [(&str, &str, &str, &str); 18] = [
+    ("", " == ", "", EQUAL),
+    ("", " != ", "", UNEQUAL),
     ("", " < ", "", NEVER_BELOW_ITSELF),
     ("", " <= ", "", NUMBERS_OR_TEXTS),
     ("", " > ", "", NEVER_BELOW_ITSELF),
     ("", " >= ", "", NUMBERS_OR_TEXTS),
-    (
-        "(",
-        " + ",
-        ") != null",
-        [NONE, NONE, NONE, "eeeyyeee", "eeeyyeee", NONE, NONE, NONE],
-    ),
+    ("(", " + ", ") != null", JOINED),
     ("(", " - ", ") == 0", NUMBERS_ALONE),
     ("(", " * ", ") == 1", NUMBERS_ALONE),
     ("(", " % ", ") == 0", NUMBERS_ALONE),
-    // What is not looked at is not evaluated, even where it errs.
-    (
-        "",
-        " && ",
-        "",
-        [NONE, "eyneeeee", "nnnnnnnn", NONE, NONE, NONE, NONE, NONE],
-    ),
-    (
-        "",
-        " || ",
-        "",
-        [NONE, ALL, "eyneeeee", NONE, NONE, NONE, NONE, NONE],
-    ),
-    (
-        "",
-        " ? true : ",
-        "",
-        [NONE, ALL, "eyneeeee", NONE, NONE, NONE, NONE, NONE],
-    ),
-    (
-        "(",
-        " ? ",
-        " : true)",
-        [NONE, "eyneeeee", ALL, NONE, NONE, NONE, NONE, NONE],
-    ),
+    ("", " && ", "", BOTH),
+    ("", " || ", "", EITHER),
+    ("", " ? true : ", "", EITHER),
+    ("(", " ? ", " : true)", WHERE_TRUE),
     ("", ".contains(", ")", TEXTS_ALONE),
     ("", ".replace('a', ", ") == 'a'", TEXTS_ALONE),
     ("'a'.replace(", ", ", ") == 'a'", TEXTS_ALONE),
     ("root.hasChildren([", ", ", "])", TEXTS_ALONE),
 ];
 
-// The first pair with other letters, and those; else nothing.
-fn first_other_right(
+// The letters of each left operand.
+fn letters_of_pairs(
     alloc: Global,
     scene: &Scene,
-    pair: (&str, &str, &str),
-    rows: [&str; 8],
+    before: &str,
+    between: &str,
+    behind: &str,
 ) -> Result<String, Fail> {
-    let (before, between, behind) = pair;
-    for (left, want) in OPERANDS.iter().zip(&rows) {
+    let mut found = String::new(alloc);
+    for left in OPERANDS {
         let front = format!(in alloc; "{before}{left}{between}")?;
-        let found = letters(alloc, scene, front.as_str(), behind)?;
-        if found.as_str() != *want {
-            return Ok(format!(in alloc; "{front}..{behind}: {found} and not {want}")?);
-        }
+        let row = letters(alloc, scene, front.as_str(), behind)?;
+        found.push_str(row.as_str())?;
+        found.push(' ')?;
     }
-    Ok(String::new(alloc))
+    Ok(found)
 }
 
+// The first pair with other letters, and those; else nothing.
 fn first_other_pair(alloc: Global, scene: &Scene) -> Result<String, Fail> {
-    for (before, between, behind, rows) in PAIRS {
-        let other = first_other_right(alloc, scene, (before, between, behind), rows)?;
-        if !other.is_empty() {
-            return Ok(other);
+    for (before, between, behind, want) in PAIRS {
+        let found = letters_of_pairs(alloc, scene, before, between, behind)?;
+        if found.as_str().trim() != want {
+            return Ok(format!(in alloc; "{before}..{between}..{behind}: {found}")?);
         }
     }
     Ok(String::new(alloc))

@@ -22,68 +22,31 @@ const CALLS: [&str; 11] = [
     "isBoolean()",
 ];
 
-// A location, and whether each call holds there.
-const LOCATIONS: [(&str, [&str; 11]); 6] = [
-    (
-        "z",
-        [
-            "yes", "no", "no", "no", "no", "no", "no", "no", "no", "no", "no",
-        ],
-    ),
-    (
-        "b",
-        [
-            "no", "yes", "no", "no", "yes", "yes", "no", "no", "no", "no", "yes",
-        ],
-    ),
-    (
-        "n",
-        [
-            "no", "no", "yes", "no", "yes", "yes", "no", "no", "yes", "no", "no",
-        ],
-    ),
-    (
-        "t",
-        [
-            "no", "no", "no", "yes", "yes", "yes", "no", "no", "no", "yes", "no",
-        ],
-    ),
-    (
-        "p",
-        [
-            "no", "no", "no", "no", "yes", "yes", "yes", "yes", "no", "no", "no",
-        ],
-    ),
-    (
-        "g",
-        [
-            "no", "no", "no", "no", "yes", "yes", "yes", "no", "no", "no", "no",
-        ],
-    ),
+// A location, and a letter for each call: the first of yes, no or erred.
+const LOCATIONS: [(&str, &str); 6] = [
+    ("z", "ynnnnnnnnnn"),
+    ("b", "nynnyynnnny"),
+    ("n", "nnynyynnynn"),
+    ("t", "nnnyyynnnyn"),
+    ("p", "nnnnyyyynnn"),
+    ("g", "nnnnyyynnnn"),
 ];
 
-// The first call of another outcome at a location, and that; else nothing.
-fn first_other_call(
-    alloc: Global,
-    scene: &Scene,
-    location: &str,
-    wanted: [&str; 11],
-) -> Result<String, Fail> {
-    for (call, want) in CALLS.iter().zip(&wanted) {
+fn letters(alloc: Global, scene: &Scene, location: &str) -> Result<String, Fail> {
+    let mut found = String::new(alloc);
+    for call in CALLS {
         let text = format!(in alloc; "root.child('{location}').{call}")?;
-        let found = answer_in(alloc, scene, text.as_str());
-        if found != *want {
-            return Ok(format!(in alloc; "{text}: {found} and not {want}")?);
-        }
+        found.push(answer_in(alloc, scene, text.as_str()).letter())?;
     }
-    Ok(String::new(alloc))
+    Ok(found)
 }
 
+// The first location with other letters, and those; else nothing.
 fn first_other_location(alloc: Global, scene: &Scene) -> Result<String, Fail> {
-    for (location, wanted) in LOCATIONS {
-        let other = first_other_call(alloc, scene, location, wanted)?;
-        if !other.is_empty() {
-            return Ok(other);
+    for (location, want) in LOCATIONS {
+        let found = letters(alloc, scene, location)?;
+        if found.as_str() != want {
+            return Ok(format!(in alloc; "{location}: {found} and not {want}")?);
         }
     }
     Ok(String::new(alloc))

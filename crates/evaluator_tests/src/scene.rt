@@ -1,14 +1,12 @@
 //! Where the expressions of the tests are evaluated.
-ghost use Rattle.std.specs.Prelude.{IfOk};
+ghost use Rattle.std.specs.Prelude.{[], IfOk};
 ghost use Rattle.path_capture.specs.Captures.{names};
-ghost use Rattle.expr_types.specs.declared.place.Place.TheVariants.{ReadRule, ValidateRule};
+ghost use Rattle.expr_types.specs.declared.place.Place.TheVariants.{ReadRule};
 ghost use Rattle.evaluator_tests.specs.Rule.{IsFor};
 
 use arena_snapshot::View;
 use bumpalo::Bump;
-use evaluator::{
-    Access, Asked, Claims, Env, Identity, MAX_MOMENT, Moment, Outcome, Snapshot, evaluate,
-};
+use evaluator::{Access, Asked, Claims, Env, Identity, Moment, Outcome, Snapshot, evaluate};
 use expr_parser::parse;
 use expr_types::{Checked, Place, check};
 use json_tree::{Leaf, NoMemory, Node, Number, ValueFault, from_json};
@@ -26,14 +24,6 @@ pub(crate) fn tree_of(alloc: Global, text: &str) -> Result<Option<Node>, Fail> {
         Ok(tree) => Ok(tree),
         Err(ValueFault::NoMemory) => Err(NoMemory)?,
         Err(_) => Err("no tree")?,
-    }
-}
-
-/// The tree as views show it.
-pub(crate) fn view_of(tree: &Option<Node>) -> Option<View> {
-    match tree {
-        Some(node) => Some(View::stored(node)),
-        None => None,
     }
 }
 
@@ -65,40 +55,150 @@ pub(crate) struct Scene {
     who: Option<Identity>,
 }
 
+/// The null tree, asked by nobody.
+pub(crate) fn nothing() -> Scene {
+    Scene {
+        tree: None,
+        who: None,
+    }
+}
+
 /// A tree, asked by nobody.
 pub(crate) fn asked_by_nobody(alloc: Global, tree: &str) -> Result<Scene, Fail> {
-    Ok(Scene {
-        tree: tree_of(alloc, tree)?,
-        who: None,
-    })
+    let tree = tree_of(alloc, tree)?;
+    Ok(Scene { tree, who: None })
 }
 
 /// A tree, asked by `ann`.
 pub(crate) fn asked_by_ann(alloc: Global, tree: &str) -> Result<Scene, Fail> {
-    Ok(Scene {
-        tree: tree_of(alloc, tree)?,
-        who: Some(ann(alloc)?),
-    })
+    let tree = tree_of(alloc, tree)?;
+    let who = Some(ann(alloc)?);
+    Ok(Scene { tree, who })
 }
 
-/// What an expression comes to at the root of the tree, in a read without a query at the moment 1000.
-pub(crate) fn answer_in(alloc: Global, scene: &Scene, text: &str) -> &'static str {
-    let arena = Bump::new(alloc);
-    answer_over(alloc, &arena, scene, text)
+/// What an expression comes to at the root of the tree, in a read without a query.
+pub(crate) fn answer_in(alloc: Global, scene: &Scene, text: &str) -> Answer {
+    answer_over(alloc, &Bump::new(alloc), scene, text)
 }
 
 /// The same over this arena.
-pub(crate) fn answer_over(alloc: Global, arena: &Bump, scene: &Scene, text: &str) -> &'static str {
-    let root = Snapshot::root(view_of(&scene.tree));
-    let captures = Captures::new(alloc);
-    let asked = Asked::none();
-    match checked(alloc, text, Place::ReadRule, &captures) {
-        Ok(rule) => in_a_read(arena, &rule, &root, &asked, &captures, scene.who.as_ref()),
+pub(crate) fn answer_over(alloc: Global, arena: &Bump, scene: &Scene, text: &str) -> Answer {
+    answer_to(alloc, arena, scene, &Asked::none(), text)
+}
+
+/// The same in a read with a query.
+pub(crate) fn answer_to(
+    alloc: Global,
+    arena: &Bump,
+    scene: &Scene,
+    asked: &Asked,
+    text: &str,
+) -> Answer {
+    let places = Bump::new(alloc);
+    match checked(alloc, text, Place::ReadRule, &Captures::new(alloc)) {
+        Ok(rule) => in_a_read(alloc, &places, arena, &rule, scene, asked),
         Err(why) => why,
     }
 }
 
+// What a rule comes to at the root.
+fn in_a_read<'a>(
+    alloc: Global,
+    places: &'a Bump,
+    arena: &'a Bump,
+    rule: &'a Checked,
+    scene: &'a Scene,
+    asked: &'a Asked<'a>,
+) -> Answer
+    requires { IsFor ReadRule [] rule.now }
+{
+    let Ok(here) = root_of(places, &scene.tree) else {
+        return Answer::NoMemory;
+    };
+    let captures = Captures::new(alloc);
+    read_at(arena, rule, here, asked, scene.who.as_ref(), &captures)
+}
+
+// What it comes to at a location, at the moment 1000.
+fn read_at<'a>(
+    arena: &'a Bump,
+    rule: &'a Checked,
+    here: &'a Snapshot<'a>,
+    asked: &'a Asked<'a>,
+    who: Option<&'a Identity>,
+    captures: &Captures<'a>,
+) -> Answer
+    requires { IsFor ReadRule (names captures.now) rule.now }
+{
+    let env = Env {
+        auth: who,
+        moment: Moment::new(1_000),
+        here: &*here,
+        access: Access::Reads(&*asked),
+        captures: &*captures,
+    };
+    let found = evaluate(&*arena, &*rule, &env);
+    Answer::of(found)
+}
+
+/// The root of a tree, placed in an arena.
+pub(crate) fn root_of<'a>(
+    places: &'a Bump,
+    tree: &'a Option<Node>,
+) -> Result<&'a Snapshot<'a>, NoMemory> {
+    let view = match tree {
+        Some(node) => Some(View::stored(node)),
+        None => None,
+    };
+    Ok(places.try_alloc(Snapshot::root(view))?)
+}
+
 // ---- anywhere
+
+/// What an expression comes to, or why it is none.
+#[derive(Clone, Copy, Debug, PartialEq, Eq)]
+pub(crate) enum Answer {
+    Yes,
+    No,
+    Erred,
+    NoMemory,
+    Refused,
+    NoExpression,
+}
+
+impl Answer {
+    /// What an evaluation was answered.
+    pub(crate) fn of(found: Result<Outcome, NoMemory>) -> Answer {
+        match found {
+            Ok(Outcome::Yes) => Answer::Yes,
+            Ok(Outcome::No) => Answer::No,
+            Ok(Outcome::Erred) => Answer::Erred,
+            Err(_) => Answer::NoMemory,
+        }
+    }
+
+    /// The word for it in the tables.
+    pub(crate) fn word(self) -> &'static str {
+        match self {
+            Answer::Yes => "yes",
+            Answer::No => "no",
+            Answer::Erred => "erred",
+            Answer::NoMemory => "no memory",
+            Answer::Refused => "refused",
+            Answer::NoExpression => "no expression",
+        }
+    }
+
+    /// A letter for it in the tables: the first of yes, no or erred.
+    pub(crate) fn letter(self) -> char {
+        match self {
+            Answer::Yes => 'y',
+            Answer::No => 'n',
+            Answer::Erred => 'e',
+            _ => '?',
+        }
+    }
+}
 
 /// The expression of a text in a rule for a place, or why there is none.
 pub(crate) fn checked(
@@ -106,65 +206,14 @@ pub(crate) fn checked(
     text: &str,
     place: Place,
     captures: &Captures,
-) -> Result<Checked, &'static str>
+) -> Result<Checked, Answer>
     ensures { IfOk result (λ rule. IsFor place (names captures.now) rule) }
 {
     let Ok(expr) = parse(alloc, text) else {
-        return Err("no expression");
+        return Err(Answer::NoExpression);
     };
     match check(alloc, expr, place, captures) {
         Ok(rule) => Ok(rule),
-        Err(_) => Err("refused"),
-    }
-}
-
-/// What a rule comes to in a read at a location, at the moment 1000.
-pub(crate) fn in_a_read<'a>(
-    arena: &'a Bump,
-    rule: &'a Checked,
-    here: &'a Snapshot<'a>,
-    asked: &'a Asked<'a>,
-    captures: &'a Captures<'a>,
-    who: Option<&'a Identity>,
-) -> &'static str
-    requires { IsFor ReadRule (names captures.now) rule.now }
-{
-    let env = Env {
-        auth: who,
-        moment: Moment::new(1_000),
-        here,
-        access: Access::Reads(asked),
-        captures,
-    };
-    word_of(evaluate(arena, rule, &env))
-}
-
-/// What it comes to in a write at a location, at the greatest moment.
-pub(crate) fn in_a_write<'a>(
-    arena: &'a Bump,
-    rule: &'a Checked,
-    here: &'a Snapshot<'a>,
-    coming: &'a Snapshot<'a>,
-    captures: &'a Captures<'a>,
-    who: Option<&'a Identity>,
-) -> &'static str
-    requires { IsFor ValidateRule (names captures.now) rule.now }
-{
-    let env = Env {
-        auth: who,
-        moment: Moment::new(MAX_MOMENT),
-        here,
-        access: Access::Writes(coming),
-        captures,
-    };
-    word_of(evaluate(arena, rule, &env))
-}
-
-fn word_of(found: Result<Outcome, NoMemory>) -> &'static str {
-    match found {
-        Ok(Outcome::Yes) => "yes",
-        Ok(Outcome::No) => "no",
-        Ok(Outcome::Erred) => "erred",
-        Err(NoMemory) => "no memory",
+        Err(_) => Err(Answer::Refused),
     }
 }

@@ -19,7 +19,7 @@ pub(crate) type LongRow = (
 /// The first row of another outcome in the scene, and that outcome; else nothing.
 pub(crate) fn first_other(alloc: Global, scene: &Scene, rows: &[Row]) -> Result<String, Fail> {
     for (text, want) in rows {
-        let found = answer_in(alloc, scene, text);
+        let found = answer_in(alloc, scene, text).word();
         if found != *want {
             return Ok(format!(in alloc; "{text}: {found} and not {want}")?);
         }
@@ -35,7 +35,7 @@ pub(crate) fn first_other_of_long(
 ) -> Result<String, Fail> {
     for (front, piece, times, back, want) in rows {
         let text = long(alloc, front, piece, *times, back)?;
-        let found = answer_in(alloc, scene, text.as_str());
+        let found = answer_in(alloc, scene, text.as_str()).word();
         if found != *want {
             return Ok(format!(in alloc; "{times} times {piece}: {found} and not {want}")?);
         }

@@ -1,5 +1,5 @@
 //! Texts: characters of one, two, three and four bytes, and the longest texts.
-use crate::scene::{answer_in, asked_by_nobody};
+use crate::scene::{Answer, answer_in, asked_by_nobody};
 use crate::tables::{Row, first_other, long};
 use std::alloc::Global;
 use std::test::Fail;
@@ -118,7 +118,7 @@ const STORED: [Stored; 14] = [
     ),
 ];
 
-fn asked_of_stored(alloc: Global, row: &Stored) -> Result<&'static str, Fail> {
+fn asked_of_stored(alloc: Global, row: &Stored) -> Result<Answer, Fail> {
     let (piece, times, text, _) = *row;
     let json = long(alloc, "\"", piece, times, "\"")?;
     let scene = asked_by_nobody(alloc, json.as_str())?;
@@ -127,7 +127,7 @@ fn asked_of_stored(alloc: Global, row: &Stored) -> Result<&'static str, Fail> {
 
 fn first_other_stored(alloc: Global) -> Result<String, Fail> {
     for row in &STORED {
-        let found = asked_of_stored(alloc, row)?;
+        let found = asked_of_stored(alloc, row)?.word();
         let (piece, times, text, want) = *row;
         if found != want {
             return Ok(format!(in alloc; "{text} of {times} times {piece}: {found}")?);

@@ -1,8 +1,5 @@
--- What was checked below the captures of the environment suits it.
-use Rattle.std.proofs.Common.{ap, ◌∙◌, refl}
-use Rattle.expr_types.proofs.There.{there}
-use Rattle.evaluator.specs.Env.{env_of, is_for}
+-- There are no captures.
 use Rattle.evaluator_tests.proofs.scene.in_a_read.Goals as goal
 
-pub evaluate-requires : goal.evaluate-requires
-evaluate-requires c = record { place = rw c.requires.place refl; captures = λ f h. there _ f c.requires.sorted.1 h }
+pub read_at-requires : goal.read_at-requires
+read_at-requires c = rw c.new-captures.ensures c.requires
