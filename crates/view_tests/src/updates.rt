@@ -1,10 +1,11 @@
 //! Updates in place: all their writes are made, or the tree is as it was.
-use crate::cases::{Row, first_other, tree_of, writes_of};
+use crate::cases::{tree_of, writes_of};
 use arena_snapshot::{View, overlaps, same};
 use json_tree::{NoMemory, Node, to_json};
 use path_capture::make_all;
 use std::alloc::Global;
 use std::test::Fail;
+use test_tables::{Row, first_other};
 
 const UPDATES: [Row; 14] = [
     ("null | /a=1", "{\"a\":1}"),
