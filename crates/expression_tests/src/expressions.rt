@@ -1,10 +1,10 @@
 //! The expressions of texts, or their faults.
-use crate::tables::{LongRow, Row, first_other, first_other_of_long};
 use expr_parser::{
     Argument, Excluded, Expr, ExprFault, Operator, ParseFault, expression, parse, tokens,
 };
 use std::alloc::{AllocError, Global};
 use std::test::*;
+use test_tables::{LongRow, Row, first_other, first_other_of_long};
 
 // The operators, each with its sign and the level of the grammar that it stands at.
 const OPERATORS: [(&str, Operator, usize); 12] = [

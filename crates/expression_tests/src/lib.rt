@@ -8,6 +8,4 @@ mod expressions;
 #[cfg(test)]
 mod sorts;
 #[cfg(test)]
-mod tables;
-#[cfg(test)]
 mod token_texts;

@@ -1,11 +1,11 @@
 //! Which expressions may stand in a rule, and the faults of others.
-use crate::tables::{Row, first_other};
 use expr_parser::parse;
 use expr_types::{Place, check};
 use json_tree::Key;
 use path_capture::{CaptureName, Captures};
 use std::alloc::Global;
 use std::test::*;
+use test_tables::{Row, first_other};
 
 const OTHER: &str = "something of another sort is wanted";
 

@@ -1,8 +1,8 @@
 //! The tokens of texts, or their faults.
-use crate::tables::{LongRow, Row, first_other, first_other_of_long};
 use expr_tokens::{ExprFault, MAX_EXPRESSION_BYTES, Token, tokens};
 use std::alloc::Global;
 use std::test::Fail;
+use test_tables::{LongRow, Row, first_other, first_other_of_long};
 
 // A token: a number, a text between ticks, a name, a capture with its `$`, or the token's own name.
 fn print_token(alloc: Global, token: &Token) -> Result<String, Fail> {

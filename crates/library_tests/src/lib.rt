@@ -1,27 +1,11 @@
-//! The tests of trees, paths and rules files: what no clause of these libraries says, that each call
-//! that allocates can succeed, and worked values. They stand in a crate of their own, since a crate with
-//! tests is proved twice.
+//! The tests of trees and paths: what no clause of these libraries says, that each call that allocates
+//! can succeed, and worked values. They stand in a crate of their own, since a crate with tests is
+//! proved twice.
 #![tactic(auto)]
 
 #[cfg(test)]
-mod chat_rules;
-#[cfg(test)]
-mod game_rules;
-#[cfg(test)]
 mod paths;
-#[cfg(test)]
-mod plain_texts;
-#[cfg(test)]
-mod rule_faults;
-#[cfg(test)]
-mod rules_answers;
-#[cfg(test)]
-mod rules_files;
-#[cfg(test)]
-mod school_rules;
 #[cfg(test)]
 mod tables;
 #[cfg(test)]
 mod trees;
-#[cfg(test)]
-mod written_rules;

@@ -1,9 +1,9 @@
 //! Paths, patterns and writes: their texts, orders, limits and copies.
-use crate::tables::{LongRow, Row, first_other, first_other_of_long};
 use json_tree::{Key, Leaf, Node};
 use path_capture::{CaptureName, Part, Path, Pattern, Write};
 use std::alloc::Global;
 use std::test::Fail;
+use test_tables::{LongRow, Row, first_other, first_other_of_long};
 
 // ---- paths
 

@@ -1,64 +1,21 @@
-//! Tables of cases: what is asked, and what is answered.
-use std::alloc::{AllocError, Global};
+//! The tables themselves: a row with another answer is found.
+use std::alloc::Global;
 use std::test::Fail;
+use test_tables::{LongRow, Row, first_other, first_other_of_long};
 
-/// A question and its answer.
-pub(crate) type Row = (&'static str, &'static str);
+const WITH_A_WRONG_ROW: [Row; 3] = [("a", "a"), ("b", "c"), ("d", "e")];
 
-/// A long question, by its front, a piece, how often that is repeated, and its back; and its answer.
-pub(crate) type LongRow = (
-    &'static str,
-    &'static str,
-    usize,
-    &'static str,
-    &'static str,
-);
+const WITH_A_WRONG_LONG_ROW: [LongRow; 2] = [("a", "b", 2, "c", "abbc"), ("", "é", 3, "", "éé")];
 
-/// The first row with another answer, and that answer; else nothing.
-pub(crate) fn first_other<F: Fn(Global, &str) -> Result<String, Fail>>(
-    alloc: Global,
-    rows: &[Row],
-    answer: F,
-) -> Result<String, Fail>
-    requires { F.IsAlwaysCallable answer }
-{
-    for (question, want) in rows {
-        let found = answer(alloc, question)?;
-        if found.as_str() != *want {
-            return Ok(format!(in alloc; "of {question:?}: {found:?} and not {want:?}")?);
-        }
-    }
-    Ok(String::new(alloc))
+fn echoed(alloc: Global, question: &str) -> Result<String, Fail> {
+    Ok(String::from_str(alloc, question)?)
 }
 
-/// The same of long questions.
-pub(crate) fn first_other_of_long<F: Fn(Global, &str) -> Result<String, Fail>>(
-    alloc: Global,
-    rows: &[LongRow],
-    answer: F,
-) -> Result<String, Fail>
-    requires { F.IsAlwaysCallable answer }
-{
-    for (front, piece, times, back, want) in rows {
-        let question = long(alloc, front, piece, *times, back)?;
-        let found = answer(alloc, question.as_str())?;
-        if found.as_str() != *want {
-            return Ok(format!(in alloc; "of {times} times {piece:?}: {found:?} and not {want:?}")?);
-        }
-    }
-    Ok(String::new(alloc))
-}
-
-/// A text with a piece that is repeated.
-pub(crate) fn long(
-    alloc: Global,
-    front: &str,
-    piece: &str,
-    times: usize,
-    back: &str,
-) -> Result<String, AllocError> {
-    let mut text = String::from_str(alloc, front)?;
-    text.push_str(piece.repeat(alloc, times)?.as_str())?;
-    text.push_str(back)?;
-    Ok(text)
+#[test]
+fn a_wrong_row_is_found(rt: HostRuntime) -> Result<(), Fail> {
+    let other = first_other(rt.alloc(), &WITH_A_WRONG_ROW, echoed)?;
+    assert_eq!(rt; other.as_str(), "of \"b\": \"b\" and not \"c\"");
+    let other = first_other_of_long(rt.alloc(), &WITH_A_WRONG_LONG_ROW, echoed)?;
+    assert_eq!(rt; other.as_str(), "of 3 times \"é\": \"ééé\" and not \"éé\"");
+    Ok(())
 }

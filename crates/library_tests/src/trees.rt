@@ -3,11 +3,11 @@ ghost use Rattle.std.specs.Prelude.{◌≡◌, unwrap_or};
 ghost use Rattle.tree_model.specs.PathMap.{depth};
 ghost use Rattle.tree_model.specs.Tree.{null};
 
-use crate::tables::{LongRow, Row, first_other, first_other_of_long};
 use json_tree::{Key, Leaf, NoMemory, Node, Number, ValueFault, from_json, put, to_json};
 use serde_json::Value;
 use std::alloc::Global;
 use std::test::Fail;
+use test_tables::{LongRow, Row, first_other, first_other_of_long};
 
 // What a JSON text is written as once it was a tree, or the fault's name.
 fn answer(alloc: Global, text: &str) -> Result<String, Fail> {

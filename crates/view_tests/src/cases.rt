@@ -5,26 +5,6 @@ use serde_json::Value;
 use std::alloc::Global;
 use std::test::Fail;
 
-/// A question and its answer.
-pub(crate) type Row = (&'static str, &'static str);
-
-/// The first row with another answer, and that answer; else nothing.
-pub(crate) fn first_other<F: Fn(Global, &str) -> Result<String, Fail>>(
-    alloc: Global,
-    rows: &[Row],
-    answer: F,
-) -> Result<String, Fail>
-    requires { F.IsAlwaysCallable answer }
-{
-    for (question, want) in rows {
-        let found = answer(alloc, question)?;
-        if found.as_str() != *want {
-            return Ok(format!(in alloc; "of {question:?}: {found:?} and not {want:?}")?);
-        }
-    }
-    Ok(String::new(alloc))
-}
-
 /// The tree of a JSON text.
 pub(crate) fn tree_of(alloc: Global, text: &str) -> Result<Option<Node>, Fail> {
     let value = Value::from_str(alloc, text)?;

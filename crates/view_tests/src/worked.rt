@@ -1,11 +1,12 @@
 //! Worked values: the proposed trees of the definitions, and what a view says of them.
-use crate::cases::{Row, first_other, tree_of, writes_of};
+use crate::cases::{tree_of, writes_of};
 use arena_snapshot::{View, copy_out, is_changed, kept, overlaps, overlay, same};
 use bumpalo::Bump;
 use json_tree::to_json;
 use path_capture::Path;
 use std::alloc::Global;
 use std::test::Fail;
+use test_tables::{Row, first_other};
 
 const PROPOSED: [Row; 15] = [
     ("null | /a=5", "{\"a\":5}, 2 locations: a"),

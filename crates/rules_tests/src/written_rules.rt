@@ -4,11 +4,11 @@ use crate::chat_rules::CHAT;
 use crate::game_rules::GAME;
 use crate::rules_answers::answer;
 use crate::school_rules::SCHOOL;
-use crate::tables::{Row, first_other};
 use path_capture::Path;
 use rules_reader::{Kind, RuleNode, Rules, compile};
 use std::alloc::Global;
 use std::test::Fail;
+use test_tables::{Row, first_other};
 
 #[test]
 fn written_files_are_read_and_counted(rt: HostRuntime) -> Result<(), Fail> {

@@ -1,9 +1,9 @@
 //! Rules that are none: which fault is answered, where, and which of several.
 use crate::rules_answers::answer;
-use crate::tables::{LongRow, Row, first_other, first_other_of_long};
 use rules_reader::compile;
 use std::alloc::Global;
 use std::test::Fail;
+use test_tables::{LongRow, Row, first_other, first_other_of_long};
 
 // ---- each fault, with the pattern, the rule, and the byte or the name
 

@@ -1,12 +1,15 @@
-//! Tables of cases: what is asked, and what is answered.
+//! Tables of cases: what is asked, and what is answered. The crates with tests stand on it; it has no
+//! contract that a layer above needs.
+#![tactic(auto)]
+
 use std::alloc::{AllocError, Global};
 use std::test::Fail;
 
 /// A question and its answer.
-pub(crate) type Row = (&'static str, &'static str);
+pub type Row = (&'static str, &'static str);
 
 /// A long question, by its front, a piece, how often that is repeated, and its back; and its answer.
-pub(crate) type LongRow = (
+pub type LongRow = (
     &'static str,
     &'static str,
     usize,
@@ -15,7 +18,7 @@ pub(crate) type LongRow = (
 );
 
 /// The first row with another answer, and that answer; else nothing.
-pub(crate) fn first_other<F: Fn(Global, &str) -> Result<String, Fail>>(
+pub fn first_other<F: Fn(Global, &str) -> Result<String, Fail>>(
     alloc: Global,
     rows: &[Row],
     answer: F,
@@ -32,7 +35,7 @@ pub(crate) fn first_other<F: Fn(Global, &str) -> Result<String, Fail>>(
 }
 
 /// The same of long questions.
-pub(crate) fn first_other_of_long<F: Fn(Global, &str) -> Result<String, Fail>>(
+pub fn first_other_of_long<F: Fn(Global, &str) -> Result<String, Fail>>(
     alloc: Global,
     rows: &[LongRow],
     answer: F,
@@ -49,8 +52,8 @@ pub(crate) fn first_other_of_long<F: Fn(Global, &str) -> Result<String, Fail>>(
     Ok(String::new(alloc))
 }
 
-/// A text with a piece that is repeated.
-pub(crate) fn long(
+// A text with a piece that is repeated.
+fn long(
     alloc: Global,
     front: &str,
     piece: &str,

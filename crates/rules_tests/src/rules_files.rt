@@ -1,12 +1,12 @@
 //! Rules files: which are accepted, their faults, and which object stands at a path.
 use crate::rules_answers::answer;
-use crate::tables::{LongRow, Row, first_other, first_other_of_long};
 use expr_parser::Expr;
 use expr_types::Checked;
 use path_capture::Path;
 use rules_reader::{RuleNode, compile};
 use std::alloc::Global;
 use std::test::Fail;
+use test_tables::{LongRow, Row, first_other, first_other_of_long};
 
 const FILES: [Row; 31] = [
     ("{\"rules\":{}}", "0 rules"),
