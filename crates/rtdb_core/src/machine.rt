@@ -180,13 +180,7 @@ impl Core {
         Ok(())
     }
 
-    fn get(
-        &self,
-        arena: &mut Bump,
-        now: u64,
-        session: u64,
-        path: &Path,
-    ) -> Result<Reply, NoMemory>
+    fn get(&self, arena: &mut Bump, now: u64, session: u64, path: &Path) -> Result<Reply, NoMemory>
         requires { now ≤ MAX_MOMENT }
         ensures ok { IfOk result (λ reply. outcome self.now now session (Event.Get path.now) ≡ record { reply = reply; after = self.now }) }
         ensures later { OnErr result (is_refused_at_once self.now session (Event.Get path.now) ≡ false) }
@@ -293,12 +287,7 @@ impl Core {
 
     // Why a read is refused, if it is.
     #[tactic(auto, unfolding(crate::specs::Step::read_refusal))]
-    fn read_refusal(
-        &self,
-        arena: &Bump,
-        now: u64,
-        path: &Path,
-    ) -> Result<Option<Refusal>, NoMemory>
+    fn read_refusal(&self, arena: &Bump, now: u64, path: &Path) -> Result<Option<Refusal>, NoMemory>
         requires { now ≤ MAX_MOMENT }
         ensures { IfOk result (λ refusal. refusal ≡ read_refusal self.now now path.now) }
     {

@@ -1,7 +1,7 @@
 //! What an event is answered.
 
-use judge::{NamedRules, Why};
 use json_tree::Node;
+use judge::{NamedRules, Why};
 use path_capture::{Path, Pattern};
 
 /// What an event is answered.

@@ -232,12 +232,7 @@ fn write_denied(alloc: Global, at: &Path, named: &NamedRules) -> Result<Value, N
     placed_with_rules(alloc, Code::WriteDenied, place.as_str(), rules)
 }
 
-fn validate_denied(
-    alloc: Global,
-    at: &Path,
-    pattern: &Pattern,
-    why: Why,
-) -> Result<Value, NoMemory>
+fn validate_denied(alloc: Global, at: &Path, pattern: &Pattern, why: Why) -> Result<Value, NoMemory>
     ensures { IfOk result (λ value. view value ≡ validate_denied_data at.now pattern.now why) }
 {
     let code = Code::ValidateDenied;

@@ -319,12 +319,7 @@ fn keep(writes: &mut Vec<Write>, write: Write) -> Result<(), NoMemory>
     Ok(())
 }
 
-fn write_below(
-    alloc: Global,
-    path: &Path,
-    name: &str,
-    value: &Value,
-) -> Result<Write, MessageFault>
+fn write_below(alloc: Global, path: &Path, name: &str, value: &Value) -> Result<Write, MessageFault>
     ensures { Tells (λ write. write) result (write_below path.now name.now (view value.now)) }
 {
     let at = path_below(alloc, path, name)?;
