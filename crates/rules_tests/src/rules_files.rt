@@ -130,45 +130,6 @@ fn as_many_rules_as_there_may_be(rt: HostRuntime) -> Result<(), Fail> {
     Ok(())
 }
 
-const UNJUDGED: [Row; 9] = [
-    ("{\"rules\":{\".validate\":true,\"a\":{}}}", "true"),
-    ("{\"rules\":{\".validate\":false}}", "true"),
-    ("{\"rules\":{\".read\":\"1 == 1\"}}", "true"),
-    ("{\"rules\":{\"a\":{\".write\":\"(true)\"}}}", "true"),
-    (
-        "{\"rules\":{\".read\":\"true\",\".write\":\" false \"}}",
-        "false",
-    ),
-    (
-        "{\"rules\":{\"a\":{\".read\":true},\"b\":{\"$c\":{\"d\":{\".validate\":true}}}}}",
-        "true",
-    ),
-    (
-        "{\"rules\":{\".read\":true,\"a\":{\"$c\":{\".write\":true}}}}",
-        "false",
-    ),
-    (
-        "{\"rules\":{\"validate\":{\".indexOn\":\".validate\"}}}",
-        "false",
-    ),
-    ("{\"rules\":{}}", "false"),
-];
-
-// Whether some object of a file states a rule that is not judged yet.
-fn states_unjudged(alloc: Global, file: &str) -> Result<String, Fail> {
-    match compile(alloc, file.as_bytes()) {
-        Ok(rules) => Ok(format!(in alloc; "{}", rules.states_unjudged())?),
-        Err(fault) => Err(fault)?,
-    }
-}
-
-#[test]
-fn files_with_a_rule_that_is_not_judged_yet(rt: HostRuntime) -> Result<(), Fail> {
-    let other = first_other(rt.alloc(), &UNJUDGED, states_unjudged)?;
-    assert_eq!(rt; other.as_str(), "");
-    Ok(())
-}
-
 const FILE: &str =
     "{\"rules\":{\"rooms\":{\"lobby\":{\".read\":false},\"$r\":{\".read\":true,\".write\":true,\".validate\":false,\"a\":{\".write\":false}}}}}";
 
