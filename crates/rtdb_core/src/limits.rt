@@ -1,5 +1,7 @@
-//! The limits of sessions and of the stored tree, each with its reason.
+//! The limits of sessions, of moments and of the stored tree, each with its reason.
 ghost use Rattle.std.specs.Prelude.{◌≡◌};
+
+use evaluator::MAX_MOMENT;
 
 /// The most sessions that are open at a time. (This project's profile.)
 pub const MAX_SESSIONS: usize = 64;
@@ -11,4 +13,5 @@ pub const MAX_LOCATIONS: usize = 65_536;
 pub fn the_limits()
     ensures sessions { MAX_SESSIONS ≡ 64 }
     ensures locations { MAX_LOCATIONS ≡ 65536 }
+    ensures moment { MAX_MOMENT ≡ 9007199254740991 }
 {}
