@@ -4,6 +4,7 @@ use Rattle.serde_json.specs.Data.{Data}
 use Rattle.rules_reader.specs.declared.fault.RulesFault.{RulesFault}
 use Rattle.rules_reader.specs.Book.{Book}
 use Rattle.rules_reader.specs.File.{States}
+use Rattle.rules_reader.specs.Place.{HasOneCapture}
 use Rattle.rules_reader.specs.Refusal.{Refuses}
 use Rattle.sessions.specs.Message.{Header, value_of, header_of, header_in, or_fault, unless_fault}
 use Rattle.rtdb_core.specs.State.{State}
@@ -19,8 +20,8 @@ unfolding header_in
 header_is line d header v h = ap (λ r. unless_fault r (λ e. or_fault BadRequest (header_of e))) v ∙ ap (or_fault BadRequest) (sym h)
 
 -- and its rules
-pub rules_are : (line : List ℕ) (header : Header) (bytes : List ℕ) (book : Book) → header_in line ≡ Ok header → bytes ≡ header.rules → States bytes book → HasRules line header book
-rules_are line header bytes book is same states = record { is = is; states = subst (λ (t : List ℕ). States t book) same states }
+pub rules_are : (line : List ℕ) (header : Header) (bytes : List ℕ) (book : Book) → header_in line ≡ Ok header → bytes ≡ header.rules → States bytes book → HasOneCapture book → HasRules line header book
+rules_are line header bytes book is same states one = record { is = is; states = subst (λ (t : List ℕ). States t book) same states; one = one }
 
 pub rules_refused : (header : Header) (bytes : List ℕ) (fault : RulesFault) → bytes ≡ header.rules → Refuses bytes fault → Refuses header.rules fault
 rules_refused header bytes fault same r = subst (λ (t : List ℕ). Refuses t fault) same r

@@ -65,7 +65,7 @@ unfolding header_in
 header_in-shown text line e = rw (value_of-shown text line e) refl
 
 HasRules-shown : (text line : List ℕ) (header : Header) (book : Book) → header_in text ≡ header_in line → HasRules text header book → HasRules line header book
-HasRules-shown text line header book e h = record { is = sym e ∙ h.is; states = h.states }
+HasRules-shown text line header book e h = record { is = sym e ∙ h.is; states = h.states; one = h.one }
 
 Opens-shown : (text line : List ℕ) (opened : Result State HeaderFault) → header_in text ≡ header_in line → Opens text opened → Opens line opened
 Opens-shown text line (Ok state) e o = (o.0, o.1, o.2, HasRules-shown text line o.0 o.1 e o.3, o.4, o.5, o.6)

@@ -3,6 +3,7 @@ use Rattle.std.specs.Prelude.{◌≡◌, ℕ, ◌≤◌, ◌<◌, ◌⊎◌, Lis
 use Rattle.tree_model.specs.Tree.{Tree, count}
 use Rattle.rules_reader.specs.Book.{Book}
 use Rattle.rules_reader.specs.File.{States}
+use Rattle.rules_reader.specs.Place.{HasOneCapture}
 use Rattle.rules_reader.specs.Refusal.{Refuses}
 use Rattle.rtdb_core.specs.declared.limits.TheConstants.{MAX_LOCATIONS}
 use Rattle.rtdb_core.specs.State.{State, opening}
@@ -11,10 +12,11 @@ use Rattle.sessions.specs.declared.header.HeaderFault.{HeaderFault}
 use Rattle.sessions.specs.declared.header.HeaderFault.TheVariants.{Line, Rules, Data, TreeFull}
 use Rattle.sessions.specs.Message.{Header, header_in, opening_tree}
 
--- the line is a header with this rules file, which states these rules
+-- the line is a header with this rules file, which states these rules; in each object at most one part is a capture, as in every file that is not refused
 pub record HasRules (line : List ℕ) (header : Header) (book : Book) : Type 0 where
   pub is : header_in line ≡ Ok header
   pub states : States header.rules book
+  pub one : HasOneCapture book
 
 -- The state that a header opens, or its first fault: of the line, then of the rules file, then of the opening tree, whose locations are counted last. Want of memory may come in the place of any. (This project's profile.)
 abbrev pub Opens : List ℕ → Result State HeaderFault → Type 0

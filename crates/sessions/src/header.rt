@@ -62,6 +62,7 @@ pub fn read_header(alloc: Global, line: &[u8]) -> Result<Core, HeaderFault>
         return Err(HeaderFault::Line(MessageFault::BadRequest));
     };
     let rules = compile(alloc, header.rules.as_bytes())?;
+    rules.root();
     open(alloc, rules, header.opening)
 }
 

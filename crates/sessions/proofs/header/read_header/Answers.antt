@@ -16,4 +16,4 @@ pub returns : goal.returns
 returns c =
     opens c.args.line.now (header_seen c.in-Some.header) c.in_ok-rules.rules c.open.result
     (rules_are c.args.line.now (header_seen c.in-Some.header) c.as_bytes.result.now c.in_ok-rules.rules
-    (header_is c.args.line.now (view c.in_ok-value.value) (header_seen c.in-Some.header) c.in_ok-value.ensures c.in-Some.ensures) c.as_bytes.ensures.value c.in_ok-rules.ensures.accepted) c.open.ensures
+    (header_is c.args.line.now (view c.in_ok-value.value) (header_seen c.in-Some.header) c.in_ok-value.ensures c.in-Some.ensures) c.as_bytes.ensures.value c.in_ok-rules.ensures.accepted c.root.ensures.one) c.open.ensures
