@@ -16,17 +16,17 @@ use Rattle.rtdb_core.specs.declared.event.Event.TheVariants.{Update}
 use Rattle.rtdb_core.specs.declared.reply.Refusal.TheVariants.{NoSession, EmptyUpdate, Overlap}
 use Rattle.rtdb_core.specs.declared.reply.Reply.TheVariants.{Done}
 use Rattle.rtdb_core.specs.State.{State, is_open, scene_at}
-use Rattle.rtdb_core.specs.Step.{Outcome, refused, unless_refused, denial, or_full, tree_with, write_refusal, written_to, makes, updates, is_refused_at_once}
+use Rattle.rtdb_core.specs.Step.{Outcome, refused, unless_refused, denial, or_full, tree_with, write_refusal, written_to, makes, updates, takes_no_memory}
 
 verdict_same : (scene : Scene) (t : Tree) (ls ms : List Path) → HasOneCapture scene.book → IsPermutation ls ms → write_verdict scene t ls ≡ write_verdict scene t ms
 verdict_same scene t ls ms one p =
     sym (one_verdict scene t ls (write_verdict scene t ms) one (verdict_in_any_order scene t ls ms (write_verdict scene t ms) p (writes_decided scene t ms (write_verdict scene t ms) refl)))
 
-makes_same : (old : State) (now : ℕ) (ws xs : List Write) → HasOneCapture old.rules → IsPermutation ws xs → overlaps ws ≡ false → makes old now ws ≡ makes old now xs
+makes_same : (old : State) (now session : ℕ) (ws xs : List Write) → HasOneCapture old.rules → IsPermutation ws xs → overlaps ws ≡ false → makes old now session ws ≡ makes old now session xs
 unfolding write_refusal
-makes_same old now ws xs one p apart =
+makes_same old now session ws xs one p apart =
     let tree = proposed-permutation old.tree ws xs p apart in
-    let verdict = verdict_same (scene_at old now) (tree_with old ws) (map location ws) (map location xs) one (IsPermutation-map location ws xs p) ∙ ap (λ (t : Tree). write_verdict (scene_at old now) t (map location xs)) tree in
+    let verdict = verdict_same (scene_at old now session) (tree_with old ws) (map location ws) (map location xs) one (IsPermutation-map location ws xs p) ∙ ap (λ (t : Tree). write_verdict (scene_at old now session) t (map location xs)) tree in
     λ i. unless_refused old (or_full (denial (verdict i)) (tree i)) (record { reply = Done; after = record old { tree = tree i } })
 
 overlap_same : (ws xs : List Write) → IsPermutation ws xs → overlaps ws ≡ overlaps xs
@@ -42,13 +42,13 @@ overlap_same ws xs p = by_one (overlaps ws) (overlaps xs) refl refl
 module _ (old : State) (now session : ℕ) (ws xs : List Write) (opened : is_open old session ≡ true) (some : length ws == 0 ≡ false) (p : IsPermutation ws xs) where
   pub update_overlaps : overlaps xs ≡ true → updates old now session ws ≡ refused old Overlap
   update_overlaps h =
-      λ i. cond (not (opened i)) (refused old NoSession) (cond (some i) (refused old EmptyUpdate) (cond ((overlap_same ws xs p ∙ h) i) (refused old Overlap) (makes old now ws)))
+      λ i. cond (not (opened i)) (refused old NoSession) (cond (some i) (refused old EmptyUpdate) (cond ((overlap_same ws xs p ∙ h) i) (refused old Overlap) (makes old now session ws)))
 
-  pub update_made : HasOneCapture old.rules → overlaps xs ≡ false → updates old now session ws ≡ makes old now xs
+  pub update_made : HasOneCapture old.rules → overlaps xs ≡ false → updates old now session ws ≡ makes old now session xs
   update_made one h =
       let apart = overlap_same ws xs p ∙ h in
-      let by : updates old now session ws ≡ makes old now ws = (λ i. cond (not (opened i)) (refused old NoSession) (cond (some i) (refused old EmptyUpdate) (cond (apart i) (refused old Overlap) (makes old now ws)))) in
-      by ∙ makes_same old now ws xs one p apart
+      let by : updates old now session ws ≡ makes old now session ws = (λ i. cond (not (opened i)) (refused old NoSession) (cond (some i) (refused old EmptyUpdate) (cond (apart i) (refused old Overlap) (makes old now session ws)))) in
+      by ∙ makes_same old now session ws xs one p apart
 
-  pub update_is_judged : overlaps xs ≡ false → is_refused_at_once old session (Update ws) ≡ false
+  pub update_is_judged : overlaps xs ≡ false → takes_no_memory old session (Update ws) ≡ false
   update_is_judged h = λ i. not (opened i) || some i || (overlap_same ws xs p ∙ h) i

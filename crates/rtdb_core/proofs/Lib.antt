@@ -6,5 +6,6 @@ pub mod Outcomes
 pub mod ReadJudging
 pub mod WriteJudging
 pub mod AnyOrder
+pub mod Deploying
 pub mod StepLaws
 pub mod RunLaws

@@ -1,7 +1,9 @@
 -- What each outcome leaves.
-use Rattle.std.proofs.Common.{◌≡◌, ◌≢◌, ◌==◌, ℕ, Bool, true, false, cond, not, List, [], ◌∷◌, length, Option, Some, None, refl, ap}
+use Rattle.std.proofs.Common.{◌≡◌, ◌≢◌, ◌==◌, ◌&&◌, ◌∙◌, ℕ, Bool, true, false, cond, not, List, [], ◌∷◌, length, Option, Some, None, option_and_then, refl, sym, ap}
 use Rattle.std.specs.Prelude.{nat_le}
 use Rattle.std.specs.FinMap as map_of
+use Rattle.std.specs.Ordering.{nat_cmp, eq_by_cmp}
+use Rattle.std.specs.Cmp.{nat_cmp_total, unsigned_tied}
 use Rattle.tree_model.specs.Path.{Path}
 use Rattle.tree_model.specs.PathMap.{sub}
 use Rattle.tree_model.specs.Tree.{Tree, non_null, count}
@@ -10,40 +12,64 @@ use Rattle.evaluator.specs.Asked.{no_query}
 use Rattle.judge.specs.declared.verdict.Verdict.{Verdict}
 use Rattle.judge.specs.declared.verdict.Verdict.TheVariants as verdicts
 use Rattle.judge.specs.Tests.{read_verdict}
+use Rattle.evaluator.specs.Identity.{Identity}
+use Rattle.rules_reader.specs.Book.{Book}
+use Rattle.rtdb_core.specs.Headline.{is_done, rules_by, identity_by}
 use Rattle.rtdb_core.specs.declared.limits.TheConstants.{MAX_SESSIONS, MAX_LOCATIONS}
 use Rattle.rtdb_core.specs.declared.event.Event.{Event}
-use Rattle.rtdb_core.specs.declared.event.Event.TheVariants.{Open, Get, Set, Remove, Update}
+use Rattle.rtdb_core.specs.declared.event.Event.TheVariants.{Open, Close, SignIn, SignOut, Get, Set, Remove, Update, Deploy}
 use Rattle.rtdb_core.specs.declared.reply.Refusal.{Refusal}
-use Rattle.rtdb_core.specs.declared.reply.Refusal.TheVariants.{SessionOpen, TooManySessions, NoSession, EmptyUpdate, Overlap, TreeFull, NoMemory}
+use Rattle.rtdb_core.specs.declared.reply.Refusal.TheVariants.{SessionOpen, TooManySessions, NoSession, NotAdmin, EmptyUpdate, Overlap, TreeFull, NoMemory}
 use Rattle.rtdb_core.specs.declared.reply.Reply.{Reply}
 use Rattle.rtdb_core.specs.declared.reply.Reply.TheVariants.{Done, Value, Refused}
-use Rattle.rtdb_core.specs.State.{State, is_open, scene_at}
-use Rattle.rtdb_core.specs.Step.{Outcome, refused, unless_refused, denial, full, or_full, tree_with, verdict_on, write_refusal, read_refusal, opened, opens, value_at, gets, written_to, makes, sets, removal, updates, outcome}
+use Rattle.rtdb_core.specs.State.{Session, Sessions, State, fresh, is_open, identity_of, listeners_of, is_admin, scene_at}
+use Rattle.rtdb_core.specs.Step.{Outcome, refused, unless_refused, denial, full, or_full, tree_with, verdict_on, write_refusal, read_refusal, opened, opens, closed, closes, signed, signs, deployed, deploys, value_at, gets, written_to, makes, sets, removal, updates, outcome}
 
--- a refusal leaves the state, no outcome is want of memory, and the rules stay
-pub record IsFine (old : State) (o : Outcome) : Type 0 where
+-- who is signed in on each session after an event of one that was answered so
+abbrev SignsOnly : State → ℕ → Event → Outcome → Type 0
+SignsOnly old session event o = (other : ℕ) → identity_of o.after other ≡ cond (is_done o.reply && other == session) (identity_by event (identity_of old other)) (identity_of old other)
+
+-- a refusal leaves the state, no outcome is want of memory, and rules and identities are as the event says
+pub record IsFine (old : State) (session : ℕ) (event : Event) (o : Outcome) : Type 0 where
   pub stays : (refusal : Refusal) → o.reply ≡ Refused refusal → o.after ≡ old
   pub answers : o.reply ≢ Refused NoMemory
-  pub keeps_rules : o.after.rules ≡ old.rules
+  pub rules : o.after.rules ≡ cond (is_done o.reply) (rules_by event old.rules) old.rules
+  pub identities : SignsOnly old session event o
 
-fine_refusal : (old : State) (refusal : Refusal) → Refused refusal ≢ Refused NoMemory → IsFine old (refused old refusal)
-fine_refusal old refusal other = record { stays = λ _ _. refl; answers = other; keeps_rules = refl }
+fine_refusal : (old : State) (session : ℕ) (event : Event) (refusal : Refusal) → Refused refusal ≢ Refused NoMemory → IsFine old session event (refused old refusal)
+fine_refusal old session event refusal other = record { stays = λ _ _. refl; answers = other; rules = refl; identities = λ _. refl }
 
-fine_done : (old new : State) → new.rules ≡ old.rules → IsFine old (record { reply = Done; after = new })
-fine_done old new same = record { stays = λ refusal e. absurd (never refusal e); answers = λ e. never NoMemory e; keeps_rules = same }
+fine_done : (old : State) (session : ℕ) (event : Event) (new : State) → new.rules ≡ rules_by event old.rules → SignsOnly old session event (record { reply = Done; after = new }) → IsFine old session event (record { reply = Done; after = new })
+fine_done old session event new same signs = record { stays = λ refusal e. absurd (never refusal e); answers = λ e. never NoMemory e; rules = same; identities = signs }
   where
     never : (refusal : Refusal) → Done ≡ Refused refusal → ⊥
     never refusal e = cc
 
-fine_value : (old : State) (tree : Option Tree) → IsFine old (record { reply = Value tree; after = old })
-fine_value old tree = record { stays = λ refusal e. absurd (never refusal e); answers = λ e. never NoMemory e; keeps_rules = refl }
+fine_value : (old : State) (session : ℕ) (event : Event) (tree : Option Tree) → IsFine old session event (record { reply = Value tree; after = old })
+fine_value old session event tree = record { stays = λ refusal e. absurd (never refusal e); answers = λ e. never NoMemory e; rules = refl; identities = λ _. refl }
   where
     never : (refusal : Refusal) → Value tree ≡ Refused refusal → ⊥
     never refusal e = cc
 
-either : (old : State) (b : Bool) (o other : Outcome) → IsFine old o → IsFine old other → IsFine old (cond b o other)
-either old true o other h g = h
-either old false o other h g = g
+either : (old : State) (session : ℕ) (event : Event) (b : Bool) (o other : Outcome) → IsFine old session event o → IsFine old session event other → IsFine old session event (cond b o other)
+either old session event true o other h g = h
+either old session event false o other h g = g
+
+-- ---- sessions, one of which is another
+
+at_session : (old : State) (session other : ℕ) (m : Sessions) (v : Option Session) → map_of.get m other ≡ cond (eq_by_cmp nat_cmp other session) v (map_of.get old.sessions other) → option_and_then (λ (one : Session). one.identity) (map_of.get m other) ≡ cond (other == session) (option_and_then (λ (one : Session). one.identity) v) (identity_of old other)
+at_session old session other m v is =
+    ap (λ (o : Option Session). option_and_then (λ (one : Session). one.identity) o) (is ∙ ap (λ (b : Bool). cond b v (map_of.get old.sessions other)) (unsigned_tied other session))
+    ∙ push (other == session)
+  where
+    push : (b : Bool) → option_and_then (λ (one : Session). one.identity) (cond b v (map_of.get old.sessions other)) ≡ cond b (option_and_then (λ (one : Session). one.identity) v) (identity_of old other)
+    push true = refl
+    push false = refl
+
+-- nobody is signed in or out
+signs_nobody : (b : Bool) (who : Option Identity) → who ≡ cond b who who
+signs_nobody true who = refl
+signs_nobody false who = refl
 
 -- ---- no refusal of the rules or of room is want of memory
 
@@ -67,46 +93,76 @@ or_full_wants_none : (o : Option Refusal) (tree : Tree) → WantsNone o → Want
 or_full_wants_none None tree h = full_wants_none tree
 or_full_wants_none (Some refusal) tree h = h
 
-write_wants_none : (old : State) (now : ℕ) (writes : List Write) → WantsNone (write_refusal old now writes)
+write_wants_none : (old : State) (now session : ℕ) (writes : List Write) → WantsNone (write_refusal old now session writes)
 unfolding write_refusal
-write_wants_none old now writes = or_full_wants_none (denial (verdict_on old now writes)) (tree_with old writes) (denial_wants_none (verdict_on old now writes))
+write_wants_none old now session writes = or_full_wants_none (denial (verdict_on old now session writes)) (tree_with old writes) (denial_wants_none (verdict_on old now session writes))
 
-read_wants_none : (old : State) (now : ℕ) (path : Path) → WantsNone (read_refusal old now path)
+read_wants_none : (old : State) (now session : ℕ) (path : Path) → WantsNone (read_refusal old now session path)
 unfolding read_refusal
-read_wants_none old now path = denial_wants_none (read_verdict (scene_at old now) no_query path)
+read_wants_none old now session path = denial_wants_none (read_verdict (scene_at old now session) no_query path)
 
-unless : (old : State) (o : Option Refusal) (other : Outcome) → WantsNone o → IsFine old other → IsFine old (unless_refused old o other)
-unless old None other h g = g
-unless old (Some refusal) other h g = fine_refusal old refusal (h refusal refl)
+unless : (old : State) (session : ℕ) (event : Event) (o : Option Refusal) (other : Outcome) → WantsNone o → IsFine old session event other → IsFine old session event (unless_refused old o other)
+unless old session event None other h g = g
+unless old session event (Some refusal) other h g = fine_refusal old session event refusal (h refusal refl)
 
 -- ---- each event
 
-fine_open : (old : State) (session : ℕ) → IsFine old (opens old session)
-fine_open old session =
-    either old (is_open old session) _ _ (fine_refusal old SessionOpen (λ e. cc))
-    (either old (nat_le MAX_SESSIONS (map_of.len old.sessions)) _ _ (fine_refusal old TooManySessions (λ e. cc)) (fine_done old (opened old session) refl))
+module _ (old : State) (session : ℕ) where
+  closed_refused : (event : Event) → IsFine old session event (refused old NoSession)
+  closed_refused event = fine_refusal old session event NoSession (λ e. cc)
 
-fine_get : (old : State) (now session : ℕ) (path : Path) → IsFine old (gets old now session path)
-fine_get old now session path =
-    either old (not (is_open old session)) _ _ (fine_refusal old NoSession (λ e. cc))
-    (unless old (read_refusal old now path) (value_at old path) (read_wants_none old now path) (fine_value old (non_null (sub old.tree path))))
+  fine_open : IsFine old session Open (opens old session)
+  fine_open =
+      either old session Open (is_open old session) _ _ (fine_refusal old session Open SessionOpen (λ e. cc))
+      (either old session Open (nat_le MAX_SESSIONS (map_of.len old.sessions)) _ _ (fine_refusal old session Open TooManySessions (λ e. cc))
+      (fine_done old session Open (opened old session) refl (λ other. at_session old session other (opened old session).sessions (Some fresh) (map_of.get-insert nat_cmp_total old.sessions session fresh other))))
 
-fine_makes : (old : State) (now : ℕ) (writes : List Write) → IsFine old (makes old now writes)
-fine_makes old now writes = unless old (write_refusal old now writes) (record { reply = Done; after = written_to old writes }) (write_wants_none old now writes) (fine_done old (written_to old writes) refl)
+  fine_close : IsFine old session Close (closes old session)
+  fine_close =
+      either old session Close (not (is_open old session)) _ _ (closed_refused Close)
+      (fine_done old session Close (closed old session) refl (λ other. at_session old session other (closed old session).sessions None (map_of.get-remove nat_cmp_total old.sessions session other)))
 
-fine_set : (old : State) (now session : ℕ) (write : Write) → IsFine old (sets old now session write)
-fine_set old now session write =
-    either old (not (is_open old session)) _ _ (fine_refusal old NoSession (λ e. cc)) (fine_makes old now (write ∷ []))
+  fine_sign : (event : Event) (who : Option Identity) → rules_by event old.rules ≡ old.rules → ((before : Option Identity) → identity_by event before ≡ who) → IsFine old session event (signs old session who)
+  fine_sign event who keeps leaves =
+      either old session event (not (is_open old session)) _ _ (closed_refused event)
+      (fine_done old session event (signed old session who) (sym keeps) (λ other. at_session old session other (signed old session who).sessions (Some after) (map_of.get-insert nat_cmp_total old.sessions session after other) ∙ ap (λ (o : Option Identity). cond (other == session) o (identity_of old other)) (sym (leaves (identity_of old other)))))
+    where
+      after : Session
+      after = record { identity = who; listeners = listeners_of old session }
 
-fine_update : (old : State) (now session : ℕ) (writes : List Write) → IsFine old (updates old now session writes)
-fine_update old now session writes =
-    either old (not (is_open old session)) _ _ (fine_refusal old NoSession (λ e. cc))
-    (either old (length writes == 0) _ _ (fine_refusal old EmptyUpdate (λ e. cc))
-    (either old (overlaps writes) _ _ (fine_refusal old Overlap (λ e. cc)) (fine_makes old now writes)))
+  fine_get : (now : ℕ) (path : Path) → IsFine old session (Get path) (gets old now session path)
+  fine_get now path =
+      either old session (Get path) (not (is_open old session)) _ _ (closed_refused (Get path))
+      (unless old session (Get path) (read_refusal old now session path) (value_at old path) (read_wants_none old now session path) (fine_value old session (Get path) (non_null (sub old.tree path))))
 
-pub fine : (old : State) (now session : ℕ) (event : Event) → IsFine old (outcome old now session event)
+  fine_makes : (now : ℕ) (event : Event) (writes : List Write) → rules_by event old.rules ≡ old.rules → ((before : Option Identity) → identity_by event before ≡ before) → IsFine old session event (makes old now session writes)
+  fine_makes now event writes keeps leaves =
+      unless old session event (write_refusal old now session writes) (record { reply = Done; after = written_to old writes }) (write_wants_none old now session writes)
+      (fine_done old session event (written_to old writes) (sym keeps) (λ other. signs_nobody (other == session) (identity_of old other) ∙ ap (λ (o : Option Identity). cond (other == session) o (identity_of old other)) (sym (leaves (identity_of old other)))))
+
+  fine_set : (now : ℕ) (event : Event) (write : Write) → rules_by event old.rules ≡ old.rules → ((before : Option Identity) → identity_by event before ≡ before) → IsFine old session event (sets old now session write)
+  fine_set now event write keeps leaves =
+      either old session event (not (is_open old session)) _ _ (closed_refused event) (fine_makes now event (write ∷ []) keeps leaves)
+
+  fine_update : (now : ℕ) (writes : List Write) → IsFine old session (Update writes) (updates old now session writes)
+  fine_update now writes =
+      either old session (Update writes) (not (is_open old session)) _ _ (closed_refused (Update writes))
+      (either old session (Update writes) (length writes == 0) _ _ (fine_refusal old session (Update writes) EmptyUpdate (λ e. cc))
+      (either old session (Update writes) (overlaps writes) _ _ (fine_refusal old session (Update writes) Overlap (λ e. cc)) (fine_makes now (Update writes) writes refl (λ _. refl))))
+
+  fine_deploy : (rules : Book) → IsFine old session (Deploy rules) (deploys old session rules)
+  fine_deploy rules =
+      either old session (Deploy rules) (not (is_open old session)) _ _ (closed_refused (Deploy rules))
+      (either old session (Deploy rules) (not (is_admin (identity_of old session))) _ _ (fine_refusal old session (Deploy rules) NotAdmin (λ e. cc))
+      (fine_done old session (Deploy rules) (deployed old rules) refl (λ other. signs_nobody (other == session) (identity_of old other))))
+
+pub fine : (old : State) (now session : ℕ) (event : Event) → IsFine old session event (outcome old now session event)
 fine old now session Open = fine_open old session
-fine old now session (Get path) = fine_get old now session path
-fine old now session (Set write) = fine_set old now session write
-fine old now session (Remove path) = fine_set old now session (removal path)
-fine old now session (Update writes) = fine_update old now session writes
+fine old now session Close = fine_close old session
+fine old now session (SignIn who) = fine_sign old session (SignIn who) (Some who) refl (λ _. refl)
+fine old now session SignOut = fine_sign old session SignOut None refl (λ _. refl)
+fine old now session (Get path) = fine_get old session now path
+fine old now session (Set write) = fine_set old session now (Set write) write refl (λ _. refl)
+fine old now session (Remove path) = fine_set old session now (Remove path) (removal path) refl (λ _. refl)
+fine old now session (Update writes) = fine_update old session now writes
+fine old now session (Deploy rules) = fine_deploy old session rules

@@ -22,7 +22,7 @@ module _ (old : State) (now session : ℕ) (path : Path) where
   ReadJudged o = IsReadJudged old now session path o.reply o.after
 
   abbrev names : List Named
-  names = named_for_read old now path
+  names = named_for_read old now session path
 
   read_closed : is_open old session ≡ false → ReadJudged (refused old NoSession)
   read_closed closed = record {
@@ -33,7 +33,7 @@ module _ (old : State) (now session : ℕ) (path : Path) where
     stays = refl;
   }
 
-  read_denied : is_open old session ≡ true → ¬ (GrantsRead old now path) → ReadJudged (refused old (ReadDenied names))
+  read_denied : is_open old session ≡ true → ¬ (GrantsRead old now session path) → ReadJudged (refused old (ReadDenied names))
   read_denied opened none = record {
     grants = λ _ _ g. absurd (none g);
     denies = λ _ _ _. refl;
@@ -45,7 +45,7 @@ module _ (old : State) (now session : ℕ) (path : Path) where
       same : (named : List Named) → Refused (ReadDenied names) ≡ Refused (ReadDenied named) → names ≡ named
       same named e = cc
 
-  read_granted : is_open old session ≡ true → GrantsRead old now path → ReadJudged (value_at old path)
+  read_granted : is_open old session ≡ true → GrantsRead old now session path → ReadJudged (value_at old path)
   read_granted opened g = record {
     grants = λ _ _ _. refl;
     denies = λ _ _ none. absurd (none g);
@@ -66,19 +66,19 @@ module _ (old : State) (now session : ℕ) (path : Path) where
     stays = refl;
   }
 
-  read_by : is_open old session ≡ true → (v : Verdict) → IsReadVerdict (scene_at old now) no_query path v → ReadJudged (unless_refused old (denial v) (value_at old path))
+  read_by : is_open old session ≡ true → (v : Verdict) → IsReadVerdict (scene_at old now session) no_query path v → ReadJudged (unless_refused old (denial v) (value_at old path))
   read_by opened verdicts.Granted h = read_granted opened h
   read_by opened (verdicts.ReadDenied named) h = subst (λ (ns : List Named). ReadJudged (refused old (ReadDenied ns))) (sym h.1) (read_denied opened h.0)
   read_by opened (verdicts.WriteDenied at named) h = absurd h
   read_by opened (verdicts.ValidateDenied at pattern why) h = absurd h
 
-  read_open : is_open old session ≡ true → ReadJudged (unless_refused old (read_refusal old now path) (value_at old path))
+  read_open : is_open old session ≡ true → ReadJudged (unless_refused old (read_refusal old now session path) (value_at old path))
   unfolding read_refusal
-  read_open opened = read_by opened (read_verdict (scene_at old now) no_query path) ((reads_decided (scene_at old now) no_query path (read_verdict (scene_at old now) no_query path)).0 refl)
+  read_open opened = read_by opened (read_verdict (scene_at old now session) no_query path) ((reads_decided (scene_at old now session) no_query path (read_verdict (scene_at old now session) no_query path)).0 refl)
 
   pub read_judged : ReadJudged (gets old now session path)
   read_judged = by_session (is_open old session) refl
     where
-      by_session : (b : Bool) → is_open old session ≡ b → ReadJudged (cond (not b) (refused old NoSession) (unless_refused old (read_refusal old now path) (value_at old path)))
+      by_session : (b : Bool) → is_open old session ≡ b → ReadJudged (cond (not b) (refused old NoSession) (unless_refused old (read_refusal old now session path) (value_at old path)))
       by_session true e = read_open e
       by_session false e = read_closed e

@@ -20,9 +20,9 @@ use Rattle.rtdb_core.specs.Step.{denial, full, or_full, tree_with, verdict_on, r
 
 -- ---- reads
 
-pub read_is : (old : State) (now : ℕ) (scene : Scene) (asked : Asked) (path : Path) (v : Verdict) → scene ≡ scene_at old now → asked ≡ no_query → IsReadVerdict scene asked path v → denial v ≡ read_refusal old now path
+pub read_is : (old : State) (now session : ℕ) (scene : Scene) (asked : Asked) (path : Path) (v : Verdict) → scene ≡ scene_at old now session → asked ≡ no_query → IsReadVerdict scene asked path v → denial v ≡ read_refusal old now session path
 unfolding read_refusal
-read_is old now scene asked path v same none h =
+read_is old now session scene asked path v same none h =
     ap denial ((reads_decided scene asked path v).1 h ∙ (λ i. read_verdict (same i) (none i) path))
 
 -- ---- writes
@@ -32,14 +32,14 @@ tree_is_proposed base tree old coming ws stored is laid =
     is_proposed base (option_map (λ (node : Bor Tree). node.now) base) coming ws (λ i. option_map (λ (node : Bor Tree). node.now) base) laid
     ∙ ap (λ (t : Tree). proposed t ws) (ap tree_or_null stored ∙ is)
 
-pub verdict_is : (old : State) (now : ℕ) (scene : Scene) (ws : List Write) (v : Verdict) → scene ≡ scene_at old now → HasOneCapture old.rules → IsWriteVerdict scene (proposed scene.old ws) (map location ws) v → v ≡ verdict_on old now ws
-verdict_is old now scene ws v same one h =
-    one_verdict (scene_at old now) (tree_with old ws) (map location ws) v one (subst (λ (s : Scene). IsWriteVerdict s (proposed s.old ws) (map location ws) v) same h)
+pub verdict_is : (old : State) (now session : ℕ) (scene : Scene) (ws : List Write) (v : Verdict) → scene ≡ scene_at old now session → HasOneCapture old.rules → IsWriteVerdict scene (proposed scene.old ws) (map location ws) v → v ≡ verdict_on old now session ws
+verdict_is old now session scene ws v same one h =
+    one_verdict (scene_at old now session) (tree_with old ws) (map location ws) v one (subst (λ (s : Scene). IsWriteVerdict s (proposed s.old ws) (map location ws) v) same h)
 
-pub is_denied : (old : State) (now : ℕ) (ws : List Write) (v : Verdict) (refusal : Refusal) → v ≡ verdict_on old now ws → denial v ≡ Some refusal → Some refusal ≡ write_refusal old now ws
+pub is_denied : (old : State) (now session : ℕ) (ws : List Write) (v : Verdict) (refusal : Refusal) → v ≡ verdict_on old now session ws → denial v ≡ Some refusal → Some refusal ≡ write_refusal old now session ws
 unfolding write_refusal
-is_denied old now ws v refusal is denied = ap (λ (o : Option Refusal). or_full o (tree_with old ws)) (sym denied ∙ ap denial is)
+is_denied old now session ws v refusal is denied = ap (λ (o : Option Refusal). or_full o (tree_with old ws)) (sym denied ∙ ap denial is)
 
-pub is_granted : (old : State) (now : ℕ) (ws : List Write) (v : Verdict) → v ≡ verdict_on old now ws → denial v ≡ None → full (tree_with old ws) ≡ write_refusal old now ws
+pub is_granted : (old : State) (now session : ℕ) (ws : List Write) (v : Verdict) → v ≡ verdict_on old now session ws → denial v ≡ None → full (tree_with old ws) ≡ write_refusal old now session ws
 unfolding write_refusal
-is_granted old now ws v is none = ap (λ (o : Option Refusal). or_full o (tree_with old ws)) (sym none ∙ ap denial is)
+is_granted old now session ws v is none = ap (λ (o : Option Refusal). or_full o (tree_with old ws)) (sym none ∙ ap denial is)

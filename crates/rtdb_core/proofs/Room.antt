@@ -43,6 +43,6 @@ room_of None tree h = by_room (nat_le (count tree) MAX_LOCATIONS) refl h
     by_room true e g = leb-true (count tree) MAX_LOCATIONS e
     by_room false e g = cc
 
-pub has_room : (old : State) (now : ℕ) (writes : List Write) → write_refusal old now writes ≡ None → count (tree_with old writes) ≤ MAX_LOCATIONS
+pub has_room : (old : State) (now session : ℕ) (writes : List Write) → write_refusal old now session writes ≡ None → count (tree_with old writes) ≤ MAX_LOCATIONS
 unfolding write_refusal
-has_room old now writes h = room_of (denial (verdict_on old now writes)) (tree_with old writes) h
+has_room old now session writes h = room_of (denial (verdict_on old now session writes)) (tree_with old writes) h

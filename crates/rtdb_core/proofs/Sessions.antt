@@ -1,61 +1,94 @@
 -- The map of the sessions that are open, and the ordered entries that it is kept in.
-use Rattle.std.proofs.Common.{◌≡◌, ℕ, Bool, true, false, T, List, [], ◌∷◌, length, Some, is_some, cond, sym, ap, ◌∙◌, subst, refl}
+use Rattle.std.proofs.Common.{◌≡◌, ℕ, Bool, true, false, cond, T, List, [], ◌∷◌, length, Option, Some, None, is_some, refl, sym, ap, subst, ◌∙◌}
+use Rattle.std.specs.Prelude.{◌&&◌, option_and_then}
 use Rattle.std.specs.FinMap as map_of
-use Rattle.std.specs.FinMap.{find, put, is_sorted}
-use Rattle.std.specs.FinMap.Entries.{is_sorted-put, by_order}
-use Rattle.std.specs.BTreeMap.{insert_entry, is_at}
-use Rattle.std.specs.Map.{lookup}
-use Rattle.std.specs.Ordering.{nat_cmp, match_ordering}
-use Rattle.std.specs.declared.cmp.Ordering.TheVariants.{Less, Equal, Greater}
-use Rattle.std.specs.Cmp.{nat_cmp_total}
-use Rattle.rtdb_core.specs.declared.session.Session.{Session}
-use Rattle.rtdb_core.specs.State.{Sessions}
-
-holds_of : (b : Bool) → b ≡ true → T b
-holds_of b h = subst T (sym h) tt
-
-true_of : (b : Bool) → T b → b ≡ true
-true_of true h = refl
-true_of false h = absurd h
+use Rattle.std.specs.FinMap.{find, is_sorted}
+use Rattle.std.specs.FinMap.Entries.{below_all}
+use Rattle.std.specs.BTreeMap.{is_at}
+use Rattle.std.specs.Map.{lookup, keys_of}
+use Rattle.std.specs.List.{AllByRecursion}
+use Rattle.std.specs.List.Sorted.{IsStrictlySortedBy}
+use Rattle.std.specs.Ordering.{nat_cmp, eq_by_cmp, is_lt}
+use Rattle.std.specs.declared.cmp.Ordering.{Ordering}
+use Rattle.std.specs.declared.cmp.Ordering.TheVariants.{Less}
+use Rattle.std.specs.Cmp.{nat_cmp_total, unsigned_ties}
+use Rattle.std.proofs.lemmas.Bool.{false≢true, eqb-true}
+use Rattle.std.proofs.lemmas.Cmp.{eq_by_cmp_equiv}
+use Rattle.evaluator.specs.Identity.{Identity}
+use Rattle.rtdb_core.specs.State.{Session, Sessions, State, is_open, listeners_in}
+use Rattle.rtdb_core.specs.Step.{closed}
 
 -- the sessions of these entries
 abbrev pub sessions_of : List (ℕ × Session) → Sessions
 sessions_of es = map_of.from_entries es
 
-entries_kept : (es : List (ℕ × Session)) → is_sorted nat_cmp es ≡ true → map_of.entries (sessions_of es) ≡ es
-entries_kept es h =
-    ap map_of.entries (map_of.same_map nat_cmp_total map_of.nat_cmp-IsAntisymmetric (sessions_of es) (map_of.from_sorted {R = nat_cmp} es) (λ q. map_of.get-from_entries nat_cmp_total es q ∙ sym (map_of.get-from_sorted nat_cmp es q (holds_of _ h))))
-    ∙ map_of.entries-from_sorted nat_cmp es (holds_of _ h)
-
-pub count_of : (es : List (ℕ × Session)) → is_sorted nat_cmp es ≡ true → length es ≡ map_of.len (sessions_of es)
-count_of es h = ap length (sym (entries_kept es h)) ∙ sym (map_of.len-entries (sessions_of es))
-
 find_is : (es : List (ℕ × Session)) (q : ℕ) → find nat_cmp q es ≡ lookup (is_at (nat_cmp q)) es
 find_is [] q = refl
 find_is (e ∷ es) q = ap (cond (is_at (nat_cmp q) e.0) (Some e.1)) (find_is es q)
 
+pub at : (es : List (ℕ × Session)) (q : ℕ) → map_of.get (sessions_of es) q ≡ lookup (is_at (nat_cmp q)) es
+at es q = map_of.get-from_entries nat_cmp_total es q ∙ find_is es q
+
 pub has : (es : List (ℕ × Session)) (q : ℕ) → is_some (lookup (is_at (nat_cmp q)) es) ≡ map_of.contains_key (sessions_of es) q
-has es q = ap is_some (sym (find_is es q) ∙ sym (map_of.get-from_entries nat_cmp_total es q))
+has es q = ap is_some (sym (at es q))
 
-put_is : (es : List (ℕ × Session)) (k : ℕ) (v : Session) → insert_entry nat_cmp es k v ≡ put nat_cmp k v es
-put_is [] k v = refl
-put_is (e ∷ es) k v =
-    elim (nat_cmp k e.0) as (λ o. match_ordering o ((k, v) ∷ e ∷ es) ((e.0, v) ∷ es) (e ∷ insert_entry nat_cmp es k v) ≡ by_order o ((k, v) ∷ e ∷ es) ((e.0, v) ∷ es) (e ∷ put nat_cmp k v es)) [
-      | Less ↦ refl
-      | Equal ↦ refl
-      | Greater ↦ ap (λ xs. e ∷ xs) (put_is es k v)
-    ]
+pub identity_at : (es : List (ℕ × Session)) (q : ℕ) (found : Option Session) → found ≡ lookup (is_at (nat_cmp q)) es → option_and_then (λ (one : Session). one.identity) found ≡ option_and_then (λ (one : Session). one.identity) (map_of.get (sessions_of es) q)
+identity_at es q found is = ap (λ (o : Option Session). option_and_then (λ (one : Session). one.identity) o) (is ∙ sym (at es q))
 
-pub still_sorted : (es fs : List (ℕ × Session)) (k : ℕ) (v : Session) → is_sorted nat_cmp es ≡ true → fs ≡ insert_entry nat_cmp es k v → is_sorted nat_cmp fs ≡ true
-still_sorted es fs k v h e =
-    ap (is_sorted nat_cmp) (e ∙ put_is es k v) ∙ true_of _ (is_sorted-put nat_cmp nat_cmp_total k v es (holds_of _ h))
+-- ---- how many
 
-pub one_more : (es fs : List (ℕ × Session)) (k : ℕ) (v : Session) → is_sorted nat_cmp es ≡ true → fs ≡ insert_entry nat_cmp es k v → sessions_of fs ≡ map_of.insert (sessions_of es) k v
-one_more es fs k v h e =
-    map_of.same_entries_map _ _ (
-    entries_kept fs (still_sorted es fs k v h e)
-    ∙ e
-    ∙ put_is es k v
-    ∙ ap (put nat_cmp k v) (sym (entries_kept es h))
-    ∙ sym (map_of.entries-insert nat_cmp_total (sessions_of es) k v)
-    )
+below_is : (k : ℕ) (es : List (ℕ × Session)) → AllByRecursion (λ y. nat_cmp k y ≡ Less) (keys_of es) → below_all nat_cmp k es ≡ true
+below_is k [] h = refl
+below_is k (e ∷ es) h = λ i. is_lt (h.0 i) && below_is k es h.1 i
+
+ordered_is : (es : List (ℕ × Session)) → IsStrictlySortedBy nat_cmp (keys_of es) → is_sorted nat_cmp es ≡ true
+unfolding IsStrictlySortedBy
+ordered_is [] h = refl
+ordered_is (e ∷ es) h = λ i. below_is e.0 es h.0 i && ordered_is es h.1 i
+
+entries_kept : (es : List (ℕ × Session)) → T (is_sorted nat_cmp es) → map_of.entries (sessions_of es) ≡ es
+entries_kept es h =
+    ap map_of.entries (map_of.same_map nat_cmp_total map_of.nat_cmp-IsAntisymmetric (sessions_of es) (map_of.from_sorted {R = nat_cmp} es) (λ q. map_of.get-from_entries nat_cmp_total es q ∙ sym (map_of.get-from_sorted nat_cmp es q h)))
+    ∙ map_of.entries-from_sorted nat_cmp es h
+
+pub count_of : (es : List (ℕ × Session)) → IsStrictlySortedBy nat_cmp (keys_of es) → length es ≡ map_of.len (sessions_of es)
+count_of es h = ap length (sym (entries_kept es (subst T (sym (ordered_is es h)) tt))) ∙ sym (map_of.len-entries (sessions_of es))
+
+-- ---- entries of which one is put, changed or taken out
+
+-- what is found where there is this at k, and all else is as before
+abbrev IsChanged : List (ℕ × Session) → List (ℕ × Session) → ℕ → Option Session → Type 0
+IsChanged es fs k v = (q : ℕ) → lookup (is_at (nat_cmp q)) fs ≡ cond (is_at (nat_cmp k) q) v (lookup (is_at (nat_cmp q)) es)
+
+same_by : (es fs : List (ℕ × Session)) (k : ℕ) (v : Option Session) (m : Sessions) → IsChanged es fs k v → ((q : ℕ) → map_of.get m q ≡ cond (eq_by_cmp nat_cmp q k) v (map_of.get (sessions_of es) q)) → sessions_of fs ≡ m
+same_by es fs k v m changed is =
+    map_of.same_map nat_cmp_total map_of.nat_cmp-IsAntisymmetric (sessions_of fs) m (λ q.
+    at fs q ∙ changed q
+    ∙ (ap (λ (b : Bool). cond b v (lookup (is_at (nat_cmp q)) es)) ((eq_by_cmp_equiv nat_cmp_total).symm k q) ∙ ap (cond (eq_by_cmp nat_cmp q k) v) (sym (at es q)))
+    ∙ sym (is q))
+
+pub with_one : (es fs : List (ℕ × Session)) (k : ℕ) (v : Session) → IsChanged es fs k (Some v) → sessions_of fs ≡ map_of.insert (sessions_of es) k v
+with_one es fs k v changed = same_by es fs k (Some v) (map_of.insert (sessions_of es) k v) changed (map_of.get-insert nat_cmp_total (sessions_of es) k v)
+
+pub without_one : (es fs : List (ℕ × Session)) (k : ℕ) → IsChanged es fs k None → sessions_of fs ≡ map_of.remove (sessions_of es) k
+without_one es fs k changed = same_by es fs k None (map_of.remove (sessions_of es) k) changed (map_of.get-remove nat_cmp_total (sessions_of es) k)
+
+-- ---- states
+
+-- where a session is not open, nothing is gone with it
+pub none_gone : (old : State) (session : ℕ) → is_open old session ≡ false → closed old session ≡ old
+none_gone old session h =
+    ap (λ (sessions : Sessions). record { tree = old.tree; rules = old.rules; sessions = sessions })
+    (map_of.same_map nat_cmp_total map_of.nat_cmp-IsAntisymmetric (map_of.remove old.sessions session) old.sessions (λ q.
+    map_of.get-remove nat_cmp_total old.sessions session q ∙ by_test q (eq_by_cmp nat_cmp q session) refl))
+  where
+    nothing : (o : Option Session) → is_some o ≡ false → None ≡ o
+    nothing None e = refl
+    nothing (Some one) e = absurd (false≢true (sym e))
+
+    by_test : (q : ℕ) (b : Bool) → eq_by_cmp nat_cmp q session ≡ b → cond b None (map_of.get old.sessions q) ≡ map_of.get old.sessions q
+    by_test q false e = refl
+    by_test q true e = nothing (map_of.get old.sessions session) h ∙ ap (map_of.get old.sessions) (eqb-true session q (unsigned_ties session q ∙ (eq_by_cmp_equiv nat_cmp_total).symm session q ∙ e))
+
+pub listeners_at : (es : List (ℕ × Session)) (q : ℕ) (one : Session) → Some one ≡ lookup (is_at (nat_cmp q)) es → one.listeners ≡ listeners_in (map_of.get (sessions_of es) q)
+listeners_at es q one is = ap listeners_in (is ∙ sym (at es q))

@@ -1,17 +1,19 @@
 -- What each step gives.
-use Rattle.std.proofs.Common.{◌≡◌, ◌≢◌, ℕ, inl, inr, List, [], ◌∷◌, refl, sym, ap, subst, ◌∙◌}
+use Rattle.std.proofs.Common.{◌≡◌, ◌≢◌, ◌==◌, ◌&&◌, ℕ, cond, inl, inr, List, [], ◌∷◌, refl, sym, ap, subst, ◌∙◌}
 use Rattle.tree_model.specs.Path.{Path}
 use Rattle.tree_model.specs.Write.{Write}
+use Rattle.rules_reader.specs.Book.{Book}
 use Rattle.rules_reader.specs.Place.{HasOneCapture}
 use Rattle.rtdb_core.specs.declared.event.Event.{Event}
-use Rattle.rtdb_core.specs.declared.event.Event.TheVariants.{Open, Get, Set, Remove, Update}
+use Rattle.rtdb_core.specs.declared.event.Event.TheVariants.{Open, Close, SignIn, SignOut, Get, Set, Remove, Update, Deploy}
 use Rattle.rtdb_core.specs.declared.reply.Refusal.{Refusal}
 use Rattle.rtdb_core.specs.declared.reply.Refusal.TheVariants.{NoMemory}
 use Rattle.rtdb_core.specs.declared.reply.Reply.{Reply}
 use Rattle.rtdb_core.specs.declared.reply.Reply.TheVariants.{Refused}
-use Rattle.rtdb_core.specs.State.{State}
+use Rattle.rtdb_core.specs.State.{State, identity_of}
 use Rattle.rtdb_core.specs.Step.{Outcome, refused, removal, outcome, Step, Call}
-use Rattle.rtdb_core.specs.Headline.{AsksFor, IsReadJudged, IsWriteJudged, IsJudged}
+use Rattle.rtdb_core.specs.Headline.{AsksFor, IsReadJudged, IsWriteJudged, IsDeployJudged, is_done, rules_by, identity_by, IsJudged}
+use Rattle.rtdb_core.proofs.Deploying.{DeployJudged, deploy_for_memory, deploy_judged}
 use Rattle.rtdb_core.proofs.Outcomes.{fine}
 use Rattle.rtdb_core.proofs.ReadJudging.{ReadJudged, read_for_memory, read_judged}
 use Rattle.rtdb_core.proofs.WriteJudging.{WriteJudged, write_for_memory, set_judged, update_judged}
@@ -23,10 +25,19 @@ unfolding Step
 refused_stays old new now session event refusal (inl h) = sym (ap (λ (o : Outcome). o.after) h) ∙ (fine old now session event).stays refusal (ap (λ (o : Outcome). o.reply) h)
 refused_stays old new now session event refusal (inr h) = h.1
 
-pub rules_stay : (old new : State) (now session : ℕ) (event : Event) (reply : Reply) → Step old now session event reply new → new.rules ≡ old.rules
+pub rules_are : (old new : State) (now session : ℕ) (event : Event) (reply : Reply) → Step old now session event reply new → new.rules ≡ cond (is_done reply) (rules_by event old.rules) old.rules
 unfolding Step
-rules_stay old new now session event reply (inl h) = sym (ap (λ (o : Outcome). o.after.rules) h) ∙ (fine old now session event).keeps_rules
-rules_stay old new now session event reply (inr h) = ap (λ (s : State). s.rules) h.1
+rules_are old new now session event reply (inl h) =
+    sym (ap (λ (o : Outcome). o.after.rules) h) ∙ (fine old now session event).rules ∙ ap (λ (o : Outcome). cond (is_done o.reply) (rules_by event old.rules) old.rules) h
+rules_are old new now session event reply (inr h) =
+    ap (λ (s : State). s.rules) h.1 ∙ ap (λ (r : Reply). cond (is_done r) (rules_by event old.rules) old.rules) (sym h.0)
+
+pub identity_is : (old new : State) (now session : ℕ) (event : Event) (reply : Reply) → Step old now session event reply new → (other : ℕ) → identity_of new other ≡ cond (is_done reply && other == session) (identity_by event (identity_of old other)) (identity_of old other)
+unfolding Step
+identity_is old new now session event reply (inl h) other =
+    sym (ap (λ (o : Outcome). identity_of o.after other) h) ∙ (fine old now session event).identities other ∙ ap (λ (o : Outcome). cond (is_done o.reply && other == session) (identity_by event (identity_of old other)) (identity_of old other)) h
+identity_is old new now session event reply (inr h) other =
+    ap (λ (s : State). identity_of s other) h.1 ∙ ap (λ (r : Reply). cond (is_done r && other == session) (identity_by event (identity_of old other)) (identity_of old other)) (sym h.0)
 
 -- what is answered, but for want of memory
 memory_aside : (old new : State) (now session : ℕ) (event : Event) (reply : Reply) → reply ≢ Refused NoMemory → Step old now session event reply new → outcome old now session event ≡ record { reply = reply; after = new }
@@ -60,9 +71,18 @@ unfolding Step
 step_judged old new now session event all reply judged (inl h) = subst (WriteJudged old now session all) h judged
 step_judged old new now session event all reply judged (inr h) = subst (WriteJudged old now session all) (for_memory old new reply h.0 h.1) (write_for_memory old now session all)
 
+deployed_by : (old new : State) (now session : ℕ) (rules : Book) (reply : Reply) → Step old now session (Deploy rules) reply new → IsDeployJudged old session rules reply new
+unfolding Step
+deployed_by old new now session rules reply (inl h) = subst (DeployJudged old session rules) h (deploy_judged old session rules)
+deployed_by old new now session rules reply (inr h) = subst (DeployJudged old session rules) (for_memory old new reply h.0 h.1) (deploy_for_memory old session rules)
+
 -- the writes that an event asks for are judged together
 write_judged : (old : State) (now session : ℕ) (event : Event) (all : List Write) → HasOneCapture old.rules → AsksFor event all → WriteJudged old now session all (outcome old now session event)
 write_judged old now session Open all one asks = absurd asks
+write_judged old now session Close all one asks = absurd asks
+write_judged old now session (SignIn who) all one asks = absurd asks
+write_judged old now session SignOut all one asks = absurd asks
+write_judged old now session (Deploy rules) all one asks = absurd asks
 write_judged old now session (Get path) all one asks = absurd asks
 write_judged old now session (Set write) all one asks = subst (λ (ws : List Write). WriteJudged old now session ws (outcome old now session (Set write))) (sym asks) (set_judged old now session write one)
 write_judged old now session (Remove path) all one asks = subst (λ (ws : List Write). WriteJudged old now session ws (outcome old now session (Remove path))) (sym asks) (set_judged old now session (removal path) one)
@@ -77,5 +97,6 @@ judged old new call reply one s = record {
   step = s;
   read = λ path is. read_by old new call.now call.session path reply (at_event old new call reply s _ is);
   write = λ all asks. step_judged old new call.now call.session call.event all reply (write_judged old call.now call.session call.event all one asks) s;
+  deploy = λ rules is. deployed_by old new call.now call.session rules reply (at_event old new call reply s _ is);
   refused = λ refusal told. refused_stays old new call.now call.session call.event refusal (subst (λ (r : Reply). Step old call.now call.session call.event r new) told s);
 }

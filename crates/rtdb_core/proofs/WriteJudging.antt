@@ -33,6 +33,7 @@ is_judgement (Value tree) = false
 is_judgement (Refused refusals.SessionOpen) = false
 is_judgement (Refused refusals.TooManySessions) = false
 is_judgement (Refused refusals.NoSession) = false
+is_judgement (Refused refusals.NotAdmin) = false
 is_judgement (Refused refusals.EmptyUpdate) = false
 is_judgement (Refused refusals.Overlap) = false
 is_judgement (Refused (refusals.ReadDenied named)) = false
@@ -46,7 +47,7 @@ module _ (old : State) (now session : ℕ) (all : List Write) where
   WriteJudged o = IsWriteJudged old now session all o.reply o.after
 
   abbrev IsVerdict : Verdict → Type 0
-  IsVerdict v = IsWriteVerdict (scene_at old now) (tree_with old all) (map location all) v
+  IsVerdict v = IsWriteVerdict (scene_at old now session) (tree_with old all) (map location all) v
 
   abbrev done : Outcome
   done = record { reply = Done; after = written_to old all }
@@ -78,13 +79,13 @@ module _ (old : State) (now session : ℕ) (all : List Write) where
   -- ---- judged
 
   module _ (j : AreJudged old session all) where
-    no_failure : Validates old now all → (at : Path) (pattern : Pattern) (why : Why) → FailsFirst old now all at pattern why → ⊥
+    no_failure : Validates old now session all → (at : Path) (pattern : Pattern) (why : Why) → FailsFirst old now session all at pattern why → ⊥
     no_failure valid at pattern why f = never (sym (ap why_of (valid at pattern f.fails.fails.answer f.fails.exists f.fails.touched f.fails.fails.answers)) ∙ f.fails.fails.reason)
       where
         never : None ≡ Some why → ⊥
         never e = cc
 
-    write_made : GrantsAll old now all → Validates old now all → Fits old all → WriteJudged done
+    write_made : GrantsAll old now session all → Validates old now session all → Fits old all → WriteJudged done
     write_made granted valid fits = record {
       makes = λ _ _ _ _ _. (refl, refl);
       denies = λ _ _ at l. absurd (l.refused (granted at l.among));
@@ -96,7 +97,7 @@ module _ (old : State) (now session : ℕ) (all : List Write) where
       overflowed = λ e. cc;
     }
 
-    write_full : GrantsAll old now all → Validates old now all → Overflows old all → WriteJudged (refused old TreeFull)
+    write_full : GrantsAll old now session all → Validates old now session all → Overflows old all → WriteJudged (refused old TreeFull)
     write_full granted valid over = record {
       makes = λ _ _ _ _ fits. absurd (omega arith);
       denies = λ _ _ at l. absurd (l.refused (granted at l.among));
@@ -111,7 +112,7 @@ module _ (old : State) (now session : ℕ) (all : List Write) where
     write_denied : (at : Path) (named : List Named) → IsVerdict (verdicts.WriteDenied at named) → ((w : Verdict) → IsVerdict w → w ≡ verdicts.WriteDenied at named) → WriteJudged (refused old (WriteDenied at named))
     write_denied at named h only = record {
       makes = λ _ _ granted _ _. absurd (h.0.refused (granted at h.0.among));
-      denies = λ _ _ other l. sym (same (only (verdicts.WriteDenied other (named_for_write old now all other)) (l, refl)));
+      denies = λ _ _ other l. sym (same (only (verdicts.WriteDenied other (named_for_write old now session all other)) (l, refl)));
       fails = λ _ _ granted _ _ _ _. absurd (h.0.refused (granted at h.0.among));
       overflows = λ _ _ granted _ _. absurd (h.0.refused (granted at h.0.among));
       made = λ e. cc;
@@ -129,8 +130,8 @@ module _ (old : State) (now session : ℕ) (all : List Write) where
         names : (other : Path) (ns : List Named) → Refused (WriteDenied at named) ≡ Refused (WriteDenied other ns) → named ≡ ns
         names other ns e = cc
 
-        told : (other : Path) (ns : List Named) → at ≡ other → named ≡ ns → AreJudged old session all × IsLeastDenied old now all other × (ns ≡ named_for_write old now all other)
-        told other ns p q = (j, subst (IsLeastDenied old now all) p h.0, sym q ∙ h.1 ∙ ap (named_for_write old now all) p)
+        told : (other : Path) (ns : List Named) → at ≡ other → named ≡ ns → AreJudged old session all × IsLeastDenied old now session all other × (ns ≡ named_for_write old now session all other)
+        told other ns p q = (j, subst (IsLeastDenied old now session all) p h.0, sym q ∙ h.1 ∙ ap (named_for_write old now session all) p)
 
     write_failed : (at : Path) (pattern : parts.Pattern) (why : Why) → IsVerdict (verdicts.ValidateDenied at pattern why) → ((w : Verdict) → IsVerdict w → w ≡ verdicts.ValidateDenied at pattern why) → WriteJudged (refused old (ValidateDenied at pattern why))
     write_failed at pattern why h only = record {
@@ -147,16 +148,16 @@ module _ (old : State) (now session : ℕ) (all : List Write) where
         same : {p q : Path} {r s : parts.Pattern} {v w : Why} → verdicts.ValidateDenied p r v ≡ verdicts.ValidateDenied q s w → Refused (ValidateDenied p r v) ≡ Refused (ValidateDenied q s w)
         same e = cc
 
-        verdict_of : GrantsAll old now all → (other : Path) (p : Pattern) (w : Why) → FailsFirst old now all other p w → IsVerdict (verdicts.ValidateDenied other (map part_of_text p) w)
-        verdict_of granted other p w f = (granted, subst (λ (q : Pattern). FailsFirst old now all other q w) (sym (texts_named p)) f, ap (map part_of_text) (texts_named p))
+        verdict_of : GrantsAll old now session all → (other : Path) (p : Pattern) (w : Why) → FailsFirst old now session all other p w → IsVerdict (verdicts.ValidateDenied other (map part_of_text p) w)
+        verdict_of granted other p w f = (granted, subst (λ (q : Pattern). FailsFirst old now session all other q w) (sym (texts_named p)) f, ap (map part_of_text) (texts_named p))
 
         back : (other : Path) (p : parts.Pattern) (w : Why) → Refused (ValidateDenied at pattern why) ≡ Refused (ValidateDenied other p w) → (at ≡ other) × (pattern ≡ p) × (why ≡ w)
         back other p w e = (cc, cc, cc)
 
-        told : (other : Path) (p : parts.Pattern) (w : Why) → Refused (ValidateDenied at pattern why) ≡ Refused (ValidateDenied other p w) → FailsFirst old now all other (texts p) w
-        told other p w e = let b = back other p w e in subst (λ (x : Path). FailsFirst old now all x (texts p) w) b.0 (subst (λ (x : parts.Pattern). FailsFirst old now all at (texts x) w) b.1 (subst (λ (x : Why). FailsFirst old now all at (texts pattern) x) b.2 h.1))
+        told : (other : Path) (p : parts.Pattern) (w : Why) → Refused (ValidateDenied at pattern why) ≡ Refused (ValidateDenied other p w) → FailsFirst old now session all other (texts p) w
+        told other p w e = let b = back other p w e in subst (λ (x : Path). FailsFirst old now session all x (texts p) w) b.0 (subst (λ (x : parts.Pattern). FailsFirst old now session all at (texts x) w) b.1 (subst (λ (x : Why). FailsFirst old now session all at (texts pattern) x) b.2 h.1))
 
-    by_room : GrantsAll old now all → Validates old now all → WriteJudged (unless_refused old (full (tree_with old all)) done)
+    by_room : GrantsAll old now session all → Validates old now session all → WriteJudged (unless_refused old (full (tree_with old all)) done)
     by_room granted valid = within (nat_le (count (tree_with old all)) MAX_LOCATIONS) refl
       where
         within : (b : Bool) → nat_le (count (tree_with old all)) MAX_LOCATIONS ≡ b → WriteJudged (unless_refused old (cond b None (Some TreeFull)) done)
@@ -169,19 +170,19 @@ module _ (old : State) (now session : ℕ) (all : List Write) where
     by_verdict (verdicts.WriteDenied at named) h only = write_denied at named h only
     by_verdict (verdicts.ValidateDenied at pattern why) h only = write_failed at pattern why h only
 
-    pub makes_judged : HasOneCapture old.rules → WriteJudged (makes old now all)
+    pub makes_judged : HasOneCapture old.rules → WriteJudged (makes old now session all)
     unfolding write_refusal
     makes_judged one =
-        by_verdict (verdict_on old now all)
-        (writes_decided (scene_at old now) (tree_with old all) (map location all) (verdict_on old now all) refl)
-        (λ w h. one_verdict (scene_at old now) (tree_with old all) (map location all) w one h)
+        by_verdict (verdict_on old now session all)
+        (writes_decided (scene_at old now session) (tree_with old all) (map location all) (verdict_on old now session all) refl)
+        (λ w h. one_verdict (scene_at old now session) (tree_with old all) (map location all) w one h)
 
 -- ---- the events
 
 pub set_judged : (old : State) (now session : ℕ) (write : Write) → HasOneCapture old.rules → WriteJudged old now session (write ∷ []) (sets old now session write)
 set_judged old now session write one = by_session (is_open old session) refl
   where
-    by_session : (b : Bool) → is_open old session ≡ b → WriteJudged old now session (write ∷ []) (cond (not b) (refused old NoSession) (makes old now (write ∷ [])))
+    by_session : (b : Bool) → is_open old session ≡ b → WriteJudged old now session (write ∷ []) (cond (not b) (refused old NoSession) (makes old now session (write ∷ [])))
     by_session true e = makes_judged old now session (write ∷ []) record { opened = e; some = λ f. cc; apart = refl } one
     by_session false e = write_closed old now session (write ∷ []) e
 
@@ -198,14 +199,14 @@ update_judged old now session all one = by_session (is_open old session) refl
         nil [] g = refl
         nil (w ∷ ws) g = let z : length (w ∷ ws) ≡ 0 = eqb-true (length (w ∷ ws)) 0 g in absurd (omega arith)
 
-    by_overlap : is_open old session ≡ true → length all == 0 ≡ false → (b : Bool) → overlaps all ≡ b → WriteJudged old now session all (cond b (refused old Overlap) (makes old now all))
+    by_overlap : is_open old session ≡ true → length all == 0 ≡ false → (b : Bool) → overlaps all ≡ b → WriteJudged old now session all (cond b (refused old Overlap) (makes old now session all))
     by_overlap e f true g = write_stopped old now session all Overlap refl (λ _ j. false≢true (sym j.apart ∙ g))
     by_overlap e f false g = makes_judged old now session all record { opened = e; some = some f; apart = g } one
 
-    by_length : is_open old session ≡ true → (b : Bool) → length all == 0 ≡ b → WriteJudged old now session all (cond b (refused old EmptyUpdate) (cond (overlaps all) (refused old Overlap) (makes old now all)))
+    by_length : is_open old session ≡ true → (b : Bool) → length all == 0 ≡ b → WriteJudged old now session all (cond b (refused old EmptyUpdate) (cond (overlaps all) (refused old Overlap) (makes old now session all)))
     by_length e true f = write_stopped old now session all EmptyUpdate refl (λ _ j. j.some (none f))
     by_length e false f = by_overlap e f (overlaps all) refl
 
-    by_session : (b : Bool) → is_open old session ≡ b → WriteJudged old now session all (cond (not b) (refused old NoSession) (cond (length all == 0) (refused old EmptyUpdate) (cond (overlaps all) (refused old Overlap) (makes old now all))))
+    by_session : (b : Bool) → is_open old session ≡ b → WriteJudged old now session all (cond (not b) (refused old NoSession) (cond (length all == 0) (refused old EmptyUpdate) (cond (overlaps all) (refused old Overlap) (makes old now session all))))
     by_session true e = by_length e (length all == 0) refl
     by_session false e = write_closed old now session all e

@@ -1,5 +1,5 @@
 -- What is promised of each call of a run.
-use Rattle.std.specs.Prelude.{◌≡◌, ◌≢◌, ℕ, ◌≤◌, ◌<◌, List, [], ◌∷◌, ◌++◌, map, Option, true, false}
+use Rattle.std.specs.Prelude.{◌≡◌, ◌≢◌, ℕ, ◌≤◌, ◌<◌, List, [], ◌∷◌, ◌++◌, map, Option, Some, None, Bool, true, false, ◌==◌, ◌&&◌, if◌then◌else◌, ⊤}
 use Rattle.tree_model.specs.Path.{Path}
 use Rattle.tree_model.specs.PathMap.{sub}
 use Rattle.tree_model.specs.Tree.{Tree, non_null, count}
@@ -9,6 +9,9 @@ use Rattle.path_capture.specs.Pattern.{part_of_text}
 use Rattle.rules_reader.specs.Part.{Pattern, texts}
 use Rattle.rules_reader.specs.declared.kind.Kind.TheVariants.{Read as read_rules, Write as write_rules}
 use Rattle.evaluator.specs.Asked.{no_query}
+use Rattle.evaluator.specs.Identity.{Identity}
+use Rattle.rules_reader.specs.Book.{Book}
+use Rattle.rules_reader.specs.Place.{HasOneCapture}
 use Rattle.judge.specs.Question.{Question, reading, writing}
 use Rattle.judge.specs.Failing.{IsValid, IsFirstFailing}
 use Rattle.judge.specs.Judging.{MayRead, MayWriteAll, IsLeastRefused}
@@ -17,30 +20,30 @@ use Rattle.judge.specs.declared.verdict.Named.{Named}
 use Rattle.judge.specs.declared.verdict.Why.{Why}
 use Rattle.rtdb_core.specs.declared.limits.TheConstants.{MAX_LOCATIONS}
 use Rattle.rtdb_core.specs.declared.event.Event.{Event}
-use Rattle.rtdb_core.specs.declared.event.Event.TheVariants.{Open, Get, Set, Remove, Update}
+use Rattle.rtdb_core.specs.declared.event.Event.TheVariants.{Open, Close, SignIn, SignOut, Get, Set, Remove, Update, Deploy}
 use Rattle.rtdb_core.specs.declared.reply.Refusal.{Refusal}
-use Rattle.rtdb_core.specs.declared.reply.Refusal.TheVariants.{ReadDenied, WriteDenied, ValidateDenied, TreeFull, NoMemory}
+use Rattle.rtdb_core.specs.declared.reply.Refusal.TheVariants.{NotAdmin, ReadDenied, WriteDenied, ValidateDenied, TreeFull, NoMemory}
 use Rattle.rtdb_core.specs.declared.reply.Reply.{Reply}
 use Rattle.rtdb_core.specs.declared.reply.Reply.TheVariants.{Done, Value, Refused}
-use Rattle.rtdb_core.specs.State.{State, is_open, scene_at}
-use Rattle.rtdb_core.specs.Step.{Step, Call, Run, removal, tree_with, written_to}
+use Rattle.rtdb_core.specs.State.{State, is_open, identity_of, is_admin, scene_at}
+use Rattle.rtdb_core.specs.Step.{Step, Call, Run, removal, tree_with, written_to, deployed}
 
 -- ---- reads
 
--- the rules in force grant a read of the path at this moment: a `.read` holds at it or at a prefix of it. (Guide "Core syntax", `.read` and `.write` rules cascade.)
-abbrev pub GrantsRead : State → ℕ → Path → Type 0
-GrantsRead before now path = MayRead (scene_at before now) no_query path
+-- the rules in force grant this session a read of the path at this moment, for who is signed in on it: a `.read` holds at it or at a prefix of it. (Guide "Core syntax", `.read` and `.write` rules cascade.)
+abbrev pub GrantsRead : State → ℕ → ℕ → Path → Type 0
+GrantsRead before now session path = MayRead (scene_at before now session) no_query path
 
 -- the `.read` rules at the path and its prefixes, each with the reason why it does not hold
-abbrev pub named_for_read : State → ℕ → Path → List Named
-named_for_read before now path = named_rules (reading (scene_at before now) no_query) read_rules path
+abbrev pub named_for_read : State → ℕ → ℕ → Path → List Named
+named_for_read before now session path = named_rules (reading (scene_at before now session) no_query) read_rules path
 
 -- A read of an open session is answered by what stands there where it is granted, and denied with the names of its rules where it is not, but for want of memory; never the other way; and it changes nothing. (Guide "Core syntax", `.read` and `.write` rules cascade; the names are this project's profile.)
 pub record IsReadJudged (before : State) (now session : ℕ) (path : Path) (reply : Reply) (after : State) : Type 0 where
-  pub grants : reply ≢ Refused NoMemory → is_open before session ≡ true → GrantsRead before now path → reply ≡ Value (non_null (sub before.tree path))
-  pub denies : reply ≢ Refused NoMemory → is_open before session ≡ true → ¬ (GrantsRead before now path) → reply ≡ Refused (ReadDenied (named_for_read before now path))
-  pub granted : (tree : Option Tree) → reply ≡ Value tree → (is_open before session ≡ true) × GrantsRead before now path × (tree ≡ non_null (sub before.tree path))
-  pub denied : (named : List Named) → reply ≡ Refused (ReadDenied named) → (is_open before session ≡ true) × ¬ (GrantsRead before now path) × (named ≡ named_for_read before now path)
+  pub grants : reply ≢ Refused NoMemory → is_open before session ≡ true → GrantsRead before now session path → reply ≡ Value (non_null (sub before.tree path))
+  pub denies : reply ≢ Refused NoMemory → is_open before session ≡ true → ¬ (GrantsRead before now session path) → reply ≡ Refused (ReadDenied (named_for_read before now session path))
+  pub granted : (tree : Option Tree) → reply ≡ Value tree → (is_open before session ≡ true) × GrantsRead before now session path × (tree ≡ non_null (sub before.tree path))
+  pub denied : (named : List Named) → reply ≡ Refused (ReadDenied named) → (is_open before session ≡ true) × ¬ (GrantsRead before now session path) × (named ≡ named_for_read before now session path)
   pub stays : after ≡ before
 
 -- ---- writes
@@ -48,10 +51,14 @@ pub record IsReadJudged (before : State) (now session : ℕ) (path : Path) (repl
 -- the event asks for these writes, together
 abbrev pub AsksFor : Event → List Write → Type 0
 AsksFor Open writes = ⊥
+AsksFor Close writes = ⊥
+AsksFor (SignIn who) writes = ⊥
+AsksFor SignOut writes = ⊥
 AsksFor (Get path) writes = ⊥
 AsksFor (Set write) writes = writes ≡ write ∷ []
 AsksFor (Remove path) writes = writes ≡ removal path ∷ []
 AsksFor (Update all) writes = writes ≡ all
+AsksFor (Deploy rules) writes = ⊥
 
 -- the session is open, there is a write, and none overlaps another: no other refusal stops them
 pub record AreJudged (before : State) (session : ℕ) (writes : List Write) : Type 0 where
@@ -59,25 +66,25 @@ pub record AreJudged (before : State) (session : ℕ) (writes : List Write) : Ty
   pub some : writes ≢ []
   pub apart : overlaps writes ≡ false
 
--- the rules in force grant each of these writes at this moment: at its location or at a prefix of it a `.write` holds, which sees as `newData` the tree that all of them propose together. (Guide "Core syntax", `.read` and `.write` rules cascade.)
-abbrev pub GrantsAll : State → ℕ → List Write → Type 0
-GrantsAll before now writes = MayWriteAll (scene_at before now) (tree_with before writes) (map location writes)
+-- the rules in force grant this session each of these writes at this moment, for who is signed in on it: at its location or at a prefix of it a `.write` holds, which sees as `newData` the tree that all of them propose together. (Guide "Core syntax", `.read` and `.write` rules cascade.)
+abbrev pub GrantsAll : State → ℕ → ℕ → List Write → Type 0
+GrantsAll before now session writes = MayWriteAll (scene_at before now session) (tree_with before writes) (map location writes)
 
 -- the location is the least of those that are not granted, by the list of keys, each by its bytes, a prefix first
-abbrev pub IsLeastDenied : State → ℕ → List Write → Path → Type 0
-IsLeastDenied before now writes at = IsLeastRefused (scene_at before now) (tree_with before writes) (map location writes) at
+abbrev pub IsLeastDenied : State → ℕ → ℕ → List Write → Path → Type 0
+IsLeastDenied before now session writes at = IsLeastRefused (scene_at before now session) (tree_with before writes) (map location writes) at
 
 -- the `.write` rules at the location and its prefixes, each with the reason why it does not hold
-abbrev pub named_for_write : State → ℕ → List Write → Path → List Named
-named_for_write before now writes at = named_rules (writing (scene_at before now) (tree_with before writes)) write_rules at
+abbrev pub named_for_write : State → ℕ → ℕ → List Write → Path → List Named
+named_for_write before now session writes at = named_rules (writing (scene_at before now session) (tree_with before writes)) write_rules at
 
--- the rules in force validate these writes: each `.validate` holds where it stands at a place that exists in the tree that they propose, at, above or below one of their locations. (Guide "Core syntax", `.validate` rules do not cascade.)
-abbrev pub Validates : State → ℕ → List Write → Type 0
-Validates before now writes = IsValid (scene_at before now) (tree_with before writes) (map location writes)
+-- the rules in force validate these writes of this session: each `.validate` holds where it stands at a place that exists in the tree that they propose, at, above or below one of their locations. (Guide "Core syntax", `.validate` rules do not cascade.)
+abbrev pub Validates : State → ℕ → ℕ → List Write → Type 0
+Validates before now session writes = IsValid (scene_at before now session) (tree_with before writes) (map location writes)
 
 -- at this place, the first such, the `.validate` of this pattern does not hold, for this reason
-abbrev pub FailsFirst : State → ℕ → List Write → Path → Pattern → Why → Type 0
-FailsFirst before now writes at pattern why = IsFirstFailing (scene_at before now) (tree_with before writes) (map location writes) at pattern why
+abbrev pub FailsFirst : State → ℕ → ℕ → List Write → Path → Pattern → Why → Type 0
+FailsFirst before now session writes at pattern why = IsFirstFailing (scene_at before now session) (tree_with before writes) (map location writes) at pattern why
 
 -- the tree that these writes propose has no more locations than may be
 abbrev pub Fits : State → List Write → Type 0
@@ -88,25 +95,96 @@ Overflows before writes = MAX_LOCATIONS < count (tree_with before writes)
 
 -- Writes that no other refusal stops are made, and change nothing else, where all are granted and valid, and the tree has room; they are denied with the least location that is not granted and the names of its rules, else with the first failing place, its pattern and the reason, else for the room; but for want of memory, and never the other way. (Guide "Core syntax"; the names, the order and the room are this project's profile.)
 pub record IsWriteJudged (before : State) (now session : ℕ) (writes : List Write) (reply : Reply) (after : State) : Type 0 where
-  pub makes : reply ≢ Refused NoMemory → AreJudged before session writes → GrantsAll before now writes → Validates before now writes → Fits before writes → (reply ≡ Done) × (after ≡ written_to before writes)
-  pub denies : reply ≢ Refused NoMemory → AreJudged before session writes → (at : Path) → IsLeastDenied before now writes at → reply ≡ Refused (WriteDenied at (named_for_write before now writes at))
-  pub fails : reply ≢ Refused NoMemory → AreJudged before session writes → GrantsAll before now writes → (at : Path) (pattern : Pattern) (why : Why) → FailsFirst before now writes at pattern why → reply ≡ Refused (ValidateDenied at (map part_of_text pattern) why)
-  pub overflows : reply ≢ Refused NoMemory → AreJudged before session writes → GrantsAll before now writes → Validates before now writes → Overflows before writes → reply ≡ Refused TreeFull
-  pub made : reply ≡ Done → AreJudged before session writes × GrantsAll before now writes × Validates before now writes × Fits before writes × (after ≡ written_to before writes)
-  pub denied : (at : Path) (named : List Named) → reply ≡ Refused (WriteDenied at named) → AreJudged before session writes × IsLeastDenied before now writes at × (named ≡ named_for_write before now writes at)
-  pub failed : (at : Path) (pattern : parts.Pattern) (why : Why) → reply ≡ Refused (ValidateDenied at pattern why) → AreJudged before session writes × GrantsAll before now writes × FailsFirst before now writes at (texts pattern) why
-  pub overflowed : reply ≡ Refused TreeFull → AreJudged before session writes × GrantsAll before now writes × Validates before now writes × Overflows before writes
+  pub makes : reply ≢ Refused NoMemory → AreJudged before session writes → GrantsAll before now session writes → Validates before now session writes → Fits before writes → (reply ≡ Done) × (after ≡ written_to before writes)
+  pub denies : reply ≢ Refused NoMemory → AreJudged before session writes → (at : Path) → IsLeastDenied before now session writes at → reply ≡ Refused (WriteDenied at (named_for_write before now session writes at))
+  pub fails : reply ≢ Refused NoMemory → AreJudged before session writes → GrantsAll before now session writes → (at : Path) (pattern : Pattern) (why : Why) → FailsFirst before now session writes at pattern why → reply ≡ Refused (ValidateDenied at (map part_of_text pattern) why)
+  pub overflows : reply ≢ Refused NoMemory → AreJudged before session writes → GrantsAll before now session writes → Validates before now session writes → Overflows before writes → reply ≡ Refused TreeFull
+  pub made : reply ≡ Done → AreJudged before session writes × GrantsAll before now session writes × Validates before now session writes × Fits before writes × (after ≡ written_to before writes)
+  pub denied : (at : Path) (named : List Named) → reply ≡ Refused (WriteDenied at named) → AreJudged before session writes × IsLeastDenied before now session writes at × (named ≡ named_for_write before now session writes at)
+  pub failed : (at : Path) (pattern : parts.Pattern) (why : Why) → reply ≡ Refused (ValidateDenied at pattern why) → AreJudged before session writes × GrantsAll before now session writes × FailsFirst before now session writes at (texts pattern) why
+  pub overflowed : reply ≡ Refused TreeFull → AreJudged before session writes × GrantsAll before now session writes × Validates before now session writes × Overflows before writes
+
+-- ---- deployments
+
+-- Rules that an administrator deploys on an open session are in force from then on, and nothing else changes; by anybody else they are refused; but for want of memory, and never the other way. (This project's profile.)
+pub record IsDeployJudged (before : State) (session : ℕ) (rules : Book) (reply : Reply) (after : State) : Type 0 where
+  pub accepts : reply ≢ Refused NoMemory → is_open before session ≡ true → is_admin (identity_of before session) ≡ true → (reply ≡ Done) × (after ≡ deployed before rules)
+  pub refuses : reply ≢ Refused NoMemory → is_open before session ≡ true → is_admin (identity_of before session) ≡ false → reply ≡ Refused NotAdmin
+  pub accepted : reply ≡ Done → (is_open before session ≡ true) × (is_admin (identity_of before session) ≡ true) × (after ≡ deployed before rules)
+  pub refused : reply ≡ Refused NotAdmin → (is_open before session ≡ true) × (is_admin (identity_of before session) ≡ false)
+
+-- ---- what is in force, by what was asked and answered before
+
+-- the event was done, and not answered by a value or a refusal
+abbrev pub is_done : Reply → Bool
+is_done Done = true
+is_done (Value tree) = false
+is_done (Refused refusal) = false
+
+-- the rules after an event that was done: those that it deploys, else those before it
+abbrev pub rules_by : Event → Book → Book
+rules_by Open rules = rules
+rules_by Close rules = rules
+rules_by (SignIn who) rules = rules
+rules_by SignOut rules = rules
+rules_by (Get path) rules = rules
+rules_by (Set write) rules = rules
+rules_by (Remove path) rules = rules
+rules_by (Update writes) rules = rules
+rules_by (Deploy deployed) rules = deployed
+
+-- who is signed in on a session after an event of it that was done: nobody where it opens, closes or signs out, whoever signs in, else who was before it
+abbrev pub identity_by : Event → Option Identity → Option Identity
+identity_by Open who = None
+identity_by Close who = None
+identity_by (SignIn new) who = Some new
+identity_by SignOut who = None
+identity_by (Get path) who = who
+identity_by (Set write) who = who
+identity_by (Remove path) who = who
+identity_by (Update writes) who = who
+identity_by (Deploy rules) who = who
+
+-- the rules in force after these calls with these replies: those of the last deployment that was done, else those before them all
+abbrev pub rules_after : Book → List Call → List Reply → Book
+rules_after rules [] replies = rules
+rules_after rules (call ∷ calls) [] = rules
+rules_after rules (call ∷ calls) (reply ∷ replies) = rules_after (if is_done reply then rules_by call.event rules else rules) calls replies
+
+-- who is signed in on the session after these calls with these replies: what its last sign-in, sign-out, opening or closing that was done left, else who was before them all
+abbrev pub identity_after : ℕ → Option Identity → List Call → List Reply → Option Identity
+identity_after session who [] replies = who
+identity_after session who (call ∷ calls) [] = who
+identity_after session who (call ∷ calls) (reply ∷ replies) = identity_after session (if is_done reply && session == call.session then identity_by call.event who else who) calls replies
+
+-- in the rules that an event deploys, an object has at most one capture, as in every rules file that is not refused. (This project's profile.)
+abbrev pub DeploysFile : Event → Type 0
+DeploysFile Open = ⊤
+DeploysFile Close = ⊤
+DeploysFile (SignIn who) = ⊤
+DeploysFile SignOut = ⊤
+DeploysFile (Get path) = ⊤
+DeploysFile (Set write) = ⊤
+DeploysFile (Remove path) = ⊤
+DeploysFile (Update writes) = ⊤
+DeploysFile (Deploy rules) = HasOneCapture rules
+
+-- these calls deploy rules as rules files have them
+abbrev pub DeployFiles : List Call → Type 0
+DeployFiles [] = ⊤
+DeployFiles (call ∷ calls) = DeploysFile call.event × DeployFiles calls
 
 -- ---- calls
 
--- What a call is answered, by the rules in force before it: it is a step; reads and writes are judged; a refused call changes nothing.
+-- What a call is answered, by the rules in force before it: it is a step; reads, writes and deployments are judged; a refused call changes nothing.
 pub record IsJudged (before : State) (call : Call) (reply : Reply) (after : State) : Type 0 where
   pub step : Step before call.now call.session call.event reply after
   pub read : (path : Path) → call.event ≡ Get path → IsReadJudged before call.now call.session path reply after
   pub write : (writes : List Write) → AsksFor call.event writes → IsWriteJudged before call.now call.session writes reply after
+  pub deploy : (rules : Book) → call.event ≡ Deploy rules → IsDeployJudged before call.session rules reply after
   pub refused : (refusal : Refusal) → reply ≡ Refused refusal → after ≡ before
 
--- A call between others of a run: its own reply among the replies, the states that the calls before it and it leave, that the rules in force at it are those from the beginning, and that it is judged.
+-- A call between others of a run: its own reply among the replies, the states that the calls before it and it leave, that the rules in force at it are those of the last deployment that was done before it, that who is signed in on its session is whom the calls of the session left there, and that it is judged.
 pub record IsJudgedAmong (old : State) (earlier : List Call) (call : Call) (later : List Call) (replies : List Reply) (new : State) : Type 0 where
   pub answered : List Reply
   pub reply : Reply
@@ -115,6 +193,7 @@ pub record IsJudgedAmong (old : State) (earlier : List Call) (call : Call) (late
   pub before : State
   pub after : State
   pub arrives : Run old earlier answered before
-  pub in_force : before.rules ≡ old.rules
+  pub in_force : before.rules ≡ rules_after old.rules earlier answered
+  pub signed_in : identity_of before call.session ≡ identity_after call.session (identity_of old call.session) earlier answered
   pub judged : IsJudged before call reply after
   pub goes_on : Run after later others new

@@ -1,4 +1,3 @@
 pub mod State
 pub mod Step
 pub mod Headline
-pub mod Working

@@ -1,12 +1,29 @@
 -- The state of a database.
-use Rattle.std.specs.Prelude.{ℕ, Bool, None, refl}
+use Rattle.std.specs.Prelude.{ℕ, List, [], Bool, false, Option, None, Some, option_and_then, refl}
 use Rattle.std.specs.FinMap as map_of
 use Rattle.std.specs.Ordering.{nat_cmp}
-use Rattle.std.specs.Coded.{Coded, code_by, coded×, coded_ℕ}
+use Rattle.std.specs.Coded.{Coded, code_by, coded×, coded_ℕ, coded_bool, coded_list, coded_option}
+use Rattle.tree_model.specs.Path.{Path}
 use Rattle.tree_model.specs.Tree.{Tree, tree_code}
+use Rattle.evaluator.specs.Identity.{Identity, identity_code}
 use Rattle.rules_reader.specs.Book.{Book, book_code}
 use Rattle.judge.specs.Question.{Scene}
-use Rattle.rtdb_core.specs.declared.session.Session.{Session}
+
+-- a listener of a session: the name that the session gave it, the path that it listens to, whether its read is still granted, and whether there is news for it. (This project's profile.)
+pub record Listener : Type 0 where
+  pub id : List ℕ
+  pub path : Path
+  pub live : Bool
+  pub marked : Bool
+
+-- a session that is open: who is signed in on it, if anybody is, and its listeners in the order in which they began
+pub record Session : Type 0 where
+  pub identity : Option Identity
+  pub listeners : List Listener
+
+-- a session on which nobody is signed in, and which listens to nothing
+abbrev pub fresh : Session
+fresh = record { identity = None; listeners = [] }
 
 -- the sessions that are open, by their numbers
 abbrev pub Sessions : Type 0
@@ -25,14 +42,34 @@ opening rules tree = record { tree = tree; rules = rules; sessions = map_of.empt
 abbrev pub is_open : State → ℕ → Bool
 is_open state session = map_of.contains_key state.sessions session
 
--- what an event is judged by, at this moment: the rules in force and the tree before it; nobody is signed in. (Reference, variables.)
-abbrev pub scene_at : State → ℕ → Scene
-scene_at state now = record { book = state.rules; who = None; moment = now; old = state.tree }
+-- who is signed in on the session, if it is open and anybody is. (Reference, `auth` variable.)
+abbrev pub identity_of : State → ℕ → Option Identity
+identity_of state session = option_and_then (λ (one : Session). one.identity) (map_of.get state.sessions session)
+
+abbrev pub listeners_in : Option Session → List Listener
+listeners_in None = []
+listeners_in (Some one) = one.listeners
+
+-- what the session listens to
+abbrev pub listeners_of : State → ℕ → List Listener
+listeners_of state session = listeners_in (map_of.get state.sessions session)
+
+-- somebody is signed in who is an administrator. (This project's profile.)
+abbrev pub is_admin : Option Identity → Bool
+is_admin None = false
+is_admin (Some who) = who.admin
+
+-- what an event of this session is judged by, at this moment: the rules in force, who is signed in on the session, and the tree before it. (Reference, variables.)
+abbrev pub scene_at : State → ℕ → ℕ → Scene
+scene_at state now session = record { book = state.rules; who = identity_of state session; moment = now; old = state.tree }
 
 -- ---- as data: what tells two states apart
 
+abbrev pub listener_code : Coded Listener
+listener_code = code_by ((List ℕ × Path) × (Bool × Bool)) (coded× (coded× (coded_list coded_ℕ) (coded_list (coded_list coded_ℕ))) (coded× coded_bool coded_bool)) (λ l. ((l.id, l.path), (l.live, l.marked))) (λ t. record { id = t.0.0; path = t.0.1; live = t.1.0; marked = t.1.1 }) (λ _. refl)
+
 abbrev pub session_code : Coded Session
-session_code = code_by ℕ coded_ℕ (λ s. 0) (λ n. record {}) (λ _. refl)
+session_code = code_by (Option Identity × List Listener) (coded× (coded_option identity_code) (coded_list listener_code)) (λ s. (s.identity, s.listeners)) (λ t. record { identity = t.0; listeners = t.1 }) (λ _. refl)
 
 abbrev pub state_code : Coded State
 state_code = code_by (Tree × (Book × Sessions)) (coded× tree_code (coded× book_code (map_of.code coded_ℕ session_code))) (λ s. (s.tree, (s.rules, s.sessions))) (λ t. record { tree = t.0; rules = t.1.0; sessions = t.1.1 }) (λ _. refl)

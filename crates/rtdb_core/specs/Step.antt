@@ -1,22 +1,24 @@
 -- One step of a database: what an event is answered, and the state after it.
-use Rattle.std.specs.Prelude.{◌≡◌, ◌==◌, ℕ, ◌⊎◌, ◌||◌, List, length, [], ◌∷◌, map, Bool, false, not, if◌then◌else◌, nat_le, Option, Some, None}
+use Rattle.std.specs.Prelude.{◌≡◌, ◌==◌, ℕ, ◌⊎◌, ◌||◌, List, length, [], ◌∷◌, map, Bool, true, false, not, if◌then◌else◌, nat_le, Option, Some, None}
 use Rattle.std.specs.FinMap as map_of
 use Rattle.tree_model.specs.Path.{Path}
 use Rattle.tree_model.specs.PathMap.{sub}
 use Rattle.tree_model.specs.Tree.{Tree, null, non_null, count}
 use Rattle.tree_model.specs.Write.{Write, location, overlaps, proposed}
 use Rattle.evaluator.specs.Asked.{no_query}
+use Rattle.evaluator.specs.Identity.{Identity}
+use Rattle.rules_reader.specs.Book.{Book}
 use Rattle.judge.specs.declared.verdict.Verdict.{Verdict}
 use Rattle.judge.specs.declared.verdict.Verdict.TheVariants as verdicts
 use Rattle.judge.specs.Tests.{read_verdict, write_verdict}
 use Rattle.rtdb_core.specs.declared.limits.TheConstants.{MAX_SESSIONS, MAX_LOCATIONS}
 use Rattle.rtdb_core.specs.declared.event.Event.{Event}
-use Rattle.rtdb_core.specs.declared.event.Event.TheVariants.{Open, Get, Set, Remove, Update}
+use Rattle.rtdb_core.specs.declared.event.Event.TheVariants.{Open, Close, SignIn, SignOut, Get, Set, Remove, Update, Deploy}
 use Rattle.rtdb_core.specs.declared.reply.Reply.{Reply}
 use Rattle.rtdb_core.specs.declared.reply.Reply.TheVariants.{Done, Value, Refused}
 use Rattle.rtdb_core.specs.declared.reply.Refusal.{Refusal}
-use Rattle.rtdb_core.specs.declared.reply.Refusal.TheVariants.{SessionOpen, TooManySessions, NoSession, EmptyUpdate, Overlap, ReadDenied, WriteDenied, ValidateDenied, TreeFull, NoMemory}
-use Rattle.rtdb_core.specs.State.{State, is_open, scene_at}
+use Rattle.rtdb_core.specs.declared.reply.Refusal.TheVariants.{SessionOpen, TooManySessions, NoSession, NotAdmin, EmptyUpdate, Overlap, ReadDenied, WriteDenied, ValidateDenied, TreeFull, NoMemory}
+use Rattle.rtdb_core.specs.State.{State, fresh, is_open, identity_of, listeners_of, is_admin, scene_at}
 
 -- what an event is answered, and the state after it
 pub record Outcome : Type 0 where
@@ -46,8 +48,8 @@ abbrev pub tree_with : State → List Write → Tree
 tree_with old writes = proposed old.tree writes
 
 -- the verdict on these writes, which are judged together
-abbrev pub verdict_on : State → ℕ → List Write → Verdict
-verdict_on old now writes = write_verdict (scene_at old now) (tree_with old writes) (map location writes)
+abbrev pub verdict_on : State → ℕ → ℕ → List Write → Verdict
+verdict_on old now session writes = write_verdict (scene_at old now session) (tree_with old writes) (map location writes)
 
 -- it has more locations than may be
 abbrev pub full : Tree → Option Refusal
@@ -59,24 +61,42 @@ or_full (Some refusal) tree = Some refusal
 or_full None tree = full tree
 
 -- why these writes are refused, if they are: by the rules, else for the size of the tree that they propose
-unfoldable pub write_refusal : State → ℕ → List Write → Option Refusal
-write_refusal old now writes = or_full (denial (verdict_on old now writes)) (tree_with old writes)
+unfoldable pub write_refusal : State → ℕ → ℕ → List Write → Option Refusal
+write_refusal old now session writes = or_full (denial (verdict_on old now session writes)) (tree_with old writes)
 
 -- why a read is refused, if it is
-unfoldable pub read_refusal : State → ℕ → Path → Option Refusal
-read_refusal old now path = denial (read_verdict (scene_at old now) no_query path)
+unfoldable pub read_refusal : State → ℕ → ℕ → Path → Option Refusal
+read_refusal old now session path = denial (read_verdict (scene_at old now session) no_query path)
 
 -- ---- each event: its refusals in their order, of which the first that applies is answered, else the success. (This project's profile.)
 
--- the session is open, with nothing in it
+-- the session is open, and nobody is signed in on it
 abbrev pub opened : State → ℕ → State
-opened old session = record old { sessions = map_of.insert old.sessions session (record {}) }
+opened old session = record old { sessions = map_of.insert old.sessions session fresh }
 
 abbrev pub opens : State → ℕ → Outcome
 opens old session =
     if is_open old session then refused old SessionOpen
     else if nat_le MAX_SESSIONS (map_of.len old.sessions) then refused old TooManySessions
     else record { reply = Done; after = opened old session }
+
+-- the session is gone, with all that it had
+abbrev pub closed : State → ℕ → State
+closed old session = record old { sessions = map_of.remove old.sessions session }
+
+abbrev pub closes : State → ℕ → Outcome
+closes old session =
+    if not (is_open old session) then refused old NoSession
+    else record { reply = Done; after = closed old session }
+
+-- this is who is signed in on the session, or nobody is; its listeners stay
+abbrev pub signed : State → ℕ → Option Identity → State
+signed old session who = record old { sessions = map_of.insert old.sessions session (record { identity = who; listeners = listeners_of old session }) }
+
+abbrev pub signs : State → ℕ → Option Identity → Outcome
+signs old session who =
+    if not (is_open old session) then refused old NoSession
+    else record { reply = Done; after = signed old session who }
 
 -- what stands at the path
 abbrev pub value_at : State → Path → Outcome
@@ -85,20 +105,20 @@ value_at old path = record { reply = Value (non_null (sub old.tree path)); after
 abbrev pub gets : State → ℕ → ℕ → Path → Outcome
 gets old now session path =
     if not (is_open old session) then refused old NoSession
-    else unless_refused old (read_refusal old now path) (value_at old path)
+    else unless_refused old (read_refusal old now session path) (value_at old path)
 
 -- the tree that the writes propose is the tree
 abbrev pub written_to : State → List Write → State
 written_to old writes = record old { tree = tree_with old writes }
 
 -- writes that are made together, or not at all
-abbrev pub makes : State → ℕ → List Write → Outcome
-makes old now writes = unless_refused old (write_refusal old now writes) (record { reply = Done; after = written_to old writes })
+abbrev pub makes : State → ℕ → ℕ → List Write → Outcome
+makes old now session writes = unless_refused old (write_refusal old now session writes) (record { reply = Done; after = written_to old writes })
 
 abbrev pub sets : State → ℕ → ℕ → Write → Outcome
 sets old now session write =
     if not (is_open old session) then refused old NoSession
-    else makes old now (write ∷ [])
+    else makes old now session (write ∷ [])
 
 -- to remove is to write null
 abbrev pub removal : Path → Write
@@ -109,29 +129,48 @@ updates old now session writes =
     if not (is_open old session) then refused old NoSession
     else if length writes == 0 then refused old EmptyUpdate
     else if overlaps writes then refused old Overlap
-    else makes old now writes
+    else makes old now session writes
+
+-- these rules are in force
+abbrev pub deployed : State → Book → State
+deployed old rules = record old { rules = rules }
+
+-- who is no administrator deploys nothing
+abbrev pub deploys : State → ℕ → Book → Outcome
+deploys old session rules =
+    if not (is_open old session) then refused old NoSession
+    else if not (is_admin (identity_of old session)) then refused old NotAdmin
+    else record { reply = Done; after = deployed old rules }
 
 -- what an event of this session is answered at this moment where memory suffices
 abbrev pub outcome : State → ℕ → ℕ → Event → Outcome
 outcome old now session Open = opens old session
+outcome old now session Close = closes old session
+outcome old now session (SignIn who) = signs old session (Some who)
+outcome old now session SignOut = signs old session None
 outcome old now session (Get path) = gets old now session path
 outcome old now session (Set write) = sets old now session write
 outcome old now session (Remove path) = sets old now session (removal path)
 outcome old now session (Update writes) = updates old now session writes
+outcome old now session (Deploy rules) = deploys old session rules
 
--- the event is refused before anything is judged, which takes no memory
-abbrev pub is_refused_at_once : State → ℕ → Event → Bool
-is_refused_at_once old session Open = is_open old session || nat_le MAX_SESSIONS (map_of.len old.sessions)
-is_refused_at_once old session (Get path) = not (is_open old session)
-is_refused_at_once old session (Set write) = not (is_open old session)
-is_refused_at_once old session (Remove path) = not (is_open old session)
-is_refused_at_once old session (Update writes) = not (is_open old session) || length writes == 0 || overlaps writes
+-- the event is answered without memory: it is refused before anything is judged, or it closes a session
+abbrev pub takes_no_memory : State → ℕ → Event → Bool
+takes_no_memory old session Open = is_open old session || nat_le MAX_SESSIONS (map_of.len old.sessions)
+takes_no_memory old session Close = true
+takes_no_memory old session (SignIn who) = not (is_open old session)
+takes_no_memory old session SignOut = not (is_open old session)
+takes_no_memory old session (Get path) = not (is_open old session)
+takes_no_memory old session (Set write) = not (is_open old session)
+takes_no_memory old session (Remove path) = not (is_open old session)
+takes_no_memory old session (Update writes) = not (is_open old session) || length writes == 0 || overlaps writes
+takes_no_memory old session (Deploy rules) = not (is_open old session) || not (is_admin (identity_of old session))
 
 -- From old, at this moment, the event of this session may be answered so, and new is the state after it: as above, or for want of memory with the state as it was.
 unfoldable pub Step : State → ℕ → ℕ → Event → Reply → State → Type 0
 Step old now session event reply new =
     (outcome old now session event ≡ record { reply = reply; after = new })
-    ⊎ ((reply ≡ Refused NoMemory) × (new ≡ old) × (is_refused_at_once old session event ≡ false))
+    ⊎ ((reply ≡ Refused NoMemory) × (new ≡ old) × (takes_no_memory old session event ≡ false))
 
 -- ---- runs
 

@@ -1,7 +1,9 @@
 //! What a session can ask of the database.
 ghost use Rattle.std.specs.Prelude.{◌≡◌};
 
+use evaluator::Identity;
 use path_capture::{Path, Write};
+use rules_reader::Rules;
 use std::marker::Model;
 
 /// An event: what one session asks, in one step.
@@ -9,6 +11,12 @@ use std::marker::Model;
 pub enum Event {
     /// Opens the session.
     Open,
+    /// Closes the session.
+    Close,
+    /// Signs somebody in on the session, in the place of whoever was before.
+    SignIn(Identity),
+    /// Signs out whoever is signed in on the session.
+    SignOut,
     /// Reads the tree at a path.
     Get(Path),
     /// Makes a write.
@@ -17,6 +25,8 @@ pub enum Event {
     Remove(Path),
     /// Makes several writes, all of them or none.
     Update(Writes),
+    /// Puts rules in force.
+    Deploy(Rules),
 }
 
 /// The writes of an update. Contracts see them as a list.

@@ -22,7 +22,7 @@ pub use limits::{MAX_LOCATIONS, MAX_SESSIONS, the_limits};
 pub use machine::{Core, TooLarge};
 pub use reply::{Refusal, Reply};
 pub use run_laws::{
-    a_run_keeps_the_rules_in_force, every_call_of_a_run_is_judged_by_the_rules_in_force,
+    a_run_changes_identities_by_their_sessions, a_run_changes_the_rules_by_deployments,
+    every_call_of_a_run_is_judged_by_the_rules_in_force,
 };
-pub use session::Session;
 pub use step_laws::{a_refused_event_changes_nothing, a_step_is_a_function, every_step_is_judged};

@@ -1,5 +1,5 @@
 //! The state machine: one event in, one reply out.
-ghost use Rattle.std.specs.Prelude.{◌≡◌, ◌↔◌, ℕ, ◌≤◌, ◌<◌, ◌∷◌, [], length, None, Some, false, IsErr, IfOk, IfErr, OnOk, OnErr, option_map};
+ghost use Rattle.std.specs.Prelude.{◌≡◌, true, ◌↔◌, ℕ, ◌≤◌, ◌<◌, ◌∷◌, [], length, None, Some, Option, false, IsErr, IfOk, IfErr, OnOk, OnErr, option_map};
 ghost use Rattle.std.specs.FinMap as map_of;
 ghost use Rattle.tree_model.specs.PathMap.{sub};
 ghost use Rattle.tree_model.specs.Tree.{non_null, count};
@@ -7,8 +7,9 @@ ghost use Rattle.tree_model.specs.Write.{overlaps};
 ghost use Rattle.path_capture.specs.Write.{tree_or_null};
 ghost use Rattle.rules_reader.specs.Place.{HasOneCapture};
 ghost use Rattle.judge.specs.Question.{scene_of};
-ghost use Rattle.rtdb_core.specs.State.{opening, is_open, scene_at};
-ghost use Rattle.rtdb_core.specs.Step.{opened, tree_with, written_to, makes, read_refusal, write_refusal, outcome, is_refused_at_once, Step};
+ghost use Rattle.evaluator.specs.Identity.{Identity};
+ghost use Rattle.rtdb_core.specs.State.{opening, is_open, identity_of, is_admin, scene_at};
+ghost use Rattle.rtdb_core.specs.Step.{opened, closed, closes, signed, signs, deploys, tree_with, written_to, makes, read_refusal, write_refusal, outcome, takes_no_memory, Step};
 
 use crate::event::{Event, Writes};
 use crate::limits::{MAX_LOCATIONS, MAX_SESSIONS};
@@ -18,7 +19,7 @@ use crate::session::Session;
 use crate::trees::{count_in, count_of, node_at, removal, sort};
 use arena_snapshot::{View, overlaps, overlay};
 use bumpalo::Bump;
-use evaluator::{Asked, MAX_MOMENT, Moment};
+use evaluator::{Asked, Identity, MAX_MOMENT, Moment};
 use json_tree::{Key, NoMemory, Node};
 use judge::{Scene, judge_read, judge_write};
 use path_capture::{Path, Write, make_all};
@@ -46,10 +47,12 @@ pub struct TooLarge {
 }
 
 impl Model for Core {
+    ghost use Rattle.std.specs.Prelude.{◌≤◌};
     ghost use Rattle.std.specs.FinMap as map_of;
     ghost use Rattle.path_capture.specs.Write.{tree_or_null};
     ghost use Rattle.rtdb_core.specs.State.{State, state_code};
-    ghost use Rattle.rtdb_core.specs.Working.Sound.{IsSound};
+    ghost use Rattle.tree_model.specs.Tree.{count};
+    ghost use Rattle.rtdb_core.specs.declared.limits.TheConstants.{MAX_LOCATIONS};
 
     ghost Value = { State };
 
@@ -57,7 +60,7 @@ impl Model for Core {
 
     ghost view = { λ core. record { tree = tree_or_null core.tree; rules = core.rules; sessions = map_of.from_entries core.sessions.entries } };
 
-    ghost invariant = { λ core. IsSound (tree_or_null core.tree) core.sessions.entries };
+    ghost invariant = { λ core. count (tree_or_null core.tree) ≤ MAX_LOCATIONS };
 }
 
 impl Core {
@@ -82,8 +85,10 @@ impl Core {
     /// Answers one event of a session, at a moment in milliseconds since 1970. A read costs one step
     /// for each key of its path, log w of w children each, the rules on the way, and the answer; a write
     /// the same for each of its locations, and what is written. Nothing grows with what is stored beside
-    /// them. The arena is for what one event needs: it is reset before anything is placed in it, once no
-    /// refusal is left but those of the rules, of room and of memory.
+    /// them. Closing, signing in and out cost a look-up among the sessions, a deployment what the rules
+    /// that were in force take to be dropped. The arena is for what one event needs: it is reset before
+    /// anything is placed in it, once no refusal is left but those of the rules, of room and of memory;
+    /// closing leaves it as it is.
     #[tactic(auto, unfolding(crate::specs::Step::Step))]
     pub fn step(&mut self, arena: &mut Bump, now: u64, session: u64, event: Event) -> Reply
         requires { now ≤ MAX_MOMENT }
@@ -105,14 +110,18 @@ impl Core {
         requires { now ≤ MAX_MOMENT }
         ensures ok { IfOk result (λ reply. outcome self.old now session event ≡ record { reply = reply; after = self.new }) }
         ensures err { OnErr result (self.new ≡ self.old) }
-        ensures later { OnErr result (is_refused_at_once self.old session event ≡ false) }
+        ensures later { OnErr result (takes_no_memory self.old session event ≡ false) }
     {
         match event {
             Event::Open => self.open(arena, now, session),
+            Event::Close => Ok(self.close(session)),
+            Event::SignIn(who) => self.sign(arena, session, Some(who)),
+            Event::SignOut => self.sign(arena, session, None),
             Event::Get(path) => self.get(arena, now, session, &path),
             Event::Set(write) => self.set(arena, now, session, write),
             Event::Remove(path) => self.set(arena, now, session, removal(path)),
             Event::Update(writes) => self.update(arena, now, session, writes),
+            Event::Deploy(rules) => self.deploy(arena, session, rules),
         }
     }
 
@@ -155,7 +164,7 @@ impl Core {
     fn open(&mut self, arena: &mut Bump, now: u64, session: u64) -> Result<Reply, NoMemory>
         ensures ok { IfOk result (λ reply. outcome self.old now session Event.Open ≡ record { reply = reply; after = self.new }) }
         ensures err { OnErr result (self.new ≡ self.old) }
-        ensures later { OnErr result (is_refused_at_once self.old session Event.Open ≡ false) }
+        ensures later { OnErr result (takes_no_memory self.old session Event.Open ≡ false) }
     {
         let _now = now;
         if self.is_open(session) {
@@ -169,12 +178,95 @@ impl Core {
         Ok(Reply::Done)
     }
 
+    #[tactic(auto, using(crate::proofs::Sessions::none_gone))]
+    fn close(&mut self, session: u64) -> Reply
+        ensures { closes self.old session ≡ record { reply = result; after = self.new } }
+    {
+        if self.forget(session) {
+            Reply::Done
+        } else {
+            Reply::Refused(Refusal::NoSession)
+        }
+    }
+
+    // Takes a session from those that are open, where it is one of them.
+    fn forget(&mut self, session: u64) -> bool
+        ensures was { result ≡ is_open self.old session }
+        ensures gone { self.new ≡ closed self.old session }
+    {
+        self.sessions.remove(&session).is_some()
+    }
+
+    fn sign(
+        &mut self,
+        arena: &mut Bump,
+        session: u64,
+        who: Option<Identity>,
+    ) -> Result<Reply, NoMemory>
+        ensures ok { IfOk result (λ reply. signs self.old session who ≡ record { reply = reply; after = self.new }) }
+        ensures err { OnErr result (self.new ≡ self.old) }
+        ensures later { OnErr result (is_open self.old session ≡ true) }
+    {
+        if !self.is_open(session) {
+            return Ok(Reply::Refused(Refusal::NoSession));
+        }
+        reset(arena)?;
+        self.put_identity(session, who);
+        Ok(Reply::Done)
+    }
+
+    // Signs in whoever this is on an open session, or signs out.
+    fn put_identity(&mut self, session: u64, who: Option<Identity>)
+        requires { is_open self.old session ≡ true }
+        ensures { self.new ≡ signed self.old session who }
+    {
+        let Some(open) = self.sessions.get_mut(&session) else {
+            unreachable!()
+        };
+        open.sign(who);
+    }
+
+    fn deploy(&mut self, arena: &mut Bump, session: u64, rules: Rules) -> Result<Reply, NoMemory>
+        ensures ok { IfOk result (λ reply. deploys self.old session rules ≡ record { reply = reply; after = self.new }) }
+        ensures err { OnErr result (self.new ≡ self.old) }
+        ensures later { OnErr result ((is_open self.old session ≡ true) × (is_admin (identity_of self.old session) ≡ true)) }
+    {
+        if !self.is_open(session) {
+            return Ok(Reply::Refused(Refusal::NoSession));
+        }
+        if !self.is_admin(session) {
+            return Ok(Reply::Refused(Refusal::NotAdmin));
+        }
+        reset(arena)?;
+        self.rules = rules;
+        Ok(Reply::Done)
+    }
+
+    // Who is signed in on a session, if it is open and anybody is.
+    fn identity_of(&self, session: u64) -> Option<&Identity>
+        ensures { option_map (λ who. who.now) result ≡ identity_of self.now session }
+    {
+        match self.sessions.get(&session) {
+            Some(open) => open.identity(),
+            None => None,
+        }
+    }
+
+    fn is_admin(&self, session: u64) -> bool
+        ensures { result ≡ is_admin (identity_of self.now session) }
+    {
+        match self.identity_of(session) {
+            Some(who) => who.admin(),
+            None => false,
+        }
+    }
+
     // Adds a session to those that are open.
     fn add(&mut self, session: u64) -> Result<(), NoMemory>
         ensures ok { OnOk result (self.new ≡ opened self.old session) }
         ensures err { OnErr result (self.new ≡ self.old) }
     {
-        let Ok(_) = self.sessions.insert(session, Session {}) else {
+        let Ok(_) = self.sessions.insert(session, Session::new()) else {
             return Err(NoMemory);
         };
         Ok(())
@@ -183,13 +275,13 @@ impl Core {
     fn get(&self, arena: &mut Bump, now: u64, session: u64, path: &Path) -> Result<Reply, NoMemory>
         requires { now ≤ MAX_MOMENT }
         ensures ok { IfOk result (λ reply. outcome self.now now session (Event.Get path.now) ≡ record { reply = reply; after = self.now }) }
-        ensures later { OnErr result (is_refused_at_once self.now session (Event.Get path.now) ≡ false) }
+        ensures later { OnErr result (takes_no_memory self.now session (Event.Get path.now) ≡ false) }
     {
         if !self.is_open(session) {
             return Ok(Reply::Refused(Refusal::NoSession));
         }
         reset(arena)?;
-        if let Some(refusal) = self.read_refusal(arena, now, path)? {
+        if let Some(refusal) = self.read_refusal(arena, now, session, path)? {
             return Ok(Reply::Refused(refusal));
         }
         let tree = self.copy_at(path.keys())?;
@@ -207,13 +299,13 @@ impl Core {
         requires { now ≤ MAX_MOMENT }
         ensures ok { IfOk result (λ reply. outcome self.old now session (Event.Set write) ≡ record { reply = reply; after = self.new }) }
         ensures err { OnErr result (self.new ≡ self.old) }
-        ensures later { OnErr result (is_refused_at_once self.old session (Event.Set write) ≡ false) }
+        ensures later { OnErr result (takes_no_memory self.old session (Event.Set write) ≡ false) }
     {
         if !self.is_open(session) {
             return Ok(Reply::Refused(Refusal::NoSession));
         }
         reset(arena)?;
-        if let Some(refusal) = self.write_refusal(arena, now, slice::from_ref(&write))? {
+        if let Some(refusal) = self.write_refusal(arena, now, session, slice::from_ref(&write))? {
             return Ok(Reply::Refused(refusal));
         }
         self.make(write)?;
@@ -230,7 +322,7 @@ impl Core {
         requires { now ≤ MAX_MOMENT }
         ensures ok { IfOk result (λ reply. outcome self.old now session (Event.Update writes) ≡ record { reply = reply; after = self.new }) }
         ensures err { OnErr result (self.new ≡ self.old) }
-        ensures later { OnErr result (is_refused_at_once self.old session (Event.Update writes) ≡ false) }
+        ensures later { OnErr result (takes_no_memory self.old session (Event.Update writes) ≡ false) }
     {
         if !self.is_open(session) {
             return Ok(Reply::Refused(Refusal::NoSession));
@@ -244,7 +336,7 @@ impl Core {
         if overlaps(&writes) {
             return Ok(Reply::Refused(Refusal::Overlap));
         }
-        self.update_apart(arena, now, writes)
+        self.update_apart(arena, now, session, writes)
     }
 
     // The same of writes of which none overlaps another.
@@ -253,15 +345,16 @@ impl Core {
         &mut self,
         arena: &mut Bump,
         now: u64,
+        session: u64,
         writes: Vec<Write>,
     ) -> Result<Reply, NoMemory>
         requires moment { now ≤ MAX_MOMENT }
         requires apart { overlaps writes.items ≡ false }
-        ensures ok { IfOk result (λ reply. makes self.old now writes.items ≡ record { reply = reply; after = self.new }) }
+        ensures ok { IfOk result (λ reply. makes self.old now session writes.items ≡ record { reply = reply; after = self.new }) }
         ensures err { OnErr result (self.new ≡ self.old) }
     {
         reset(arena)?;
-        if let Some(refusal) = self.write_refusal(arena, now, &writes)? {
+        if let Some(refusal) = self.write_refusal(arena, now, session, &writes)? {
             return Ok(Reply::Refused(refusal));
         }
         self.make_all(writes)?;
@@ -269,9 +362,9 @@ impl Core {
     }
 
     // What the rules and the trees are judged by.
-    fn scene(&self, now: u64) -> Scene<'_>
+    fn scene(&self, now: u64, session: u64) -> Scene<'_>
         requires { now ≤ MAX_MOMENT }
-        ensures { scene_of result ≡ scene_at self.now now }
+        ensures { scene_of result ≡ scene_at self.now now session }
     {
         let old = match &self.tree {
             Some(node) => Some(View::stored(node)),
@@ -279,7 +372,7 @@ impl Core {
         };
         Scene {
             rules: &self.rules,
-            auth: None,
+            auth: self.identity_of(session),
             moment: Moment::new(now),
             old,
         }
@@ -287,12 +380,18 @@ impl Core {
 
     // Why a read is refused, if it is.
     #[tactic(auto, unfolding(crate::specs::Step::read_refusal))]
-    fn read_refusal(&self, arena: &Bump, now: u64, path: &Path) -> Result<Option<Refusal>, NoMemory>
+    fn read_refusal(
+        &self,
+        arena: &Bump,
+        now: u64,
+        session: u64,
+        path: &Path,
+    ) -> Result<Option<Refusal>, NoMemory>
         requires { now ≤ MAX_MOMENT }
-        ensures { IfOk result (λ refusal. refusal ≡ read_refusal self.now now path.now) }
+        ensures { IfOk result (λ refusal. refusal ≡ read_refusal self.now now session path.now) }
     {
         let asked = Asked::none();
-        let scene = self.scene(now);
+        let scene = self.scene(now, session);
         let verdict = judge_read(self.alloc, arena, &scene, path, &asked)?;
         Ok(denial(verdict))
     }
@@ -303,16 +402,17 @@ impl Core {
         &self,
         arena: &Bump,
         now: u64,
+        session: u64,
         writes: &[Write],
     ) -> Result<Option<Refusal>, NoMemory>
         requires moment { now ≤ MAX_MOMENT }
         requires apart { overlaps writes.now ≡ false }
-        ensures { IfOk result (λ refusal. refusal ≡ write_refusal self.now now writes.now) }
+        ensures { IfOk result (λ refusal. refusal ≡ write_refusal self.now now session writes.now) }
     {
         self.rules();
         let coming = overlay(arena, self.tree.as_ref(), writes)?;
         let count = count_in(&coming);
-        let scene = self.scene(now);
+        let scene = self.scene(now, session);
         let verdict = judge_write(self.alloc, arena, &scene, coming, writes)?;
         let Some(denial) = denial(verdict) else {
             return Ok(full(count));

@@ -24,6 +24,8 @@ pub enum Refusal {
     TooManySessions,
     /// The session is not open.
     NoSession,
+    /// Nobody is signed in on the session, or somebody who is no administrator.
+    NotAdmin,
     /// The update has no write.
     EmptyUpdate,
     /// A location of the update is at or above that of another of its writes.

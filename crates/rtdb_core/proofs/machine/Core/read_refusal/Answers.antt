@@ -5,4 +5,4 @@ use Rattle.rtdb_core.proofs.Refusing.{read_is}
 use Rattle.rtdb_core.proofs.machine.Core.read_refusal.Goals as goal
 
 pub returns : goal.returns
-returns c = c.denial.ensures ∙ read_is c.args.self.now c.args.now (scene_of c.scene-scene.result) (asked_of c.none-asked.result) c.args.path.now c.in_ok-verdict.verdict c.scene-scene.ensures c.none-asked.ensures c.in_ok-verdict.ensures
+returns c = c.denial.ensures ∙ read_is c.args.self.now c.args.now c.args.session (scene_of c.scene-scene.result) (asked_of c.none-asked.result) c.args.path.now c.in_ok-verdict.verdict c.scene-scene.ensures c.none-asked.ensures c.in_ok-verdict.ensures

@@ -19,7 +19,7 @@ returns-in-None-clause-tree c =
     ∙ ap (λ (state : State). non_null state.tree) c.self.view_is
 
 pub returns-in-Some-clause-room : goal.returns-in-Some-clause-room
-returns-in-Some-clause-room c = subst (λ (state : State). count state.tree ≤ MAX_LOCATIONS) c.self.view_is c.self.invariant.room
+returns-in-Some-clause-room c = subst (λ (state : State). count state.tree ≤ MAX_LOCATIONS) c.self.view_is c.self.invariant
 
 pub returns-in-None-clause-room : goal.returns-in-None-clause-room
-returns-in-None-clause-room c = subst (λ (state : State). count state.tree ≤ MAX_LOCATIONS) c.self.view_is c.self.invariant.room
+returns-in-None-clause-room c = subst (λ (state : State). count state.tree ≤ MAX_LOCATIONS) c.self.view_is c.self.invariant

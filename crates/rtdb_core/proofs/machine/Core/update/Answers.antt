@@ -17,7 +17,7 @@ returns-then-overlaps-clause-ok c =
 
 pub returns-clause-ok : goal.returns-clause-ok
 returns-clause-ok c =
-    let made : updates c.args.self.now c.args.now c.args.session c.args.writes ≡ makes c.args.self.now c.args.now c.sort.new.writes.items =
+    let made : updates c.args.self.now c.args.now c.args.session c.args.writes ≡ makes c.args.self.now c.args.now c.args.session c.sort.new.writes.items =
     update_made c.args.self.now c.args.now c.args.session c.args.writes c.sort.new.writes.items
     (sym c.is_open.ensures ∙ c.if-not-is_open.false)
     (ap (λ (ws : List Write). length ws == 0) (sym c.into_vec-writes.ensures) ∙ ap (λ (n : ℕ). n == 0) (sym c.into_vec-writes.result.ok.0) ∙ sym c.is_empty.ensures ∙ c.if-is_empty.false)
@@ -25,7 +25,7 @@ returns-clause-ok c =
     c.rules.ensures.one
     (ap overlaps (sym c.deref.ensures.value) ∙ sym c.overlaps.ensures ∙ c.if-overlaps.false) in
     IfOk-weaker c.update_apart.result
-    (λ (reply : Reply). ◌≡◌ {A = Outcome} (makes c.args.self.now c.args.now c.sort.new.writes.items) record { reply = reply; after = c.update_apart.new.self })
+    (λ (reply : Reply). ◌≡◌ {A = Outcome} (makes c.args.self.now c.args.now c.args.session c.sort.new.writes.items) record { reply = reply; after = c.update_apart.new.self })
     (λ (reply : Reply). ◌≡◌ {A = Outcome} (updates c.args.self.now c.args.now c.args.session c.args.writes) record { reply = reply; after = c.update_apart.new.self })
     (λ reply e. made ∙ e) c.update_apart.ensures.ok
 

@@ -15,13 +15,13 @@ judge_write-requires c =
 
 pub returns-in_default : goal.returns-in_default
 returns-in_default c =
-    let is = verdict_is c.args.self.now c.args.now (scene_of c.scene-scene.result) c.args.writes.now c.in_ok-verdict.verdict c.scene-scene.ensures c.rules.ensures.one c.in_ok-verdict.ensures in
+    let is = verdict_is c.args.self.now c.args.now c.args.session (scene_of c.scene-scene.result) c.args.writes.now c.in_ok-verdict.verdict c.scene-scene.ensures c.rules.ensures.one c.in_ok-verdict.ensures in
     let tree : tree_or_null c.in_ok-coming.coming ≡ tree_with c.args.self.now c.args.writes.now =
     tree_is_proposed c.as_ref.result c.self.inside.tree c.args.self.now.tree c.in_ok-coming.coming c.args.writes.now c.as_ref.ensures.value (ap (λ (state : State). state.tree) c.self.view_is) c.in_ok-coming.ensures in
     c.full.ensures (tree_with c.args.self.now c.args.writes.now) (c.count_in-count.ensures ∙ ap (λ (t : Tree). min (count t) (2 ^ 64 - 1)) tree)
-    ∙ is_granted c.args.self.now c.args.now c.args.writes.now c.in_ok-verdict.verdict is (sym c.denial.ensures ∙ c.in_default.is)
+    ∙ is_granted c.args.self.now c.args.now c.args.session c.args.writes.now c.in_ok-verdict.verdict is (sym c.denial.ensures ∙ c.in_default.is)
 
 pub returns : goal.returns
 returns c =
-    let is = verdict_is c.args.self.now c.args.now (scene_of c.scene-scene.result) c.args.writes.now c.in_ok-verdict.verdict c.scene-scene.ensures c.rules.ensures.one c.in_ok-verdict.ensures in
-    is_denied c.args.self.now c.args.now c.args.writes.now c.in_ok-verdict.verdict c.in-Some.denial is (sym c.denial.ensures ∙ c.in-Some.is)
+    let is = verdict_is c.args.self.now c.args.now c.args.session (scene_of c.scene-scene.result) c.args.writes.now c.in_ok-verdict.verdict c.scene-scene.ensures c.rules.ensures.one c.in_ok-verdict.ensures in
+    is_denied c.args.self.now c.args.now c.args.session c.args.writes.now c.in_ok-verdict.verdict c.in-Some.denial is (sym c.denial.ensures ∙ c.in-Some.is)

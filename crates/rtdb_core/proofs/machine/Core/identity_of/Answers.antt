@@ -1,0 +1,15 @@
+use Rattle.std.proofs.Common.{◌≡◌, ◌∙◌, Option, Some, None, sym, ap}
+use Rattle.rtdb_core.specs.State.{State, Session, identity_of}
+use Rattle.rtdb_core.proofs.Sessions.{identity_at}
+use Rattle.rtdb_core.proofs.machine.Core.identity_of.Goals as goal
+
+pub returns-in-Some : goal.returns-in-Some
+returns-in-Some c =
+    c.identity.ensures
+    ∙ identity_at c.self.inside.sessions.entries c.args.session (Some c.in-Some.open.now) c.in-Some.ensures.value
+    ∙ ap (λ (state : State). identity_of state c.args.session) c.self.view_is
+
+pub returns-in-None : goal.returns-in-None
+returns-in-None c =
+    identity_at c.self.inside.sessions.entries c.args.session None c.in-None.ensures.value
+    ∙ ap (λ (state : State). identity_of state c.args.session) c.self.view_is

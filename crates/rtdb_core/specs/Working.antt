@@ -1,2 +1,0 @@
--- Words of private contracts. No public clause stands on them.
-pub mod Sound
