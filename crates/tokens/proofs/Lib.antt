@@ -1,0 +1,4 @@
+pub mod Ahead
+pub mod Halves
+pub mod Secrets
+pub mod Texts
