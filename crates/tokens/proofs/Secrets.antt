@@ -12,7 +12,7 @@ use Rattle.std.proofs.lemmas.Cmp.{nat_list_cmp_total}
 use Rattle.std.proofs.lemmas.Map.Text.{is_eq-slice_cmp}
 use Rattle.serde_json.specs.Data.{Data, null, boolean, number, string, array, object, Members, no_members, member}
 use Rattle.serde_json.specs.Find.{get, get_member}
-use Rattle.serde_json.specs.View.{members_view}
+use Rattle.serde_json.specs.View.{view, members_view}
 use Rattle.serde_json.proofs.Views.{Entry}
 use Rattle.evaluator.specs.Identity.{Identity}
 use Rattle.tokens.specs.Tokens.{Tokens, names_of, is_secret, identity_of, tokens_of_members, tokens_of, identity_named}
@@ -66,10 +66,14 @@ stands_below k secret [] more h = h.0
 stands_below k secret (l ∷ ks) more h = stands_below k secret ks more h.1
 
 -- so the next one stands behind those so far
-pub ascend_behind : (done : Tokens) (secret : List ℕ) (d : Data) (ms : Members) → Ascend done (member secret d ms) → StandsBehind secret done
+ascend_behind : (done : Tokens) (secret : List ℕ) (d : Data) (ms : Members) → Ascend done (member secret d ms) → StandsBehind secret done
 unfolding IsStrictlySortedBy
 ascend_behind [] secret d ms h = tt
 ascend_behind (t ∷ done) secret d ms h = (stands_below t.0 secret (map (λ t. t.0) done) (names_of ms) h.0, ascend_behind done secret d ms h.1)
+
+pub next_behind : (done : Tokens) (secret : List ℕ) (e : Entry) (es more : List Entry) → Ascend done (members_view es) → es ≡ e ∷ more → secret ≡ string_bytes e.0 → StandsBehind secret done
+next_behind done secret e es more ascend is named =
+    subst (λ (s : List ℕ). StandsBehind s done) (sym named) (ascend_behind done (string_bytes e.0) (view e.1) (members_view more) (subst (λ (fs : List Entry). Ascend done (members_view fs)) is ascend))
 
 pub ascend_step : (done : Tokens) (secret : List ℕ) (d : Data) (ms : Members) (more : Tokens) → Ascend done (member secret d ms) → with_member done secret d ≡ Some more → Ascend more ms
 ascend_step done secret d ms more ascend is = by_secret (is_secret secret) (identity_of d) is

@@ -142,7 +142,7 @@ fn is_secret(secret: &str) -> bool
 
 // ---- the second pass: the tokens
 
-#[tactic(auto, using(crate::proofs::Halves::tokens_first, crate::proofs::Halves::tokens_last, crate::proofs::Halves::tokens_step, crate::proofs::Halves::tokens_fault))]
+#[tactic(auto, using(crate::proofs::Halves::tokens_first, crate::proofs::Halves::tokens_last, crate::proofs::Halves::tokens_step, crate::proofs::Halves::tokens_fault, crate::proofs::Secrets::ascend_first, crate::proofs::Secrets::ascend_step))]
 fn build(alloc: Global, members: &Map<String, Value>) -> Result<Tokens, TokensFault>
     ensures { Tells (λ tokens. tokens) result (tokens_of_members (members_view members.now.entries)) }
 {
