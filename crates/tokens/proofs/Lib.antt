@@ -1,4 +1,5 @@
 pub mod Ahead
 pub mod Halves
+pub mod Named
 pub mod Secrets
 pub mod Texts

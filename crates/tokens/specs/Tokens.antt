@@ -13,6 +13,7 @@ use Rattle.evaluator.specs.Identity.{Claims, Identity, identity_code}
 
 -- ---- the members of an object
 
+-- their names
 abbrev pub names_of : Members → List (List ℕ)
 names_of no_members = []
 names_of (member name d ms) = name ∷ names_of ms
@@ -30,7 +31,7 @@ names (object ms) = names_of ms
 abbrev pub has_only : List (List ℕ) → Data → Bool
 has_only lawful d = list_all (λ name. list_any (bytes_eq name) lawful) (names d)
 
--- a text
+-- the member that is a text
 abbrev pub text_at : List ℕ → Data → Option (List ℕ)
 text_at name d = option_and_then as_str (get name d)
 
@@ -38,13 +39,13 @@ text_at name d = option_and_then as_str (get name d)
 abbrev pub lawful_text : List ℕ → Option (List ℕ)
 lawful_text s = if is_text s then Some s else None
 
--- a text of at most 65,536 bytes
+-- the member that is a text of at most 65,536 bytes
 abbrev pub lawful_text_at : List ℕ → Data → Option (List ℕ)
 lawful_text_at name d = option_and_then lawful_text (text_at name d)
 
 -- ---- claims. (This project's profile.)
 
--- what a value claims: nothing where it is null; else a boolean, a whole number within the limits or a text of at most 65,536 bytes, if it is one
+-- what a value claims: nothing where it is null, else itself, if it is a boolean, a whole number within the limits or a text of at most 65,536 bytes
 abbrev pub claim_of : Data → Option (Option Primitive)
 claim_of null = Some None
 claim_of (boolean b) = Some (Some (truth b))
@@ -53,12 +54,12 @@ claim_of (string s) = option_map (λ t. Some (words t)) (lawful_text s)
 claim_of (array ds) = None
 claim_of (object ms) = None
 
--- nothing is no claim
+-- the claims of one member: none where it claims nothing
 abbrev pub claimed_by : List ℕ → Option Primitive → Claims
 claimed_by name None = []
 claimed_by name (Some v) = (name, v) ∷ []
 
--- the claims of all members, whatever their names, if each value claims something or nothing
+-- the claims of all members, whatever their names, if each value is one or null
 abbrev pub claims_of : Members → Option Claims
 claims_of no_members = Some []
 claims_of (member name d ms) = option_and_then (λ v. option_map (λ claims. claimed_by name v ++ claims) (claims_of ms)) (claim_of d)
@@ -96,7 +97,7 @@ abbrev pub tokens_of_members : Members → Option Tokens
 tokens_of_members no_members = Some []
 tokens_of_members (member secret d ms) = if is_secret secret then option_and_then (λ who. option_map (λ tokens. (secret, who) ∷ tokens) (tokens_of_members ms)) (identity_of d) else None
 
--- the tokens of a value, an object; None is `BadTokens`
+-- the tokens of a value, an object. None is `BadTokens`
 unfoldable pub tokens_of : Data → Option Tokens
 tokens_of d = option_and_then tokens_of_members (as_object d)
 
@@ -108,7 +109,7 @@ top d = if has_only (codes "tokens" ∷ []) d then get (codes "tokens") d else N
 unfoldable pub json_of : List ℕ → Option Data
 json_of bytes = if is_utf8 bytes then read bytes else None
 
--- the tokens of a file's bytes; None is `BadTokens`
+-- the tokens of a file's bytes. None is `BadTokens`
 unfoldable pub tokens_in : List ℕ → Option Tokens
 tokens_in bytes = option_and_then tokens_of (option_and_then top (json_of bytes))
 

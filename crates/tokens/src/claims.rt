@@ -54,12 +54,7 @@ pub(crate) fn read_claims(
 }
 
 // Adds what a member claims, if it claims anything.
-fn add(
-    alloc: Global,
-    claims: &mut Claims,
-    name: &str,
-    value: &Value,
-) -> Result<(), TokensFault>
+fn add(alloc: Global, claims: &mut Claims, name: &str, value: &Value) -> Result<(), TokensFault>
     ensures { Tells (λ _. claims.new) result
         (option_map (λ v. claims.old ++ claimed_by name.now v) (claim_of (view value.now))) }
 {

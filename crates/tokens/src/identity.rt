@@ -57,10 +57,7 @@ pub(crate) fn read_identity(alloc: Global, value: &Value) -> Result<Identity, To
     Ok(who)
 }
 
-fn claims_of(
-    alloc: Global,
-    members: Option<&Map<String, Value>>,
-) -> Result<Claims, TokensFault>
+fn claims_of(alloc: Global, members: Option<&Map<String, Value>>) -> Result<Claims, TokensFault>
     ensures { Tells (λ claims. claims) result (claims_of
         (option_map_or (λ ms. members_view ms.now.entries) members.entry no_members)) }
 {

@@ -11,7 +11,12 @@ mod identity;
 mod laws;
 mod members;
 mod tokens;
+mod worked;
 
 pub use fault::TokensFault;
-pub use laws::{each_secret_is_a_text_that_is_not_empty, find_gives_what_stands_in_the_file};
+pub use laws::{
+    a_claim_is_what_stands_in_the_file, each_secret_is_a_text_that_is_not_empty,
+    find_gives_what_stands_in_the_file,
+};
 pub use tokens::Tokens;
+pub use worked::{what_identities_are, what_tokens_files_give};

@@ -16,7 +16,7 @@ use std::collections::BTreeMap;
 use std::marker::Model;
 
 /// Secrets, each with the identity that it signs in. Contracts see the list of pairs, in the byte order
-/// of the secrets. It is not printed, as secrets are none to be seen. (This project's profile.)
+/// of the secrets. It has no `Debug`, so that no secret is printed. (This project's profile.)
 #[derive(Drop)]
 pub struct Tokens {
     held: BTreeMap<String, Identity>,
@@ -45,8 +45,8 @@ impl Tokens {
         }
     }
 
-    /// The tokens of a file's bytes: one pass over the bytes for a JSON value, and two over that. Want of
-    /// memory may come in the place of [`TokensFault::BadTokens`]. (This project's profile.)
+    /// The tokens of a file, `{"tokens":T}`: one pass over its bytes for a JSON value, and two over T. Want
+    /// of memory may come in the place of [`TokensFault::BadTokens`]. (This project's profile.)
     #[tactic(auto, unfolding(crate::specs::Tokens::tokens_in))]
     pub fn read(alloc: Global, bytes: &[u8]) -> Result<Tokens, TokensFault>
         ensures tokens { IfOk result (λ tokens. tokens_in bytes.now ≡ Some tokens) }
@@ -59,8 +59,8 @@ impl Tokens {
         }
     }
 
-    /// The tokens that a value is. Two passes, of which the first takes no memory: so what is no tokens is
-    /// always answered as such. (This project's profile.)
+    /// The tokens that a value is, each a member with its identity. Two passes, of which the first takes no
+    /// memory: so what is no tokens is always answered as such. (This project's profile.)
     #[tactic(auto, unfolding(crate::specs::Tokens::tokens_of))]
     pub fn from_json(alloc: Global, value: &Value) -> Result<Tokens, TokensFault>
         ensures tokens { IfOk result (λ tokens. tokens_of (view value.now) ≡ Some tokens) }
@@ -76,8 +76,8 @@ impl Tokens {
         }
     }
 
-    /// Who signs in by this secret, if anybody does: as many comparisons of texts as the logarithm of the
-    /// number of secrets, and no memory.
+    /// Who signs in by this secret, if anybody does: a few comparisons of texts for each level of a tree
+    /// of secrets, as many as the logarithm of their number, and no memory.
     pub fn find(&self, secret: &str) -> Option<&Identity>
         ensures { option_map (λ who. who.now) result ≡ identity_named self.now secret.now }
     {
