@@ -1,5 +1,5 @@
 -- The second pass, member by member: what was made of the members so far, and what is left.
-use Rattle.std.proofs.Common.{◌≡◌, ℕ, ◌&&◌, Bool, true, false, cond, List, [], ◌∷◌, ◌++◌, Option, Some, None, option_map, option_and_then, sym, ap, ◌∙◌, refl, append_assoc, append-nil}
+use Rattle.std.proofs.Common.{◌≡◌, ℕ, Bool, true, false, cond, List, [], ◌∷◌, ◌++◌, Option, Some, None, option_map, option_and_then, sym, ap, ◌∙◌, refl, append_assoc, append-nil}
 use Rattle.serde_json.specs.Data.{Data, Members, no_members, member}
 use Rattle.tree_model.specs.Primitive.{Primitive}
 use Rattle.evaluator.specs.Identity.{Claims, Identity}

@@ -18,9 +18,13 @@ fn signs_in(alloc: Global, file: &str) -> Result<String, Fail> {
 
 fn described(alloc: Global, of: usize, who: Option<&Identity>) -> Result<String, Fail> {
     match who {
-        Some(who) => Ok(
-            format!(in alloc; "{} by {}, {}, {}, 1 of {of}", who.uid(), who.provider(), rights_of(who), claimed(who))?,
-        ),
+        Some(who) => Ok(format!(in alloc;
+            "{} by {}, {}, {}, 1 of {of}",
+            who.uid(),
+            who.provider(),
+            rights_of(who),
+            claimed(who)
+        )?),
         None => Ok(format!(in alloc; "nobody of {of}")?),
     }
 }
