@@ -1,5 +1,5 @@
 //! Tokens: who signs in by which secret.
-ghost use Rattle.std.specs.Prelude.{◌≡◌, ◌↔◌, ◌&&◌, ◌++◌, ◌∷◌, [], length, option_map, is_some, Some, None, IfOk, IsErrOf, OnOk, string_bytes};
+ghost use Rattle.std.specs.Prelude.{◌≡◌, ◌↔◌, ◌&&◌, ◌++◌, ◌∷◌, [], length, option_map, is_some, Some, None, IfOk, IsErrOf, OnOk};
 ghost use Rattle.serde_json.specs.View.{view, members_view};
 ghost use Rattle.tokens.specs.Tokens.{is_secret, identity_of, identity_named, tokens_of_members, tokens_of, json_of, tokens_in, top};
 ghost use Rattle.tokens.specs.Working.Entries.{StandsBehind, with_member};
