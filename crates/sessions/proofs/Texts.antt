@@ -68,6 +68,7 @@ pub refusal_is_no_float : (refusal : Refusal) → has_float (refusal_data refusa
 refusal_is_no_float refusals.SessionOpen = refl
 refusal_is_no_float refusals.TooManySessions = refl
 refusal_is_no_float refusals.NoSession = refl
+refusal_is_no_float refusals.NotAdmin = refl
 refusal_is_no_float refusals.EmptyUpdate = refl
 refusal_is_no_float refusals.Overlap = refl
 refusal_is_no_float (refusals.ReadDenied named) = or_false _ false (named_is_no_float named) refl

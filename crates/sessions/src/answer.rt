@@ -118,6 +118,7 @@ fn value_of_refusal(alloc: Global, refusal: &Refusal) -> Result<Value, NoMemory>
         Refusal::SessionOpen => plain(alloc, Code::SessionOpen),
         Refusal::TooManySessions => plain(alloc, Code::TooManySessions),
         Refusal::NoSession => plain(alloc, Code::NoSession),
+        Refusal::NotAdmin => plain(alloc, Code::NotAdmin),
         Refusal::EmptyUpdate => plain(alloc, Code::EmptyUpdate),
         Refusal::Overlap => plain(alloc, Code::Overlap),
         Refusal::ReadDenied(named) => read_denied(alloc, named),
