@@ -12,7 +12,6 @@ pub mod Arrays
 pub mod Values
 pub mod Children
 pub mod Written
-pub mod Texts
 pub mod Edits
 pub mod Proposing
 pub mod ChildEdits

@@ -1,3 +1,6 @@
+pub mod Texts
+pub mod Messages
+pub mod Headers
 pub mod Sending
 pub mod Keeping
 pub mod Fixed
@@ -8,3 +11,4 @@ pub mod Going
 pub mod Ending
 pub mod Running
 pub mod InFull
+pub mod Members

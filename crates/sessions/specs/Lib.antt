@@ -1,3 +1,6 @@
+pub mod Message
+pub mod AnswerText
+pub mod Header
 pub mod Lines
 pub mod Said
 pub mod Ends

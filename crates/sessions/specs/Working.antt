@@ -2,3 +2,5 @@
 pub mod Parts
 pub mod Sent
 pub mod Follow
+pub mod Faults
+pub mod Opening

@@ -1,5 +1,0 @@
-pub mod Texts
-pub mod Messages
-pub mod Headers
-pub mod Members
-pub mod Plain
