@@ -16,8 +16,9 @@ pub fn a_refused_event_changes_nothing()
 /// Each step is judged, by rules of which no object has two captures: but for want of memory, a read is
 /// answered by what stands there, and writes are made together, exactly where nothing else stops them,
 /// the rules grant and validate them, and the tree has room; where the rules do not, they are denied
-/// with the names that a denial owes; nothing else changes. (Reference, `.read`, `.write` and
-/// `.validate`.)
+/// with the names that a denial owes; rules are deployed exactly where an administrator asks for it on an
+/// open session; nothing else changes. (Reference, `.read`, `.write` and `.validate`; deployments are
+/// this project's profile.)
 pub fn every_step_is_judged()
     ensures { (old new : State) (call : Call) (reply : Reply) → HasOneCapture old.rules → Step old call.now call.session call.event reply new → IsJudged old call reply new }
 {}

@@ -12,3 +12,4 @@ pub mod Ending
 pub mod Running
 pub mod InFull
 pub mod Members
+pub mod Plain

@@ -26,7 +26,8 @@ pub use message::{Form, MessageFault, Request, Stamp, Verb, read_request};
 pub use outgoing::send_text;
 pub use script::{ScriptEnd, run_script};
 pub use script_laws::{
-    every_line_has_an_answer, lines_are_answered_by_a_run, what_is_said_is_a_run_from_the_opening,
+    every_line_has_an_answer, lines_are_answered_by_a_run, no_line_deploys,
+    what_is_said_is_a_run_from_the_opening,
 };
 pub use stream::{Broken, Sink, Source};
 pub use streams::{Reading, Writing};

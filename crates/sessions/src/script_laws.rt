@@ -1,7 +1,14 @@
 //! Laws of what a script is answered.
-ghost use Rattle.std.specs.Prelude.{◌≡◌, ◌++◌, ℕ, List};
+ghost use Rattle.std.specs.Prelude.{◌≡◌, ◌≢◌, ◌++◌, ℕ, List, Result};
+ghost use Rattle.std.specs.List.{AllByRecursion};
+ghost use Rattle.rules_reader.specs.Book.{Book};
+ghost use Rattle.rtdb_core.specs.declared.event.Event.TheVariants as events;
+ghost use Rattle.rtdb_core.specs.Step.{Call};
+ghost use Rattle.rtdb_core.specs.Headline.{DeployFiles};
+ghost use Rattle.sessions.specs.declared.message.Request.{Request};
+ghost use Rattle.sessions.specs.declared.message.MessageFault.{MessageFault};
 ghost use Rattle.rtdb_core.specs.State.{State};
-ghost use Rattle.sessions.specs.Said.{Phase, running, IsAnswered, IsAnsweredInFull, AreAnswered, AreAnsweredByRun, IsWritten, IsSaidByRun};
+ghost use Rattle.sessions.specs.Said.{Phase, running, IsAnswered, IsAnsweredInFull, AreAnswered, AreRead, calls_of, AreAnsweredByRun, IsWritten, IsSaidByRun};
 
 /// The answers to the lines of a script are the texts of a run over what the lines ask: one step
 /// after another, and the faults in their places.
@@ -23,4 +30,11 @@ pub fn every_line_has_an_answer()
     ensures one { (old new other : State) (line text another : List ℕ) → IsAnsweredInFull old line text new → IsAnsweredInFull old line another other → (text ≡ another) × (new ≡ other) }
     ensures answers { (old new : State) (line text : List ℕ) → IsAnsweredInFull old line text new → IsAnswered old line text new }
     ensures front { (lines more : List (List ℕ)) (phase : Phase) (out : List ℕ) → IsWritten lines phase out → (reached : Phase) × (rest : List ℕ) × IsWritten (lines ++ more) reached (out ++ rest) }
+{}
+
+/// No line of a script asks for a deployment. So the rules in force at each call of its run are those that
+/// its header opens with, and what the law of runs wants of deployed rules holds.
+pub fn no_line_deploys()
+    ensures nothing { (lines : List (List ℕ)) (messages : List (Result Request MessageFault)) → AreRead lines messages → AllByRecursion (λ (call : Call). (rules : Book) → call.event ≢ events.Deploy rules) (calls_of messages) }
+    ensures files { (lines : List (List ℕ)) (messages : List (Result Request MessageFault)) → AreRead lines messages → DeployFiles (calls_of messages) }
 {}
