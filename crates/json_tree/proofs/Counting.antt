@@ -5,7 +5,7 @@ use Rattle.serde_json.specs.Data.{Items, Members, member}
 use Rattle.serde_json.specs.View.{view, items_view, members_view}
 use Rattle.serde_json.specs.declared.value.Value.{Value}
 use Rattle.serde_json.proofs.Views.{Entry}
-use Rattle.json_tree.specs.declared.json.TheConstants.{MANY_LEVELS}
+use Rattle.json_tree.specs.declared.json_value.TheConstants.{MANY_LEVELS}
 use Rattle.json_tree.specs.Json.{are_lawful_items, are_lawful_members}
 use Rattle.json_tree.specs.Working.Levels.{raised, levels_of_items, levels_of_members}
 

@@ -12,6 +12,7 @@ pub mod Arrays
 pub mod Values
 pub mod Children
 pub mod Written
+pub mod Texts
 pub mod Edits
 pub mod Proposing
 pub mod ChildEdits

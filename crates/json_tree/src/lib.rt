@@ -5,8 +5,9 @@
 //! says exactly why there is none.
 #![tactic(auto)]
 
-mod json;
 mod json_laws;
+mod json_text;
+mod json_value;
 mod key;
 mod leaf;
 mod memory;
@@ -15,10 +16,11 @@ mod puts;
 mod share;
 mod undo;
 
-pub use json::{ValueFault, from_json, to_json};
 pub use json_laws::{
     what_a_tree_is_written_as, what_a_value_describes, what_is_written_is_read_back,
 };
+pub use json_text::write_json;
+pub use json_value::{ValueFault, from_json, to_json};
 pub use key::{Key, KeyFault, copy_keys, is_lawful_key};
 pub use leaf::{Leaf, LeafText, Number};
 pub use memory::NoMemory;

@@ -16,9 +16,9 @@ use Rattle.evaluator.specs.declared.evaluation.Outcome.TheVariants.{Yes}
 use Rattle.judge.specs.Question.{Question, env_at}
 use Rattle.judge.specs.Answers.{Answers, Holds, Fails, why_of}
 use Rattle.judge.specs.Granting.{IsGranted}
-use Rattle.judge.specs.Tests.{Answer, stands_at, standing, answer_of, answer_at, holds, failing, name_of, granted, names}
+use Rattle.judge.specs.Tests.{Answer, stands_at, standing, answer_of, answer_at, holds, failing, name_of, names}
 use Rattle.judge.specs.declared.verdict.Why.{Why}
-use Rattle.judge.specs.Working.Refused.{Ask, granted_from, names_from}
+use Rattle.judge.specs.Working.Refused.{Ask, granted, granted_from, names_from}
 use Rattle.judge.proofs.Among.{some_same}
 use Rattle.judge.proofs.Deciding.{standing_is, does_stand, at_prefix, from_prefix, any-map}
 

@@ -19,7 +19,7 @@ use Rattle.evaluator.specs.Asked.{Asked}
 use Rattle.judge.specs.Question.{Scene, Question, reading, writing}
 use Rattle.judge.specs.Granting.{IsGranted}
 use Rattle.judge.specs.Failing.{is_near, is_touched, FailsAt, IsValid, IsFirstFailing}
-use Rattle.judge.specs.Tests.{answer_at, granted, named_rules}
+use Rattle.judge.specs.Tests.{answer_at, named_rules}
 use Rattle.judge.specs.Judging.{MayRead, MayWriteAll, IsLeastRefused, IsReadVerdict, IsWriteVerdict}
 use Rattle.judge.specs.declared.verdict.Why.{Why}
 use Rattle.judge.specs.declared.verdict.Named.{Named}

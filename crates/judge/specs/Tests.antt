@@ -66,10 +66,6 @@ failing answer = option_and_then (λ (a : Answer). option_map (λ why. (a.0, why
 
 -- ---- along a path, where this is what rules answer
 
--- a rule holds at the path or at a prefix of it
-abbrev pub granted : (Path → Option Answer) → Path → Bool
-granted ask path = list_any (λ place. holds (ask place)) (prefixes path)
-
 -- a rule that does not hold, by its pattern and the reason
 abbrev pub name_of : Pattern × Why → Named
 name_of failed = record { pattern = map part_of_text failed.0; why = failed.1 }

@@ -108,13 +108,17 @@ const A_FAILS: &str =
 const A_PASSES: &str =
     r#"".write":true,"a":{".validate":true},"b":{".validate":"'aaaaaaaa'.replace('a', 'bbbbbbbbbbbbbbbb').replace('b', 'cccccccccccccccc') != ''"}"#;
 
-// A rule that makes a text of 512 bytes, above three locations: it is asked once for all of them.
+// Rules that make a text of 512 bytes: one at each of three locations, of which each is asked, and one above
+// them, which is asked once for all.
+const AT_EACH: &str =
+    r#""$x":{".write":"'aaaaaaaa'.replace('a', 'bbbbbbbbbbbbbbbbbbbbbbbbbbbbbbbbbbbbbbbbbbbbbbbbbbbbbbbbbbbbbbbb') != ''"}"#;
+
 const ABOVE_ALL: &str =
     r#"".write":"'aaaaaaaa'.replace('a', 'bbbbbbbbbbbbbbbbbbbbbbbbbbbbbbbbbbbbbbbbbbbbbbbbbbbbbbbbbbbbbbbb') == ''","$x":{".write":true}"#;
 
-// Where the long rule at `/b` is asked, there is too little: so it is not asked where another verdict is
-// given.
-const ASKED: [Row; 9] = [
+// Where the long rule at `/b` is asked, or that at each location, there is too little: so it is not asked
+// where a verdict is given.
+const ASKED: [Row; 10] = [
     (A_GRANTS, "null", "@1 write /b=1 | /a=1", "no memory"),
     (
         A_DENIES,
@@ -133,6 +137,7 @@ const ASKED: [Row; 9] = [
     (A_PASSES, "{\"b\":1}", "@1 write /a=1", "granted"),
     (A_PASSES, "{\"b\":1}", "@1 write /a=1 | /b=null", "granted"),
     (A_PASSES, "{\"b\":1}", "@1 write /b/c=null", "no memory"),
+    (AT_EACH, "null", "@1 write /a=1 | /b=1 | /c=1", "no memory"),
     (ABOVE_ALL, "null", "@1 write /a=1 | /b=1 | /c=1", "granted"),
 ];
 

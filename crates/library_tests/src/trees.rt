@@ -3,7 +3,9 @@ ghost use Rattle.std.specs.Prelude.{◌≡◌, unwrap_or};
 ghost use Rattle.tree_model.specs.PathMap.{depth};
 ghost use Rattle.tree_model.specs.Tree.{null};
 
-use json_tree::{Key, Leaf, NoMemory, Node, Number, ValueFault, from_json, put, to_json};
+use json_tree::{
+    Key, Leaf, NoMemory, Node, Number, ValueFault, from_json, put, to_json, write_json,
+};
 use serde_json::Value;
 use std::alloc::Global;
 use std::test::Fail;
@@ -65,6 +67,48 @@ fn primitives_and_arrays(rt: HostRuntime) -> Result<(), Fail> {
 #[test]
 fn whole_numbers(rt: HostRuntime) -> Result<(), Fail> {
     let other = first_other(rt.alloc(), &WHOLE_NUMBERS, answer)?;
+    assert_eq!(rt; other.as_str(), "");
+    Ok(())
+}
+
+// The tree of a JSON text.
+fn tree_of(alloc: Global, text: &str) -> Result<Option<Node>, Fail> {
+    let value = Value::from_str(alloc, text)?;
+    Ok(from_json(alloc, &value)?)
+}
+
+// What the tree of a JSON text is written as behind another text.
+fn written_behind(alloc: Global, text: &str) -> Result<String, Fail> {
+    let tree = tree_of(alloc, text)?;
+    let bytes = write_json(Vec::from_slice(alloc, b"is ")?, tree.as_ref())?;
+    Ok(String::from_utf8_lossy(alloc, &bytes)?)
+}
+
+const TEXTS: [Row; 13] = [
+    ("null", "is null"),
+    ("true", "is true"),
+    ("false", "is false"),
+    ("0", "is 0"),
+    ("-1", "is -1"),
+    ("9007199254740991", "is 9007199254740991"),
+    ("-9007199254740991", "is -9007199254740991"),
+    ("\"\"", "is \"\""),
+    ("\"a \\\"b\\\" \\\\ \\/\"", "is \"a \\\"b\\\" \\\\ /\""),
+    (
+        "\"\\u0000\\b\\t\\n\\f\\r\\u001F\\u007F\"",
+        "is \"\\u0000\\b\\t\\n\\f\\r\\u001f\u{7f}\"",
+    ),
+    ("\"\\u00e9\\ud83d\\ude00\"", "is \"é\u{1f600}\""),
+    ("{\"é\":[\"é\"]}", "is {\"é\":{\"0\":\"é\"}}"),
+    (
+        "{\"b\":{\"d\":1,\"c\":false},\"a\":{},\"c\":\"\"}",
+        "is {\"b\":{\"c\":false,\"d\":1},\"c\":\"\"}",
+    ),
+];
+
+#[test]
+fn texts(rt: HostRuntime) -> Result<(), Fail> {
+    let other = first_other(rt.alloc(), &TEXTS, written_behind)?;
     assert_eq!(rt; other.as_str(), "");
     Ok(())
 }
@@ -252,12 +296,6 @@ const WRITES: [Row; 20] = [
     ("null at /b/c in {\"a\":1}", "{\"a\":1}"),
     ("null at /a/b in null", "null"),
 ];
-
-// The tree of a JSON text.
-fn tree_of(alloc: Global, text: &str) -> Result<Option<Node>, Fail> {
-    let value = Value::from_str(alloc, text)?;
-    Ok(from_json(alloc, &value)?)
-}
 
 // The keys of a text, which stand between slashes.
 fn keys_of(alloc: Global, text: &str) -> Result<Vec<Key>, Fail> {

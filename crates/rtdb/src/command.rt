@@ -13,7 +13,8 @@ use crate::wanted::{LineFault, Order};
 use bumpalo::Bump;
 use json_tree::NoMemory;
 use rules_reader::compile;
-use sessions::{ScriptEnd, Sink, Source, run_script, send_text, write_accepted, write_rules_fault};
+use messages::{write_accepted, write_rules_fault};
+use sessions::{ScriptEnd, Sink, Source, run_script, send_text};
 use std::alloc::Global;
 use std::io;
 

@@ -4,7 +4,7 @@ use json_tree::{Leaf, Node};
 use path_capture::Pattern;
 use rtdb_core::{Core, Event, Named, NamedRules, Refusal, Reply, Why};
 use rules_reader::compile;
-use sessions::{Form, MessageFault, Stamp, read_request, write_reply};
+use messages::{Form, MessageFault, Stamp, Wanted, read_request, write_reply};
 use std::alloc::AllocError;
 
 const SOCKET: Form = Form::Socket(Stamp { now: 5, session: 7 });
@@ -76,9 +76,9 @@ fn faults_of_messages_come_in_their_order(rt: HostRuntime) {
     }
 }
 
-fn removes_one_key(event: &Event) -> bool {
-    match event {
-        Event::Set(write) => write.at().keys().len() == 1 && write.tree().is_none(),
+fn removes_one_key(wanted: &Wanted) -> bool {
+    match wanted {
+        Wanted::Step(Event::Set(write)) => write.at().keys().len() == 1 && write.tree().is_none(),
         _ => false,
     }
 }
@@ -89,7 +89,7 @@ fn a_socket_message_has_the_stamp_of_its_form(rt: HostRuntime) {
     match read_request(rt.alloc(), bytes, SOCKET) {
         Ok(request) => {
             assert!(rt; request.stamp == Stamp { now: 5, session: 7 });
-            assert!(rt; removes_one_key(&request.event));
+            assert!(rt; removes_one_key(&request.wanted));
         }
         Err(_) => assert!(rt; false),
     }

@@ -10,7 +10,7 @@ pub struct Row {
     pub end: ScriptEnd,
 }
 
-pub const ROWS: [Row; 29] = [
+pub const ROWS: [Row; 31] = [
     Row {
         name: "deeper_grant_stays_deep",
         input: br#"{"rules":"{\"rules\":{\".read\":false,\"a\":{\".read\":false,\"b\":{\".read\":true}}}}"}
@@ -50,15 +50,11 @@ pub const ROWS: [Row; 29] = [
         input: br#"{"rules":"{\"rules\":{\".read\":true,\".write\":true}}"}
 {"do":"open","now":1,"s":1}
 {"do":"get","now":1,"path":"/","query":{},"s":1}
-{"do":"close","now":1,"s":1}
-{"do":"signout","now":1,"s":1}
 {"do":"poll","now":1,"s":1}
 {"do":"tick","now":1,"s":1}
 "#,
         output: br#"{"ok":true,"rules":2}
 {"ok":true}
-{"code":102,"name":"BadRequest","ok":false}
-{"code":102,"name":"BadRequest","ok":false}
 {"code":102,"name":"BadRequest","ok":false}
 {"code":102,"name":"BadRequest","ok":false}
 {"code":102,"name":"BadRequest","ok":false}
@@ -172,12 +168,60 @@ pub const ROWS: [Row; 29] = [
         end: ScriptEnd::Finished,
     },
     Row {
-        name: "a header with tokens",
-        input: br#"{"rules":"{\"rules\":{\".read\":true,\".write\":true}}","tokens":{}}
+        name: "a header with tokens that are none",
+        input: br#"{"rules":"{\"rules\":{\".read\":true,\".write\":true}}","tokens":null}
 "#,
-        output: br#"{"code":102,"name":"BadRequest","ok":false}
+        output: br#"{"code":208,"name":"BadTokens","ok":false}
 "#,
         end: ScriptEnd::BadHeader,
+    },
+    Row {
+        name: "faults of data before those of tokens",
+        input: br#"{"data":1.5,"rules":"{\"rules\":{\".read\":true,\".write\":true}}","tokens":null}
+"#,
+        output: br#"{"code":104,"name":"BadValue","ok":false}
+"#,
+        end: ScriptEnd::BadHeader,
+    },
+    Row {
+        name: "who is signed in, and which rules are in force",
+        input: br#"{"rules":"{\"rules\":{\"board\":{\".read\":\"auth != null && auth.uid == 'ann'\",\".write\":\"auth.token.staff == true\"}}}","tokens":{"j":{"provider":"custom","uid":"bob"},"k":{"admin":true,"claims":{"staff":true},"provider":"custom","uid":"ann"}}}
+{"do":"open","now":1,"s":1}
+{"do":"get","now":2,"path":"/board","s":1}
+{"do":"signin","now":3,"s":1,"token":"zz"}
+{"do":"signin","now":4,"s":1,"token":"k"}
+{"do":"get","now":5,"path":"/board","s":1}
+{"do":"set","now":6,"path":"/board","s":1,"value":1}
+{"do":"signout","now":7,"s":1}
+{"do":"get","now":8,"path":"/board","s":1}
+{"do":"signin","now":9,"s":1,"token":"j"}
+{"do":"deploy","now":10,"rules":"{\"rules\":{}}","s":1}
+{"do":"deploy","now":11,"rules":"{\"rules\":{\"board\":{\".read\":\"newData.exists()\"}}}","s":1}
+{"do":"signin","now":12,"s":1,"token":"k"}
+{"do":"deploy","now":13,"rules":"{\"rules\":{\"board\":{\".read\":\"auth.uid == 'bob'\"}}}","s":1}
+{"do":"get","now":14,"path":"/board","s":1}
+{"do":"close","now":15,"s":1}
+{"do":"get","now":16,"path":"/board","s":1}
+"#,
+        output: br#"{"ok":true,"rules":2}
+{"ok":true}
+{"code":501,"name":"ReadDenied","ok":false,"rules":[{"pattern":"/board","why":"false"}]}
+{"code":201,"name":"UnknownToken","ok":false}
+{"ok":true}
+{"ok":true,"value":null}
+{"ok":true}
+{"ok":true}
+{"code":501,"name":"ReadDenied","ok":false,"rules":[{"pattern":"/board","why":"false"}]}
+{"ok":true}
+{"code":205,"name":"NotAdmin","ok":false}
+{"at":"/board","code":406,"name":"UnknownName","ok":false,"rule":".read","what":"newData"}
+{"ok":true}
+{"ok":true}
+{"code":501,"name":"ReadDenied","ok":false,"rules":[{"pattern":"/board","why":"false"}]}
+{"ok":true}
+{"code":202,"name":"NoSession","ok":false}
+"#,
+        end: ScriptEnd::Finished,
     },
     Row {
         name: "validation reaches up",

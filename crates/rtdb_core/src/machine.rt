@@ -100,6 +100,31 @@ impl Core {
         }
     }
 
+    /// Answers a read as [`Core::step`] does, by the tree that stands there, which is borrowed: so a read
+    /// costs one step for each key of its path, log w of w children each, and the rules on the way, and
+    /// nothing grows with what it answers.
+    #[tactic(auto, unfolding(crate::specs::Step::Step))]
+    pub fn read(
+        &self,
+        arena: &mut Bump,
+        now: u64,
+        session: u64,
+        path: &Path,
+    ) -> Result<Option<&Node>, Refusal>
+        requires { now ≤ MAX_MOMENT }
+        ensures found { IfOk result (λ found. Step self.now now session (Event.Get path.now) (Reply.Value (option_map (λ node. node.now) found)) self.now) }
+        ensures refused { IfErr result (λ refusal. Step self.now now session (Event.Get path.now) (Reply.Refused refusal) self.now) }
+    {
+        if !self.is_open(session) {
+            return Err(Refusal::NoSession);
+        }
+        reset(arena)?;
+        if let Some(refusal) = self.read_refusal(arena, now, session, path)? {
+            return Err(refusal);
+        }
+        Ok(self.value_at(path.keys()))
+    }
+
     fn answer(
         &mut self,
         arena: &mut Bump,
@@ -439,14 +464,21 @@ impl Core {
         make_all(self.alloc, &mut self.tree, writes)
     }
 
-    // A copy of the tree at a path, None where nothing exists.
+    // What stands at a path, None where nothing exists.
+    fn value_at(&self, path: &[Key]) -> Option<&Node>
+        ensures { option_map (λ node. node.now) result ≡ non_null (sub self.now.tree path.now) }
+    {
+        match self.tree() {
+            Some(root) => node_at(root, path),
+            None => None,
+        }
+    }
+
+    // A copy of it.
     fn copy_at(&self, path: &[Key]) -> Result<Option<Node>, NoMemory>
         ensures { IfOk result (λ tree. tree ≡ non_null (sub self.now.tree path.now)) }
     {
-        let Some(root) = self.tree() else {
-            return Ok(None);
-        };
-        match node_at(root, path) {
+        match self.value_at(path) {
             Some(node) => Ok(Some(node.copy(self.alloc)?)),
             None => Ok(None),
         }

@@ -1,6 +1,8 @@
 //! What an event is answered.
+ghost use Rattle.std.specs.Prelude.{◌≡◌};
+ghost use Rattle.rtdb_core.specs.declared.reply.Refusal.TheVariants.{NoMemory as no_memory};
 
-use json_tree::Node;
+use json_tree::{NoMemory, Node};
 use judge::{NamedRules, Why};
 use path_capture::{Path, Pattern};
 
@@ -42,4 +44,12 @@ pub enum Refusal {
     TreeFull,
     /// Memory was wanting, or the arena could not be reset.
     NoMemory,
+}
+
+impl From<NoMemory> for Refusal {
+    ghost from_gives = { λ _ refusal. refusal ≡ no_memory };
+
+    fn from(_refused: NoMemory) -> Refusal {
+        Refusal::NoMemory
+    }
 }

@@ -1,11 +1,13 @@
 -- Whatever lines come, they have an answer: want of memory, if no other.
 use Rattle.std.proofs.Common.{ℕ, List, [], ◌∷◌, ◌++◌, Err, refl, sym, subst, inl, inr, append_assoc}
 use Rattle.std.proofs.lemmas.List.{append-nil}
-use Rattle.sessions.specs.declared.header.HeaderFault.TheVariants.{Line}
-use Rattle.sessions.specs.declared.message.MessageFault.TheVariants.{NoMemory}
+use Rattle.messages.specs.declared.header.HeaderFault.TheVariants.{Line}
+use Rattle.messages.specs.declared.message.MessageFault.TheVariants.{NoMemory}
 use Rattle.rtdb_core.specs.State.{State}
+use Rattle.tokens.specs.Tokens.{Tokens}
+use Rattle.messages.specs.declared.ask.LineFault.TheVariants.{Message}
 use Rattle.sessions.specs.Said.{Phase, unopened, refused, running, IsWritten, as_line}
-use Rattle.sessions.specs.AnswerText.{fault_text}
+use Rattle.messages.specs.AnswerText.{fault_text}
 use Rattle.sessions.specs.Working.Follow.{AnswersAt}
 use Rattle.sessions.proofs.Standing.{IsWritten-append, IsWritten-refused}
 
@@ -15,8 +17,8 @@ want = as_line (fault_text NoMemory)
 AnswersAt-want-header : (line : List ℕ) → AnswersAt unopened line refused want
 AnswersAt-want-header line = (Err (Line NoMemory), inl refl, (refl, refl))
 
-AnswersAt-want : (state : State) (line : List ℕ) → AnswersAt (running state) line (running state) want
-AnswersAt-want state line = (fault_text NoMemory, state, (Err NoMemory, inr refl, (refl, refl)), refl, refl)
+AnswersAt-want : (tokens : Tokens) (state : State) (line : List ℕ) → AnswersAt (running tokens state) line (running tokens state) want
+AnswersAt-want tokens state line = (fault_text NoMemory, state, (Err (Message NoMemory), inl refl, (refl, refl)), refl, refl)
 
 -- after one line the others
 after-line : (lines more : List (List ℕ)) (line out said : List ℕ) → ((phase : Phase) × (rest : List ℕ) × IsWritten ((lines ++ line ∷ []) ++ more) phase ((out ++ said) ++ rest)) → (phase : Phase) × (rest : List ℕ) × IsWritten (lines ++ line ∷ more) phase (out ++ rest)
@@ -34,5 +36,5 @@ IsWritten-more lines (line ∷ more) refused out s =
     (refused, [], same-out (lines ++ line ∷ more) refused out (IsWritten-refused lines (line ∷ more) out s))
 IsWritten-more lines (line ∷ more) unopened out s =
     after-line lines more line out want (IsWritten-more (lines ++ line ∷ []) more refused (out ++ want) (IsWritten-append lines line unopened refused out want s (AnswersAt-want-header line)))
-IsWritten-more lines (line ∷ more) (running state) out s =
-    after-line lines more line out want (IsWritten-more (lines ++ line ∷ []) more (running state) (out ++ want) (IsWritten-append lines line (running state) (running state) out want s (AnswersAt-want state line)))
+IsWritten-more lines (line ∷ more) (running tokens state) out s =
+    after-line lines more line out want (IsWritten-more (lines ++ line ∷ []) more (running tokens state) (out ++ want) (IsWritten-append lines line (running tokens state) (running tokens state) out want s (AnswersAt-want tokens state line)))

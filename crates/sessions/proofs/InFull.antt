@@ -1,5 +1,5 @@
 -- Each line has one answer in which nothing wants memory.
-use Rattle.std.proofs.Common.{◌≡◌, ◌≢◌, ℕ, Bool, true, false, cond, List, ◌++◌, length, Option, Some, None, option_and_then, Result, Ok, Err, refl, sym, ap, inl, ◌∙◌}
+use Rattle.std.proofs.Common.{◌≡◌, ◌≢◌, ℕ, Bool, true, false, cond, List, ◌++◌, length, Option, Some, None, option_and_then, Result, Ok, Err, refl, sym, ap, subst, inl, inr, ◌∙◌}
 use Rattle.std.specs.Prelude.{codes, nat_le, ◌+◌}
 use Rattle.std.specs.List.{list_all}
 use Rattle.std.specs.Str.{is_utf8}
@@ -13,20 +13,37 @@ use Rattle.tree_model.specs.PathMap.{depth}
 use Rattle.tree_model.specs.Tree.{Tree}
 use Rattle.json_tree.specs.Json.{is_lawful, of_json}
 use Rattle.path_capture.specs.Path.{segments}
+use Rattle.evaluator.specs.Identity.{Identity}
+use Rattle.rules_reader.specs.Book.{Book}
+use Rattle.rules_reader.specs.Refusal.{Refuses}
+use Rattle.rules_reader.specs.declared.fault.RulesFault.{RulesFault}
+use Rattle.rules_reader.specs.declared.fault.RulesFault.TheVariants as rules_faults
+use Rattle.rules_reader.proofs.Decided.{states_one, one_reason, never_both}
+use Rattle.tokens.specs.Tokens.{Tokens, has_only, text_at, identity_named}
+use Rattle.rtdb_core.specs.declared.event.Event.{Event}
+use Rattle.rtdb_core.specs.declared.event.Event.TheVariants as events
 use Rattle.rtdb_core.specs.declared.event.Event.TheVariants.{Get, Set, Remove, Update}
 use Rattle.rtdb_core.specs.State.{State}
 use Rattle.rtdb_core.proofs.StepLaws.{some_answer, one_answer}
-use Rattle.sessions.specs.declared.limits.TheConstants.{MAX_MESSAGE_BYTES}
-use Rattle.sessions.specs.declared.message.Form.{Form}
-use Rattle.sessions.specs.declared.message.Form.TheVariants.{Script}
-use Rattle.sessions.specs.declared.message.MessageFault.{MessageFault}
-use Rattle.sessions.specs.declared.message.MessageFault.TheVariants.{TooLarge, BadJson, BadRequest, BadPath, BadValue, TooDeep, NoMemory}
-use Rattle.sessions.specs.declared.message.Request.{Request}
-use Rattle.sessions.specs.declared.message.Verb.{Verb}
-use Rattle.sessions.specs.declared.message.Verb.TheVariants as verbs
-use Rattle.sessions.specs.Message.{or_fault, unless_fault, value_of, has_only, text_at, form_members, verb_members, stamp_of, path_of, path_in, path_below, tree_of_value, write_at, write_below, writes_below, event_of, verb_in, request_of, asks}
-use Rattle.sessions.specs.Said.{IsAnsweredBy, IsAnsweredInFullBy, IsAnsweredInFull, IsAnswered}
-use Rattle.sessions.specs.AnswerText as answer
+use Rattle.messages.specs.declared.limits.TheConstants.{MAX_MESSAGE_BYTES}
+use Rattle.messages.specs.declared.message.Form.{Form}
+use Rattle.messages.specs.declared.message.Form.TheVariants.{Script}
+use Rattle.messages.specs.declared.message.MessageFault.{MessageFault}
+use Rattle.messages.specs.declared.message.MessageFault.TheVariants.{TooLarge, BadJson, BadRequest, BadPath, BadValue, TooDeep, NoMemory}
+use Rattle.messages.specs.declared.message.Request.{Request}
+use Rattle.messages.specs.declared.message.Wanted.{Wanted}
+use Rattle.messages.specs.declared.message.Wanted.TheVariants as wanted
+use Rattle.messages.specs.declared.message.Wanted.TheVariants.{SignIn, Deploy}
+use Rattle.messages.specs.declared.ask.Asked.{Asked}
+use Rattle.messages.specs.declared.ask.LineFault.{LineFault}
+use Rattle.messages.specs.declared.ask.LineFault.TheVariants as line_faults
+use Rattle.messages.specs.Ask.{ComesTo, IsAsked}
+use Rattle.messages.proofs.Texts.{one_rules_text}
+use Rattle.messages.specs.declared.message.Verb.{Verb}
+use Rattle.messages.specs.declared.message.Verb.TheVariants as verbs
+use Rattle.messages.specs.Message.{or_fault, unless_fault, value_of, form_members, verb_members, stamp_of, path_of, path_in, path_below, tree_of_value, write_at, write_below, writes_below, wanted_by, verb_in, request_of, asks}
+use Rattle.sessions.specs.Said.{IsAnsweredBy, IsAnsweredInFullBy, IsAnsweredInFull, IsAnswered, DeploysText, IsDecided}
+use Rattle.messages.specs.AnswerText as answer
 
 -- ---- no fault of a message is want of memory
 
@@ -93,57 +110,206 @@ members_never path (member name d ms) =
 path_in_never : (d : Data) → NeverWants (path_in d)
 path_in_never d = in_turn _ _ (of_option BadRequest (text_at (codes "path") d) (λ e. cc)) (λ text. path_never text)
 
-event_never : (verb : Verb) (d : Data) → NeverWants (event_of verb d)
-event_never verbs.Open d = of_ok _
-event_never verbs.Get d = in_turn _ _ (path_in_never d) (λ path. of_ok (Get path))
-event_never verbs.Set d =
+wanted_never : (verb : Verb) (d : Data) → NeverWants (wanted_by verb d)
+wanted_never verbs.Open d = of_ok _
+wanted_never verbs.Close d = of_ok _
+wanted_never verbs.SignIn d = in_turn _ _ (of_option BadRequest (text_at (codes "token") d) (λ e. cc)) (λ secret. of_ok (SignIn secret))
+wanted_never verbs.SignOut d = of_ok _
+wanted_never verbs.Get d = in_turn _ _ (path_in_never d) (λ path. of_ok (wanted.Step (Get path)))
+wanted_never verbs.Set d =
     in_turn _ _ (of_option BadRequest (text_at (codes "path") d) (λ e. cc)) (λ text.
     in_turn _ _ (of_option BadRequest (get (codes "value") d) (λ e. cc)) (λ value.
     in_turn _ _ (path_never text) (λ path.
     in_turn _ _ (tree_never value) (λ tree.
-    in_turn _ _ (write_never path tree) (λ write. of_ok (Set write))))))
-event_never verbs.Remove d = in_turn _ _ (path_in_never d) (λ path. of_ok (Remove path))
-event_never verbs.Update d =
+    in_turn _ _ (write_never path tree) (λ write. of_ok (wanted.Step (Set write)))))))
+wanted_never verbs.Remove d = in_turn _ _ (path_in_never d) (λ path. of_ok (wanted.Step (Remove path)))
+wanted_never verbs.Update d =
     in_turn _ _ (of_option BadRequest (text_at (codes "path") d) (λ e. cc)) (λ text.
     in_turn _ _ (of_option BadRequest (option_and_then as_object (get (codes "values") d)) (λ e. cc)) (λ members.
     in_turn _ _ (path_never text) (λ path.
-    in_turn _ _ (members_never path members) (λ writes. of_ok (Update writes)))))
+    in_turn _ _ (members_never path members) (λ writes. of_ok (wanted.Step (Update writes))))))
+wanted_never verbs.Deploy d = in_turn _ _ (of_option BadRequest (text_at (codes "rules") d) (λ e. cc)) (λ rules. of_ok (Deploy rules))
 
 request_never : (form : Form) (d : Data) → NeverWants (request_of form d)
 request_never form d =
     in_turn _ _ (of_option BadRequest (verb_in form d) (λ e. cc)) (λ verb.
     either (has_only (form_members form ++ verb_members verb) d) _ _
     (in_turn _ _ (of_option BadRequest (stamp_of form d) (λ e. cc)) (λ stamp.
-    in_turn _ _ (event_never verb d) (λ event. of_ok _)))
+    in_turn _ _ (wanted_never verb d) (λ want. of_ok _)))
     (of_fault BadRequest (λ e. cc)))
 
 asks_never : (form : Form) (bytes : List ℕ) → NeverWants (asks form bytes)
 unfolding asks
 asks_never form bytes = in_turn _ _ (value_never bytes) (request_never form)
 
+-- ---- some answer
+
+-- what is not want of memory
+abbrev WantsNone : LineFault → Type 0
+WantsNone fault = (fault ≢ line_faults.Message NoMemory) × (fault ≢ line_faults.Rules rules_faults.NoMemory)
+
+-- it is answered in full, once it is known what it asks
+asked_full : (old : State) (tokens : Tokens) (line : List ℕ) (asked : Asked) → IsAsked tokens Script line (Ok asked) → (text : List ℕ) × (new : State) × IsAnsweredInFull tokens old line text new
+asked_full old tokens line asked is =
+    let some = some_answer old asked.stamp.now asked.stamp.session asked.event in
+    (answer.text some.0, some.1, (Ok asked, is, (some.0, some.2, some.3, refl)))
+
+fault_full : (old : State) (tokens : Tokens) (line : List ℕ) (fault : LineFault) → WantsNone fault → IsAsked tokens Script line (Err fault) → (text : List ℕ) × (new : State) × IsAnsweredInFull tokens old line text new
+fault_full old tokens line fault none is = (answer.line_fault_text fault, old, (Err fault, is, (none.0, none.1, refl, refl)))
+
+by_secret : (old : State) (tokens : Tokens) (line : List ℕ) (request : Request) (secret : List ℕ) → asks Script line ≡ Ok request → request.wanted ≡ SignIn secret → (found : Option Identity) → identity_named tokens secret ≡ found → (text : List ℕ) × (new : State) × IsAnsweredInFull tokens old line text new
+by_secret old tokens line request secret is want (Some who) named =
+    asked_full old tokens line (record { stamp = request.stamp; event = events.SignIn who }) (request, is, refl, subst (λ (w : Wanted). ComesTo tokens w (events.SignIn who)) (sym want) (who, named, refl))
+by_secret old tokens line request secret is want None named = fault_full old tokens line line_faults.UnknownToken (λ e. cc, λ e. cc) (request, secret, is, want, named)
+
+by_text : (old : State) (tokens : Tokens) (line : List ℕ) (request : Request) (text : List ℕ) → asks Script line ≡ Ok request → request.wanted ≡ Deploy text → IsDecided text → (said : List ℕ) × (new : State) × IsAnsweredInFull tokens old line said new
+by_text old tokens line request text is want (inl h) =
+    asked_full old tokens line (record { stamp = request.stamp; event = events.Deploy h.0 }) (request, is, refl, subst (λ (w : Wanted). ComesTo tokens w (events.Deploy h.0)) (sym want) (h.0, h.1, h.2, refl))
+by_text old tokens line request text is want (inr h) = fault_full old tokens line (line_faults.Rules h.0) (λ e. cc, other h.0 h.2) (request, text, is, want, h.1)
+  where
+    other : (fault : RulesFault) → fault ≢ rules_faults.NoMemory → line_faults.Rules fault ≢ line_faults.Rules rules_faults.NoMemory
+    other fault n e = n (cc)
+
+by_wanted : (old : State) (tokens : Tokens) (line : List ℕ) (request : Request) → ((text : List ℕ) → DeploysText line text → IsDecided text) → asks Script line ≡ Ok request → (want : Wanted) → request.wanted ≡ want → (text : List ℕ) × (new : State) × IsAnsweredInFull tokens old line text new
+by_wanted old tokens line request decided is (wanted.Step event) want =
+    asked_full old tokens line (record { stamp = request.stamp; event = event }) (request, is, refl, subst (λ (w : Wanted). ComesTo tokens w event) (sym want) refl)
+by_wanted old tokens line request decided is (SignIn secret) want = by_secret old tokens line request secret is want (identity_named tokens secret) refl
+by_wanted old tokens line request decided is (Deploy text) want = by_text old tokens line request text is want (decided text (request, is, want))
+
+some_by : (old : State) (tokens : Tokens) (line : List ℕ) → ((text : List ℕ) → DeploysText line text → IsDecided text) → (message : Result Request MessageFault) → asks Script line ≡ message → (text : List ℕ) × (new : State) × IsAnsweredInFull tokens old line text new
+some_by old tokens line decided (Ok request) is = by_wanted old tokens line request decided is request.wanted refl
+some_by old tokens line decided (Err fault) is = fault_full old tokens line (line_faults.Message fault) (λ e. asks_never Script line (is ∙ ap Err (same e)), λ e. cc) (inr is)
+  where
+    same : line_faults.Message fault ≡ line_faults.Message NoMemory → fault ≡ NoMemory
+    same e = cc
+
+pub some_full : (tokens : Tokens) (old : State) (line : List ℕ) → ((text : List ℕ) → DeploysText line text → IsDecided text) → (text : List ℕ) × (new : State) × IsAnsweredInFull tokens old line text new
+some_full tokens old line decided = some_by old tokens line decided (asks Script line) refl
+
 -- ---- one answer
 
-some_by : (old : State) (message : Result Request MessageFault) → NeverWants message → (text : List ℕ) × (new : State) × IsAnsweredInFullBy old message text new
-some_by old (Ok request) h =
-    let some = some_answer old request.stamp.now request.stamp.session request.event in
-    (answer.text some.0, some.1, (some.0, some.2, some.3, refl))
-some_by old (Err fault) h = (answer.fault_text fault, old, (λ e. h (ap Err e), refl, refl))
+one_request : (line : List ℕ) (r q : Request) → asks Script line ≡ Ok r → asks Script line ≡ Ok q → r ≡ q
+one_request line r q a b = ok_is r q (sym a ∙ b)
+  where
+    ok_is : (x y : Request) → ◌≡◌ {A = Result Request MessageFault} (Ok x) (Ok y) → x ≡ y
+    ok_is x y e = cc
 
-pub some_full : (old : State) (line : List ℕ) → (text : List ℕ) × (new : State) × IsAnsweredInFull old line text new
-some_full old line = some_by old (asks Script line) (asks_never Script line)
+request_or_fault : (line : List ℕ) (r : Request) (fault : MessageFault) → asks Script line ≡ Ok r → asks Script line ≡ Err fault → ⊥
+request_or_fault line r fault a b = never (sym a ∙ b)
+  where
+    never : ◌≡◌ {A = Result Request MessageFault} (Ok r) (Err fault) → ⊥
+    never e = cc
 
-one_by : (old new other : State) (message : Result Request MessageFault) (text another : List ℕ) → IsAnsweredInFullBy old message text new → IsAnsweredInFullBy old message another other → (text ≡ another) × (new ≡ other)
-one_by old new other (Ok request) text another a b =
-    let same = one_answer old new other request.stamp.now request.stamp.session request.event a.0 b.0 a.1 b.1 a.2 b.2 in
-    (a.3 ∙ ap answer.text same.0 ∙ sym b.3, same.1)
-one_by old new other (Err fault) text another a b = (a.1 ∙ sym b.1, a.2 ∙ sym b.2)
+-- one event
+one_event : (tokens : Tokens) (want : Wanted) (e f : Event) → ComesTo tokens want e → ComesTo tokens want f → e ≡ f
+one_event tokens (wanted.Step event) e f a b = a ∙ sym b
+one_event tokens (SignIn secret) e f a b = a.2 ∙ ap (λ (who : Identity). events.SignIn who) (some_is a.0 b.0 (sym a.1 ∙ b.1)) ∙ sym b.2
+  where
+    some_is : (x y : Identity) → ◌≡◌ {A = Option Identity} (Some x) (Some y) → x ≡ y
+    some_is x y e = cc
+one_event tokens (Deploy text) e f a b = a.3 ∙ ap (λ (book : Book). events.Deploy book) (states_one text a.0 b.0 a.1 b.1) ∙ sym b.3
 
-pub one_full : (old new other : State) (line text another : List ℕ) → IsAnsweredInFull old line text new → IsAnsweredInFull old line another other → (text ≡ another) × (new ≡ other)
-one_full old new other line text another a b = one_by old new other (asks Script line) text another a b
+-- two messages of one line that want no memory: one call, or faults with one text
+abbrev Agree : Result Asked LineFault → Result Asked LineFault → Type 0
+Agree (Ok a) (Ok b) = a ≡ b
+Agree (Ok a) (Err g) = ⊥
+Agree (Err f) (Ok b) = ⊥
+Agree (Err f) (Err g) = answer.line_fault_text f ≡ answer.line_fault_text g
 
-by_full : (old new : State) (message : Result Request MessageFault) (text : List ℕ) → IsAnsweredInFullBy old message text new → IsAnsweredBy old message text new
-by_full old new (Ok request) text a = (a.0, a.2, a.3)
-by_full old new (Err fault) text a = (a.1, a.2)
+-- what a message other than a fault of its own is a message of
+secret_only : (tokens : Tokens) (w : Wanted) (event : Event) (secret : List ℕ) → w ≡ SignIn secret → identity_named tokens secret ≡ None → ComesTo tokens w event → ⊥
+secret_only tokens w event secret is none c = never (sym d.1 ∙ none)
+  where
+    d : ComesTo tokens (SignIn secret) event
+    d = subst (λ (x : Wanted). ComesTo tokens x event) is c
 
-pub full_is_answered : (old new : State) (line text : List ℕ) → IsAnsweredInFull old line text new → IsAnswered old line text new
-full_is_answered old new line text a = (asks Script line, inl refl, by_full old new (asks Script line) text a)
+    never : Some d.0 ≡ None → ⊥
+    never e = cc
+
+rules_only : (tokens : Tokens) (w : Wanted) (event : Event) (text : List ℕ) (fault : RulesFault) → w ≡ Deploy text → Refuses text fault → fault ≢ rules_faults.NoMemory → ComesTo tokens w event → ⊥
+rules_only tokens w event text fault is r n c =
+    let d : ComesTo tokens (Deploy text) event = subst (λ (x : Wanted). ComesTo tokens x event) is c in
+    n (never_both text d.0 fault d.1 r)
+
+same_text : (text other : List ℕ) → Deploy text ≡ Deploy other → text ≡ other
+same_text text other e = cc
+
+secret_or_text : (secret text : List ℕ) → SignIn secret ≡ Deploy text → ⊥
+secret_or_text secret text e = cc
+
+no_rules_memory : (fault : RulesFault) → line_faults.Rules fault ≢ line_faults.Rules rules_faults.NoMemory → fault ≢ rules_faults.NoMemory
+no_rules_memory fault n e = n (ap (λ (f : RulesFault). line_faults.Rules f) e)
+
+no_message_memory : (fault : MessageFault) → line_faults.Message fault ≢ line_faults.Message NoMemory → fault ≢ NoMemory
+no_message_memory fault n e = n (ap (λ (f : MessageFault). line_faults.Message f) e)
+
+module _ (tokens : Tokens) (line : List ℕ) where
+  -- a message with a fault has no other
+  of_message : (fault : MessageFault) → line_faults.Message fault ≢ line_faults.Message NoMemory → IsAsked tokens Script line (Err (line_faults.Message fault)) → asks Script line ≡ Err fault
+  of_message fault n (inl wanted) = absurd (no_message_memory fault n wanted)
+  of_message fault n (inr is) = is
+
+  agree : (m n : Result Asked LineFault) → IsAsked tokens Script line m → IsAsked tokens Script line n → ((f : LineFault) → m ≡ Err f → WantsNone f) → ((f : LineFault) → n ≡ Err f → WantsNone f) → Agree m n
+  agree (Ok a) (Ok b) h g w v =
+      let same = one_request line h.0 g.0 h.1 g.1 in
+      let event = one_event tokens h.0.wanted a.event b.event h.3 (subst (λ (r : Request). ComesTo tokens r.wanted b.event) (sym same) g.3) in
+      let stamp = h.2 ∙ ap (λ (r : Request). r.stamp) same ∙ sym g.2 in
+      λ i. record { stamp = stamp i; event = event i }
+  agree (Ok a) (Err (line_faults.Message fault)) h g w v = request_or_fault line h.0 fault h.1 (of_message fault (v _ refl).0 g)
+  agree (Ok a) (Err line_faults.UnknownToken) h g w v =
+      secret_only tokens h.0.wanted a.event g.1 (ap (λ (r : Request). r.wanted) (one_request line h.0 g.0 h.1 g.2) ∙ g.3) g.4 h.3
+  agree (Ok a) (Err (line_faults.Rules fault)) h g w v =
+      rules_only tokens h.0.wanted a.event g.1 fault (ap (λ (r : Request). r.wanted) (one_request line h.0 g.0 h.1 g.2) ∙ g.3) g.4 (no_rules_memory fault (v _ refl).1) h.3
+  agree (Err (line_faults.Message fault)) (Ok b) h g w v = request_or_fault line g.0 fault g.1 (of_message fault (w _ refl).0 h)
+  agree (Err line_faults.UnknownToken) (Ok b) h g w v =
+      secret_only tokens g.0.wanted b.event h.1 (ap (λ (r : Request). r.wanted) (one_request line g.0 h.0 g.1 h.2) ∙ h.3) h.4 g.3
+  agree (Err (line_faults.Rules fault)) (Ok b) h g w v =
+      rules_only tokens g.0.wanted b.event h.1 fault (ap (λ (r : Request). r.wanted) (one_request line g.0 h.0 g.1 h.2) ∙ h.3) h.4 (no_rules_memory fault (w _ refl).1) g.3
+  agree (Err (line_faults.Message fault)) (Err (line_faults.Message other)) h g w v =
+      ap answer.fault_text (err_is fault other (sym (of_message fault (w _ refl).0 h) ∙ of_message other (v _ refl).0 g))
+    where
+      err_is : (x y : MessageFault) → ◌≡◌ {A = Result Request MessageFault} (Err x) (Err y) → x ≡ y
+      err_is x y e = cc
+  agree (Err (line_faults.Message fault)) (Err line_faults.UnknownToken) h g w v = absurd (request_or_fault line g.0 fault g.2 (of_message fault (w _ refl).0 h))
+  agree (Err (line_faults.Message fault)) (Err (line_faults.Rules other)) h g w v = absurd (request_or_fault line g.0 fault g.2 (of_message fault (w _ refl).0 h))
+  agree (Err line_faults.UnknownToken) (Err (line_faults.Message fault)) h g w v = absurd (request_or_fault line h.0 fault h.2 (of_message fault (v _ refl).0 g))
+  agree (Err (line_faults.Rules other)) (Err (line_faults.Message fault)) h g w v = absurd (request_or_fault line h.0 fault h.2 (of_message fault (v _ refl).0 g))
+  agree (Err line_faults.UnknownToken) (Err line_faults.UnknownToken) h g w v = refl
+  agree (Err line_faults.UnknownToken) (Err (line_faults.Rules fault)) h g w v =
+      absurd (secret_or_text h.1 g.1 (sym h.3 ∙ ap (λ (r : Request). r.wanted) (one_request line h.0 g.0 h.2 g.2) ∙ g.3))
+  agree (Err (line_faults.Rules fault)) (Err line_faults.UnknownToken) h g w v =
+      absurd (secret_or_text g.1 h.1 (sym g.3 ∙ ap (λ (r : Request). r.wanted) (one_request line g.0 h.0 g.2 h.2) ∙ h.3))
+  agree (Err (line_faults.Rules fault)) (Err (line_faults.Rules other)) h g w v =
+      let same = same_text h.1 g.1 (sym h.3 ∙ ap (λ (r : Request). r.wanted) (one_request line h.0 g.0 h.2 g.2) ∙ g.3) in
+      one_rules_text fault other (one_reason h.1 fault other h.4 (subst (λ (t : List ℕ). Refuses t other) (sym same) g.4) (no_rules_memory fault (w _ refl).1) (no_rules_memory other (v _ refl).1))
+
+-- what is answered in full wants no memory
+full_wants_none : (old new : State) (message : Result Asked LineFault) (text : List ℕ) → IsAnsweredInFullBy old message text new → (f : LineFault) → message ≡ Err f → WantsNone f
+full_wants_none old new (Ok asked) text a f e = absurd (never e)
+  where
+    never : ◌≡◌ {A = Result Asked LineFault} (Ok asked) (Err f) → ⊥
+    never e = cc
+full_wants_none old new (Err fault) text a f e = subst WantsNone (err_is fault f e) (a.0, a.1)
+  where
+    err_is : (x y : LineFault) → ◌≡◌ {A = Result Asked LineFault} (Err x) (Err y) → x ≡ y
+    err_is x y e = cc
+
+one_by : (old new other : State) (m n : Result Asked LineFault) (text another : List ℕ) → Agree m n → IsAnsweredInFullBy old m text new → IsAnsweredInFullBy old n another other → (text ≡ another) × (new ≡ other)
+one_by old new other (Ok asked) (Ok b) text another same a h =
+    let h' = subst (λ (x : Asked). IsAnsweredInFullBy old (Ok x) another other) (sym same) h in
+    let one = one_answer old new other asked.stamp.now asked.stamp.session asked.event a.0 h'.0 a.1 h'.1 a.2 h'.2 in
+    (a.3 ∙ ap answer.text one.0 ∙ sym h'.3, one.1)
+one_by old new other (Ok asked) (Err fault) text another same a h = absurd same
+one_by old new other (Err fault) (Ok asked) text another same a h = absurd same
+one_by old new other (Err fault) (Err g) text another same a h = (a.2 ∙ same ∙ sym h.2, a.3 ∙ sym h.3)
+
+pub one_full : (tokens : Tokens) (old new other : State) (line text another : List ℕ) → IsAnsweredInFull tokens old line text new → IsAnsweredInFull tokens old line another other → (text ≡ another) × (new ≡ other)
+one_full tokens old new other line text another a b =
+    one_by old new other a.0 b.0 text another (agree tokens line a.0 b.0 a.1 b.1 (full_wants_none old new a.0 text a.2) (full_wants_none old other b.0 another b.2)) a.2 b.2
+
+by_full : (old new : State) (message : Result Asked LineFault) (text : List ℕ) → IsAnsweredInFullBy old message text new → IsAnsweredBy old message text new
+by_full old new (Ok asked) text a = (a.0, a.2, a.3)
+by_full old new (Err fault) text a = (a.2, a.3)
+
+pub full_is_answered : (tokens : Tokens) (old new : State) (line text : List ℕ) → IsAnsweredInFull tokens old line text new → IsAnswered tokens old line text new
+full_is_answered tokens old new line text a = (a.0, a.1, by_full old new a.0 text a.2)

@@ -1,6 +1,3 @@
-pub mod Texts
-pub mod Messages
-pub mod Headers
 pub mod Sending
 pub mod Keeping
 pub mod Fixed
@@ -11,5 +8,3 @@ pub mod Going
 pub mod Ending
 pub mod Running
 pub mod InFull
-pub mod Members
-pub mod Plain

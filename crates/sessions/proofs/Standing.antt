@@ -7,21 +7,27 @@ use Rattle.std.specs.Io.KnownBytes.{Appends}
 use Rattle.rules_reader.specs.Book.{Book, rules}
 use Rattle.sessions.specs.declared.desk.Stop.{Stop}
 use Rattle.sessions.specs.declared.desk.Stop.TheVariants as stops
-use Rattle.sessions.specs.declared.header.HeaderFault.{HeaderFault}
-use Rattle.sessions.specs.declared.header.HeaderFault.TheVariants.{Line, Rules, Data, TreeFull}
-use Rattle.sessions.specs.declared.message.Form.TheVariants.{Script}
-use Rattle.sessions.specs.declared.message.MessageFault.TheVariants.{TooLarge}
-use Rattle.sessions.specs.Message.{Header, value_of, asks, header_in}
-use Rattle.sessions.specs.Header.{HasRules, Opens}
+use Rattle.messages.specs.declared.header.HeaderFault.{HeaderFault}
+use Rattle.messages.specs.declared.header.HeaderFault.TheVariants.{Line, Rules, Data, BadTokens, TreeFull}
+use Rattle.messages.specs.declared.header.Opened.{Opened}
+use Rattle.messages.specs.declared.ask.Asked.{Asked}
+use Rattle.messages.specs.declared.ask.LineFault.{LineFault}
+use Rattle.messages.specs.declared.ask.LineFault.TheVariants as line_faults
+use Rattle.messages.specs.Ask.{IsAsked}
+use Rattle.tokens.specs.Tokens.{Tokens}
+use Rattle.messages.specs.declared.message.Form.TheVariants.{Script}
+use Rattle.messages.specs.declared.message.MessageFault.TheVariants.{TooLarge}
+use Rattle.messages.specs.Message.{Header, value_of, asks, header_in}
+use Rattle.messages.specs.Header.{HasRules, Opens}
 use Rattle.sessions.specs.Lines.{non_blank, is_blank}
 use Rattle.sessions.specs.Said.{Phase, unopened, refused, running, IsAnswered, AreAnswered, Continues, IsWritten, as_line}
 use Rattle.sessions.specs.Working.Sent.{tells, Passes}
 use Rattle.rtdb_core.specs.State.{State}
-use Rattle.sessions.specs.AnswerText as answer
+use Rattle.messages.specs.AnswerText as answer
 use Rattle.sessions.specs.Working.Parts.{FRONT_BYTES, front, ShowsFront}
 use Rattle.sessions.specs.Working.Follow.{AnswersAt, StopsAt, HasAnswered, StopsAfter}
 use Rattle.sessions.proofs.Sending.{Appends-refl}
-use Rattle.sessions.specs.declared.limits.TheConstants.{MAX_MESSAGE_BYTES}
+use Rattle.messages.specs.declared.limits.TheConstants.{MAX_MESSAGE_BYTES}
 
 -- ---- of a line only its front matters
 
@@ -67,39 +73,46 @@ header_in-shown text line e = rw (value_of-shown text line e) refl
 HasRules-shown : (text line : List ℕ) (header : Header) (book : Book) → header_in text ≡ header_in line → HasRules text header book → HasRules line header book
 HasRules-shown text line header book e h = record { is = sym e ∙ h.is; states = h.states; one = h.one }
 
-Opens-shown : (text line : List ℕ) (opened : Result State HeaderFault) → header_in text ≡ header_in line → Opens text opened → Opens line opened
-Opens-shown text line (Ok state) e o = (o.0, o.1, o.2, HasRules-shown text line o.0 o.1 e o.3, o.4, o.5, o.6)
+Opens-shown : (text line : List ℕ) (opened : Result Opened HeaderFault) → header_in text ≡ header_in line → Opens text opened → Opens line opened
+Opens-shown text line (Ok opened) e o = (o.0, o.1, o.2, HasRules-shown text line o.0 o.1 e o.3, o.4, o.5, o.6, o.7)
 Opens-shown text line (Err (Line fault)) e (inl o) = inl o
 Opens-shown text line (Err (Line fault)) e (inr o) = inr (sym e ∙ o)
 Opens-shown text line (Err (Rules fault)) e o = (o.0, sym e ∙ o.1, o.2)
 Opens-shown text line (Err (Data fault)) e o = (o.0, o.1, HasRules-shown text line o.0 o.1 e o.2, o.3)
-Opens-shown text line (Err TreeFull) e o = (o.0, o.1, o.2, HasRules-shown text line o.0 o.1 e o.3, o.4, o.5)
+Opens-shown text line (Err BadTokens) e o = (o.0, o.1, o.2, HasRules-shown text line o.0 o.1 e o.3, o.4, o.5)
+Opens-shown text line (Err TreeFull) e o = (o.0, o.1, o.2, o.3, HasRules-shown text line o.0 o.1 e o.4, o.5, o.6, o.7)
 
-IsAnswered-shown : (old : State) (text line said : List ℕ) (new : State) → asks Script text ≡ asks Script line → IsAnswered old text said new → IsAnswered old line said new
-IsAnswered-shown old text line said new e (message, inl asked, a) = (message, inl (asked ∙ e), a)
-IsAnswered-shown old text line said new e (message, inr wanted, a) = (message, inr wanted, a)
+IsAsked-shown : (tokens : Tokens) (text line : List ℕ) (message : Result Asked LineFault) → asks Script text ≡ asks Script line → IsAsked tokens Script text message → IsAsked tokens Script line message
+IsAsked-shown tokens text line (Ok asked) e h = (h.0, sym e ∙ h.1, h.2, h.3)
+IsAsked-shown tokens text line (Err (line_faults.Message fault)) e (inl wanted) = inl wanted
+IsAsked-shown tokens text line (Err (line_faults.Message fault)) e (inr is) = inr (sym e ∙ is)
+IsAsked-shown tokens text line (Err line_faults.UnknownToken) e h = (h.0, h.1, sym e ∙ h.2, h.3, h.4)
+IsAsked-shown tokens text line (Err (line_faults.Rules fault)) e h = (h.0, h.1, sym e ∙ h.2, h.3, h.4)
+
+IsAnswered-shown : (tokens : Tokens) (old : State) (text line said : List ℕ) (new : State) → asks Script text ≡ asks Script line → IsAnswered tokens old text said new → IsAnswered tokens old line said new
+IsAnswered-shown tokens old text line said new e h = (h.0, IsAsked-shown tokens text line h.0 e h.1, h.2)
 
 AnswersAt-shown : (phase phase' : Phase) (text line out : List ℕ) → front text ≡ front line → AnswersAt phase text phase' out → AnswersAt phase line phase' out
 AnswersAt-shown unopened phase' text line out e a = (a.0, Opens-shown text line a.0 (header_in-shown text line e) a.1, a.2)
 AnswersAt-shown refused phase' text line out e a = a
-AnswersAt-shown (running old) phase' text line out e a = (a.0, a.1, IsAnswered-shown old text line a.0 a.1 (asks-shown text line e) a.2, a.3, a.4)
+AnswersAt-shown (running tokens old) phase' text line out e a = (a.0, a.1, IsAnswered-shown tokens old text line a.0 a.1 (asks-shown text line e) a.2, a.3, a.4)
 
 -- ---- one answer more
 
-AreAnswered-append : (a b c : State) (lines texts : List (List ℕ)) (line text : List ℕ) → AreAnswered a lines texts b → IsAnswered b line text c → AreAnswered a (lines ++ line ∷ []) (texts ++ text ∷ []) c
-AreAnswered-append a b c [] [] line text r h = (c, subst (λ (x : State). IsAnswered x line text c) r h, refl)
-AreAnswered-append a b c [] (y ∷ ys) line text r h = absurd r
-AreAnswered-append a b c (x ∷ xs) [] line text r h = absurd r
-AreAnswered-append a b c (x ∷ xs) (y ∷ ys) line text r h = (r.0, r.1, AreAnswered-append r.0 b c xs ys line text r.2 h)
+AreAnswered-append : (tokens : Tokens) (a b c : State) (lines texts : List (List ℕ)) (line text : List ℕ) → AreAnswered tokens a lines texts b → IsAnswered tokens b line text c → AreAnswered tokens a (lines ++ line ∷ []) (texts ++ text ∷ []) c
+AreAnswered-append tokens a b c [] [] line text r h = (c, subst (λ (x : State). IsAnswered tokens x line text c) r h, refl)
+AreAnswered-append tokens a b c [] (y ∷ ys) line text r h = absurd r
+AreAnswered-append tokens a b c (x ∷ xs) [] line text r h = absurd r
+AreAnswered-append tokens a b c (x ∷ xs) (y ∷ ys) line text r h = (r.0, r.1, AreAnswered-append tokens r.0 b c xs ys line text r.2 h)
 
-Continues-append : (opened : Result State HeaderFault) (lines : List (List ℕ)) (line : List ℕ) (phase phase' : Phase) (out more : List ℕ) → Continues opened lines phase out → AnswersAt phase line phase' more → Continues opened (lines ++ line ∷ []) phase' (out ++ more)
+Continues-append : (opened : Result Opened HeaderFault) (lines : List (List ℕ)) (line : List ℕ) (phase phase' : Phase) (out more : List ℕ) → Continues opened lines phase out → AnswersAt phase line phase' more → Continues opened (lines ++ line ∷ []) phase' (out ++ more)
 Continues-append (Err fault) lines line phase phase' out more b a = absurd (subst (λ (x : Phase). AnswersAt x line phase' more) b.0 a)
 Continues-append (Ok opened) lines line phase phase' out more b a =
     let a' = subst (λ (x : Phase). AnswersAt x line phase' more) b.3 a in
-    let first = as_line (answer.accepted_text (length (rules opened.rules))) in (
+    let first = as_line (answer.accepted_text (length (rules opened.core.rules))) in (
       b.0 ++ a'.0 ∷ [],
       a'.1,
-      AreAnswered-append _ b.1 a'.1 lines b.0 line a'.0 b.2 a'.2,
+      AreAnswered-append opened.tokens opened.core b.1 a'.1 lines b.0 line a'.0 b.2 a'.2,
       a'.3,
       ap (λ o. o ++ more) b.4 ∙ ap (λ t. (first ++ flat_map as_line b.0) ++ t) a'.4 ∙ flat_map_more as_line first b.0 a'.0,
     )
@@ -112,9 +125,9 @@ IsWritten-append (header ∷ lines) line phase phase' out more s a = (s.0, s.1, 
 
 -- ---- after a refused header no line is answered
 
-Continues-refused : (opened : Result State HeaderFault) (lines more : List (List ℕ)) (out : List ℕ) → Continues opened lines refused out → Continues opened (lines ++ more) refused out
+Continues-refused : (opened : Result Opened HeaderFault) (lines more : List (List ℕ)) (out : List ℕ) → Continues opened lines refused out → Continues opened (lines ++ more) refused out
 Continues-refused (Err fault) lines more out b = b
-Continues-refused (Ok book) lines more out b = let e : refused ≡ running b.1 = b.3 in absurd (cc)
+Continues-refused (Ok opened) lines more out b = let e : refused ≡ running opened.tokens b.1 = b.3 in absurd (cc)
 
 pub IsWritten-refused : (lines more : List (List ℕ)) (out : List ℕ) → IsWritten lines refused out → IsWritten (lines ++ more) refused out
 IsWritten-refused [] more out s = let e : refused ≡ unopened = s.0 in absurd (cc)

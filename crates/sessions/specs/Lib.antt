@@ -1,6 +1,3 @@
-pub mod Message
-pub mod AnswerText
-pub mod Header
 pub mod Lines
 pub mod Said
 pub mod Ends

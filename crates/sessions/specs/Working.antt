@@ -2,5 +2,3 @@
 pub mod Parts
 pub mod Sent
 pub mod Follow
-pub mod Faults
-pub mod Opening

@@ -3,7 +3,7 @@ ghost use Rattle.std.specs.Prelude.{◌≡◌, ℕ, ◌≤◌, ◌++◌, ◌↔�
 ghost use Rattle.sessions.specs.Lines.{is_blank};
 ghost use Rattle.sessions.specs.Working.Parts.{FRONT_BYTES, front, KeepsFront};
 
-use crate::limits::MAX_MESSAGE_BYTES;
+use messages::MAX_MESSAGE_BYTES;
 use json_tree::NoMemory;
 use std::alloc::{AllocError, Global};
 

@@ -1,19 +1,22 @@
 //! What a line is answered: a header by its acceptance or its refusal, a request by a reply.
-ghost use Rattle.std.specs.Prelude.{◌≡◌, ◌≢◌, IfOk, IsOk, OnErr};
-ghost use Rattle.sessions.specs.AnswerText.{text, fault_text, rules_fault_text};
-ghost use Rattle.sessions.specs.Said.{unopened, refused, running, as_line, header_fault_text};
+ghost use Rattle.std.specs.Prelude.{◌≡◌, ◌≢◌, ◌≤◌, ℕ, List, Ok, IfOk, IsOk, OnErr};
+ghost use Rattle.messages.specs.AnswerText.{text, fault_text, rules_fault_text, line_fault_text};
+ghost use Rattle.sessions.specs.Said.{unopened, refused, running, as_line, IsAnsweredBy, header_fault_text};
 ghost use Rattle.sessions.specs.Working.Follow.{phase_of, bytes_of, AnswersAt};
 ghost use Rattle.rtdb_core.specs.declared.reply.Reply.TheVariants as replies;
 ghost use Rattle.rtdb_core.specs.declared.reply.Refusal.TheVariants as refusals;
 ghost use Rattle.rules_reader.specs.declared.fault.RulesFault.TheVariants as rules_faults;
-ghost use Rattle.sessions.specs.declared.message.MessageFault.TheVariants as message_faults;
+ghost use Rattle.messages.specs.declared.message.MessageFault.TheVariants as message_faults;
 
-use crate::answer::{write_accepted, write_fault, write_reply, write_rules_fault};
-use crate::header::{HeaderFault, read_header};
-use crate::message::{Form, MessageFault, read_request};
 use bumpalo::Bump;
 use json_tree::NoMemory;
-use rtdb_core::{Core, Refusal, Reply};
+use messages::{
+    Asked, Form, HeaderFault, LineFault, MessageFault, Opened, Stamp, read_asked, read_header,
+    write_accepted, write_bad_tokens, write_fault, write_line_fault, write_refusal, write_reply,
+    write_rules_fault, write_value,
+};
+use path_capture::Path;
+use rtdb_core::{Core, Event, MAX_MOMENT, Refusal, Reply};
 use rules_reader::RulesFault;
 use std::alloc::Global;
 
@@ -25,7 +28,7 @@ pub enum Stage {
     /// After a header that was refused: no line is answered any more.
     Refused,
     /// With the database that its header has opened.
-    Running(Core),
+    Running(Opened),
 }
 
 /// An answer, as a line of the output with its line feed.
@@ -72,25 +75,58 @@ pub fn respond(
             Ok(answer)
         }
         Stage::Refused => unreachable!(),
-        Stage::Running(core) => answer_request(alloc, core, arena, line),
+        Stage::Running(opened) => answer_request(alloc, opened, arena, line),
     }
 }
 
 fn answer_request(
     alloc: Global,
-    core: &mut Core,
+    opened: &mut Opened,
     arena: &mut Bump,
     line: &[u8],
 ) -> Result<Answer, NoMemory>
-    ensures { IfOk result (λ answer. AnswersAt (running core.old) line.now (running core.new) (bytes_of answer)) }
+    ensures { IfOk result (λ answer. AnswersAt (running opened.old.tokens opened.old.core) line.now (running opened.new.tokens opened.new.core) (bytes_of answer)) }
 {
-    match read_request(alloc, line, Form::Script) {
-        Ok(request) => {
-            let stamp = request.stamp;
-            let reply = core.step(arena, stamp.now, stamp.session, request.event);
+    match read_asked(alloc, &opened.tokens, line, Form::Script) {
+        Ok(asked) => answer_asked(alloc, &mut opened.core, arena, asked),
+        Err(fault) => say_line_fault(alloc, &fault),
+    }
+}
+
+// Answers what is asked by a step.
+fn answer_asked(
+    alloc: Global,
+    core: &mut Core,
+    arena: &mut Bump,
+    asked: Asked,
+) -> Result<Answer, NoMemory>
+    requires { asked.stamp.now ≤ MAX_MOMENT }
+    ensures { IfOk result (λ answer. (said : List ℕ) × IsAnsweredBy core.old (Ok asked) said core.new × (bytes_of answer ≡ as_line said)) }
+{
+    let stamp = asked.stamp;
+    match asked.event {
+        Event::Get(path) => answer_read(alloc, core, arena, stamp, &path),
+        event => {
+            let reply = core.step(arena, stamp.now, stamp.session, event);
             say(alloc, &reply)
         }
-        Err(fault) => say_fault(alloc, fault),
+    }
+}
+
+// Answers a read: the tree that it is answered by is written from where it stands.
+fn answer_read(
+    alloc: Global,
+    core: &Core,
+    arena: &mut Bump,
+    stamp: Stamp,
+    path: &Path,
+) -> Result<Answer, NoMemory>
+    requires { stamp.now ≤ MAX_MOMENT }
+    ensures { IfOk result (λ answer. (said : List ℕ) × IsAnsweredBy core.now (Ok (record { stamp = stamp; event = Event.Get path.now })) said core.now × (bytes_of answer ≡ as_line said)) }
+{
+    match core.read(arena, stamp.now, stamp.session, path) {
+        Ok(found) => written(write_value(alloc, found)?),
+        Err(refusal) => say_refusal(alloc, &refusal),
     }
 }
 
@@ -99,9 +135,9 @@ fn open(alloc: Global, line: &[u8]) -> Result<(Stage, Answer), NoMemory>
     ensures { IfOk result (λ r. AnswersAt unopened line.now (phase_of r.0) (bytes_of r.1)) }
 {
     match read_header(alloc, line) {
-        Ok(core) => {
-            let answer = written(write_accepted(alloc, core.rules().count())?)?;
-            Ok((Stage::Running(core), answer))
+        Ok(opened) => {
+            let answer = written(write_accepted(alloc, opened.core.rules().count())?)?;
+            Ok((Stage::Running(opened), answer))
         }
         Err(fault) => Ok((Stage::Refused, say_header_fault(alloc, &fault)?)),
     }
@@ -114,11 +150,11 @@ fn say_header_fault(alloc: Global, fault: &HeaderFault) -> Result<Answer, NoMemo
         HeaderFault::Line(fault) => say_fault(alloc, *fault),
         HeaderFault::Rules(fault) => say_rules_fault(alloc, fault),
         HeaderFault::Data(fault) => say_fault(alloc, *fault),
+        HeaderFault::BadTokens => written(write_bad_tokens(alloc)?),
         HeaderFault::TreeFull => say(alloc, &Reply::Refused(Refusal::TreeFull)),
     }
 }
 
-#[tactic(auto, using(crate::proofs::Fixed::no_memory_of_reply))]
 fn say(alloc: Global, reply: &Reply) -> Result<Answer, NoMemory>
     ensures line { IfOk result (λ answer. bytes_of answer ≡ as_line (text reply.now)) }
     ensures done { reply.now ≡ replies.Done → IsOk result }
@@ -126,8 +162,19 @@ fn say(alloc: Global, reply: &Reply) -> Result<Answer, NoMemory>
 {
     match reply {
         Reply::Done => Ok(Answer::Done),
-        Reply::Refused(Refusal::NoMemory) => Ok(Answer::NoMemory),
-        _ => written(write_reply(alloc, reply)?),
+        Reply::Value(_) => written(write_reply(alloc, reply)?),
+        Reply::Refused(refusal) => say_refusal(alloc, refusal),
+    }
+}
+
+#[tactic(auto, using(crate::proofs::Fixed::no_memory_of_reply))]
+fn say_refusal(alloc: Global, refusal: &Refusal) -> Result<Answer, NoMemory>
+    ensures line { IfOk result (λ answer. bytes_of answer ≡ as_line (text (replies.Refused refusal.now))) }
+    ensures no_memory { refusal.now ≡ refusals.NoMemory → IsOk result }
+{
+    match refusal {
+        Refusal::NoMemory => Ok(Answer::NoMemory),
+        _ => written(write_refusal(alloc, refusal)?),
     }
 }
 
@@ -138,6 +185,16 @@ fn say_fault(alloc: Global, fault: MessageFault) -> Result<Answer, NoMemory>
     match fault {
         MessageFault::NoMemory => Ok(Answer::NoMemory),
         _ => written(write_fault(alloc, fault)?),
+    }
+}
+
+fn say_line_fault(alloc: Global, fault: &LineFault) -> Result<Answer, NoMemory>
+    ensures line { IfOk result (λ answer. bytes_of answer ≡ as_line (line_fault_text fault.now)) }
+{
+    match fault {
+        LineFault::Message(fault) => say_fault(alloc, *fault),
+        LineFault::Rules(fault) => say_rules_fault(alloc, fault),
+        LineFault::UnknownToken => written(write_line_fault(alloc, fault)?),
     }
 }
 

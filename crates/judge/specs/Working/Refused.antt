@@ -1,7 +1,7 @@
 -- A walk that asks who may: which location is refused, and which rules it met on the way.
 use Rattle.std.specs.Prelude.{◌≡◌, ℕ, ◌||◌, ◌++◌, List, [], ◌∷◌, map, drop, reverse, find, Bool, false, not, Option, Some, None, option_map}
-use Rattle.std.specs.List.{cons_option}
-use Rattle.tree_model.specs.Path.{Path}
+use Rattle.std.specs.List.{cons_option, list_any}
+use Rattle.tree_model.specs.Path.{Path, prefixes}
 use Rattle.judge.specs.Tests.{Answer, holds, failing, name_of}
 use Rattle.judge.specs.declared.verdict.Named.{Named}
 use Rattle.judge.specs.declared.grant.Seen.{Seen}
@@ -10,6 +10,10 @@ use Rattle.judge.specs.declared.grant.Denial.{Denial}
 -- what the rules of one kind answer, path by path
 abbrev pub Ask : Type 0
 Ask = Path → Option Answer
+
+-- a rule holds at the path or at a prefix of it
+abbrev pub granted : Ask → Path → Bool
+granted ask path = list_any (λ place. holds (ask place)) (prefixes path)
 
 -- a rule holds properly below `from`, on the way along the rest
 abbrev pub granted_below : Ask → Path → Path → Bool

@@ -3,8 +3,9 @@ use Rattle.std.specs.Prelude.{◌≡◌, ◌≢◌, ℕ, ◌≤◌, ◌^◌, ◌
 use Rattle.std.specs.Io.KnownBytes.{Appends, IsAtEnd}
 use Rattle.sessions.specs.declared.desk.Stop.{Stop}
 use Rattle.sessions.specs.declared.desk.Stop.TheVariants as stops
-use Rattle.sessions.specs.declared.header.HeaderFault.{HeaderFault}
-use Rattle.sessions.specs.declared.message.MessageFault.TheVariants as message_faults
+use Rattle.messages.specs.declared.header.HeaderFault.{HeaderFault}
+use Rattle.messages.specs.declared.header.Opened.{Opened}
+use Rattle.messages.specs.declared.message.MessageFault.TheVariants as message_faults
 use Rattle.rtdb_core.specs.declared.reply.Reply.TheVariants as replies
 use Rattle.sessions.specs.declared.respond.Answer.{Answer}
 use Rattle.sessions.specs.declared.respond.Answer.TheVariants as answers
@@ -13,14 +14,14 @@ use Rattle.sessions.specs.declared.respond.Stage.TheVariants as stages
 use Rattle.sessions.specs.declared.script.Script.{Script}
 use Rattle.sessions.specs.declared.script.ScriptEnd.{ScriptEnd}
 use Rattle.sessions.specs.declared.script.ScriptEnd.TheVariants as ends
-use Rattle.sessions.specs.Header.{Opens}
+use Rattle.messages.specs.Header.{Opens}
 use Rattle.sessions.specs.Ends.{SourceTells}
 use Rattle.sessions.specs.Lines.{cut, non_blank}
 use Rattle.sessions.specs.Working.Parts.{IsPlain, KeepsFront}
 use Rattle.sessions.specs.Said.{Phase, unopened, refused, running, IsWritten, Continues, IsAnswered, as_line}
 use Rattle.sessions.specs.Working.Sent.{SinkTells, Passes, Breaks}
 use Rattle.rtdb_core.specs.State.{State}
-use Rattle.sessions.specs.AnswerText.{text, fault_text}
+use Rattle.messages.specs.AnswerText.{text, fault_text}
 
 -- ---- phases
 
@@ -28,7 +29,7 @@ use Rattle.sessions.specs.AnswerText.{text, fault_text}
 abbrev pub phase_of : Stage → Phase
 phase_of stages.Unopened = unopened
 phase_of stages.Refused = refused
-phase_of (stages.Running state) = running state
+phase_of (stages.Running opened) = running opened.tokens opened.core
 
 -- ---- one line
 
@@ -40,8 +41,8 @@ bytes_of (answers.Written bytes) = bytes.items
 
 -- at a phase a line that is not blank is answered so, and leads to a phase
 abbrev pub AnswersAt : Phase → List ℕ → Phase → List ℕ → Type 0
-AnswersAt unopened line phase out = (opened : Result State HeaderFault) × Opens line opened × Continues opened [] phase out
-AnswersAt (running old) line phase out = (said : List ℕ) × (new : State) × IsAnswered old line said new × (phase ≡ running new) × (out ≡ as_line said)
+AnswersAt unopened line phase out = (opened : Result Opened HeaderFault) × Opens line opened × Continues opened [] phase out
+AnswersAt (running tokens old) line phase out = (said : List ℕ) × (new : State) × IsAnswered tokens old line said new × (phase ≡ running tokens new) × (out ≡ as_line said)
 -- after a refused header no line is answered
 AnswersAt refused line phase out = ⊥
 

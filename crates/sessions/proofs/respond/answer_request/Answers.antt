@@ -1,9 +1,9 @@
-use Rattle.sessions.proofs.Answering.{IfOk-AnswersAt-reply, IfOk-AnswersAt-fault}
+use Rattle.std.proofs.Common.{Ok}
+use Rattle.sessions.proofs.Answering.{IfOk-AnswersAt, IfOk-AnswersAt-fault}
 use Rattle.sessions.proofs.respond.answer_request.Goals as goal
 
 pub returns-in-Ok : goal.returns-in-Ok
-returns-in-Ok c =
-    IfOk-AnswersAt-reply _ _ _ _ c.in-Ok.request c.step-reply.result c.in-Ok.ensures.asked c.step-reply.ensures c.say.ensures.line
+returns-in-Ok c = IfOk-AnswersAt _ _ _ _ _ (Ok c.in-Ok.asked) c.in-Ok.ensures.asked c.answer_asked.ensures
 
 pub returns-in-Err : goal.returns-in-Err
-returns-in-Err c = IfOk-AnswersAt-fault _ _ _ c.in-Err.fault c.in-Err.ensures.asked c.say_fault.ensures.line
+returns-in-Err c = IfOk-AnswersAt-fault _ _ _ _ c.in-Err.fault c.in-Err.ensures.asked c.say_line_fault.ensures.line

@@ -1,7 +1,7 @@
 use Rattle.std.proofs.Common.{◌∙◌, ℕ, List, length, ap}
 use Rattle.rules_reader.specs.Book.{Book, rules}
 use Rattle.sessions.specs.Said.{as_line}
-use Rattle.sessions.specs.AnswerText.{accepted_text}
+use Rattle.messages.specs.AnswerText.{accepted_text}
 use Rattle.sessions.proofs.Answering.{AnswersAt-accepted}
 use Rattle.sessions.proofs.respond.open.Goals as goal
 
@@ -9,4 +9,4 @@ pub returns-in_ok-answer-in-Ok : goal.returns-in_ok-answer-in-Ok
 returns-in_ok-answer-in-Ok c =
     let count = ap (λ (n : ℕ). accepted_text n) (c.count.ensures ∙ ap (λ (book : Book). length (rules book)) c.rules.ensures.rules) in
     let said = c.in_ok-write_accepted-in-Ok.ensures ∙ count in
-    AnswersAt-accepted c.args.line.now c.in-Ok.core _ c.in-Ok.ensures (c.in_ok-answer-in-Ok.ensures ∙ ap (λ (t : List ℕ). as_line t) said)
+    AnswersAt-accepted c.args.line.now c.in-Ok.opened _ c.in-Ok.ensures (c.in_ok-answer-in-Ok.ensures ∙ ap (λ (t : List ℕ). as_line t) said)

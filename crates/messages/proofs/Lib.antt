@@ -1,0 +1,5 @@
+pub mod Texts
+pub mod Messages
+pub mod Headers
+pub mod Members
+pub mod Plain

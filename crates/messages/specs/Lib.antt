@@ -1,0 +1,5 @@
+pub mod Message
+pub mod Ask
+pub mod AnswerText
+pub mod Header
+pub mod Working

@@ -1,0 +1,202 @@
+-- What a message asks, or its first fault.
+use Rattle.std.specs.Prelude.{◌≡◌, ℕ, ◌+◌, ◌⊎◌, List, [], ◌∷◌, ◌++◌, length, Bool, nat_le, if◌then◌else◌, codes, Option, Some, None, option_map, option_and_then, Result, Ok, Err, ⊤, ◌≤◌}
+use Rattle.std.specs.List.{list_all, list_any}
+use Rattle.std.specs.Str.{is_utf8, bytes_eq}
+use Rattle.serde_json.specs.Data.{Data, null, boolean, number, string, array, object, Members, no_members, member}
+use Rattle.serde_json.specs.Find.{get, as_str, as_number, as_u64, as_object}
+use Rattle.serde_json.specs.Read.{read}
+use Rattle.tree_model.specs.declared.limits.TheConstants.{MAX_DEPTH}
+use Rattle.tree_model.specs.Key.{is_key}
+use Rattle.tree_model.specs.Path.{Path}
+use Rattle.tree_model.specs.PathMap.{depth}
+use Rattle.tree_model.specs.Tree.{Tree, null as no_tree}
+use Rattle.tree_model.specs.Write.{Write}
+use Rattle.json_tree.specs.Json.{is_lawful, of_json}
+use Rattle.path_capture.specs.Path.{segments}
+use Rattle.evaluator.specs.declared.env.TheConstants.{MAX_MOMENT}
+use Rattle.messages.specs.declared.limits.TheConstants.{MAX_MESSAGE_BYTES}
+use Rattle.tokens.specs.Tokens.{names_of, has_only, text_at, Tokens, tokens_of}
+use Rattle.rtdb_core.specs.declared.event.Event.TheVariants.{Open, Close, SignOut, Get, Set, Remove, Update}
+use Rattle.messages.specs.declared.message.Form.{Form}
+use Rattle.messages.specs.declared.message.Form.TheVariants.{Script, Socket}
+use Rattle.messages.specs.declared.message.Stamp.{Stamp}
+use Rattle.messages.specs.declared.message.Verb.{Verb}
+use Rattle.messages.specs.declared.message.Verb.TheVariants as verbs
+use Rattle.messages.specs.declared.message.Wanted.{Wanted}
+use Rattle.messages.specs.declared.message.Wanted.TheVariants.{Step, SignIn, Deploy}
+use Rattle.messages.specs.declared.message.Request.{Request}
+use Rattle.messages.specs.declared.message.MessageFault.{MessageFault}
+use Rattle.messages.specs.declared.message.MessageFault.TheVariants.{TooLarge, BadJson, BadRequest, BadPath, BadValue, TooDeep, NoMemory}
+
+-- ---- one thing after another, up to the first fault
+
+abbrev pub or_fault : {X : Type 0} → MessageFault → Option X → Result X MessageFault
+or_fault fault None = Err fault
+or_fault fault (Some x) = Ok x
+
+abbrev pub unless_fault : {X Y : Type 0} → Result X MessageFault → (X → Result Y MessageFault) → Result Y MessageFault
+unless_fault (Ok x) next = next x
+unless_fault (Err fault) next = Err fault
+
+-- what a function answered, seen by `see`, is what these words say, or it wanted memory
+abbrev pub Tells : {X Y : Type 0} → (X → Y) → Result X MessageFault → Result Y MessageFault → Type 0
+Tells see (Ok x) said = said ≡ Ok (see x)
+Tells see (Err fault) said = (fault ≡ NoMemory) ⊎ (said ≡ Err fault)
+
+-- ---- JSON
+
+-- the value of a message: of at most 1,048,576 bytes, and JSON. (This project's profile; RFC 8259.)
+unfoldable pub value_of : List ℕ → Result Data MessageFault
+value_of bytes = if nat_le (length bytes) MAX_MESSAGE_BYTES then (if is_utf8 bytes then or_fault BadJson (read bytes) else Err BadJson) else Err TooLarge
+
+-- a whole number from 0 to 2^53 - 1
+abbrev pub whole_at : List ℕ → Data → Option ℕ
+whole_at name d = option_and_then (λ n. if nat_le n MAX_MOMENT then Some n else None) (option_and_then as_u64 (option_and_then as_number (get name d)))
+
+-- ---- requests. (This project's profile.)
+
+-- the verb of a name that every form has
+abbrev pub verb_named : List ℕ → Option Verb
+verb_named name =
+    if bytes_eq name (codes "signin") then Some verbs.SignIn
+    else if bytes_eq name (codes "signout") then Some verbs.SignOut
+    else if bytes_eq name (codes "get") then Some verbs.Get
+    else if bytes_eq name (codes "set") then Some verbs.Set
+    else if bytes_eq name (codes "remove") then Some verbs.Remove
+    else if bytes_eq name (codes "update") then Some verbs.Update
+    else if bytes_eq name (codes "deploy") then Some verbs.Deploy
+    else None
+
+-- the verb of a name; a socket opens and closes no session
+abbrev pub verb_of : Form → List ℕ → Option Verb
+verb_of Script name =
+    if bytes_eq name (codes "open") then Some verbs.Open
+    else if bytes_eq name (codes "close") then Some verbs.Close
+    else verb_named name
+verb_of (Socket stamp) name = verb_named name
+
+-- what a form has in each request
+abbrev pub form_members : Form → List (List ℕ)
+form_members Script = codes "do" ∷ codes "now" ∷ codes "s" ∷ []
+form_members (Socket stamp) = codes "do" ∷ []
+
+-- what a verb has beside that
+abbrev pub verb_members : Verb → List (List ℕ)
+verb_members verbs.Open = []
+verb_members verbs.Close = []
+verb_members verbs.SignIn = codes "token" ∷ []
+verb_members verbs.SignOut = []
+verb_members verbs.Get = codes "path" ∷ []
+verb_members verbs.Set = codes "path" ∷ codes "value" ∷ []
+verb_members verbs.Remove = codes "path" ∷ []
+verb_members verbs.Update = codes "path" ∷ codes "values" ∷ []
+verb_members verbs.Deploy = codes "rules" ∷ []
+
+-- the moment and the session: a line of a script says both, and of a socket both are known
+abbrev pub stamp_of : Form → Data → Option Stamp
+stamp_of Script d = option_and_then (λ now. option_and_then (λ session. Some (record { now = now; session = session })) (whole_at (codes "s") d)) (whole_at (codes "now") d)
+stamp_of (Socket stamp) d = Some stamp
+
+-- the moment that is given with the form, if one is, is at most 2^53 - 1
+abbrev pub IsWithin : Form → Type 0
+IsWithin Script = ⊤
+IsWithin (Socket stamp) = stamp.now ≤ MAX_MOMENT
+
+-- the path of a text: its keys are lawful, and at most 32
+abbrev pub path_of : List ℕ → Result Path MessageFault
+path_of text = if list_all is_key (segments text) then (if nat_le (length (segments text)) MAX_DEPTH then Ok (segments text) else Err TooDeep) else Err BadPath
+
+-- the tree of a value: its keys and primitives are lawful, and none stands over 32 deep
+abbrev pub tree_of_value : Data → Result Tree MessageFault
+tree_of_value d = if is_lawful d then (if nat_le (depth (of_json d)) MAX_DEPTH then Ok (of_json d) else Err TooDeep) else Err BadValue
+
+-- the write of a tree at a path: together they are at most 32 deep
+abbrev pub write_at : Path → Tree → Result Write MessageFault
+write_at path tree = if nat_le (length path + depth tree) MAX_DEPTH then Ok (path, tree) else Err TooDeep
+
+-- the path of a text below another path: both together have at most 32 keys
+abbrev pub path_below : Path → List ℕ → Result Path MessageFault
+path_below path name = unless_fault (path_of name) (λ below. if nat_le (length path + length below) MAX_DEPTH then Ok (path ++ below) else Err TooDeep)
+
+-- the write of one member of an update: its name is a path below that of the update, and the empty text is that path itself
+abbrev pub write_below : Path → List ℕ → Data → Result Write MessageFault
+write_below path name d =
+    unless_fault (path_below path name) (λ at.
+    unless_fault (tree_of_value d) (λ tree. write_at at tree))
+
+-- the writes of an update, one member after another, in the byte order of their names, in which they are read
+abbrev pub writes_below : Path → Members → Result (List Write) MessageFault
+writes_below path no_members = Ok []
+writes_below path (member name d ms) =
+    unless_fault (write_below path name d) (λ write.
+    unless_fault (writes_below path ms) (λ writes. Ok (write ∷ writes)))
+
+-- the path of the member `path`
+abbrev pub path_in : Data → Result Path MessageFault
+path_in d = unless_fault (or_fault BadRequest (text_at (codes "path") d)) (λ text. path_of text)
+
+-- what is wanted by a verb: first the members, then the path, the value, and the write; of an update these of each member in turn
+abbrev pub wanted_by : Verb → Data → Result Wanted MessageFault
+wanted_by verbs.Open d = Ok (Step Open)
+wanted_by verbs.Close d = Ok (Step Close)
+wanted_by verbs.SignIn d = unless_fault (or_fault BadRequest (text_at (codes "token") d)) (λ secret. Ok (SignIn secret))
+wanted_by verbs.SignOut d = Ok (Step SignOut)
+wanted_by verbs.Get d = unless_fault (path_in d) (λ path. Ok (Step (Get path)))
+wanted_by verbs.Set d =
+    unless_fault (or_fault BadRequest (text_at (codes "path") d)) (λ text.
+    unless_fault (or_fault BadRequest (get (codes "value") d)) (λ value.
+    unless_fault (path_of text) (λ path.
+    unless_fault (tree_of_value value) (λ tree.
+    unless_fault (write_at path tree) (λ write. Ok (Step (Set write)))))))
+wanted_by verbs.Remove d = unless_fault (path_in d) (λ path. Ok (Step (Remove path)))
+wanted_by verbs.Update d =
+    unless_fault (or_fault BadRequest (text_at (codes "path") d)) (λ text.
+    unless_fault (or_fault BadRequest (option_and_then as_object (get (codes "values") d))) (λ members.
+    unless_fault (path_of text) (λ path.
+    unless_fault (writes_below path members) (λ writes. Ok (Step (Update writes))))))
+wanted_by verbs.Deploy d = unless_fault (or_fault BadRequest (text_at (codes "rules") d)) (λ rules. Ok (Deploy rules))
+
+-- the verb that `do` names
+abbrev pub verb_in : Form → Data → Option Verb
+verb_in form d = option_and_then (verb_of form) (text_at (codes "do") d)
+
+abbrev pub request_of : Form → Data → Result Request MessageFault
+request_of form d =
+    unless_fault (or_fault BadRequest (verb_in form d)) (λ verb.
+    if has_only (form_members form ++ verb_members verb) d
+    then unless_fault (or_fault BadRequest (stamp_of form d)) (λ stamp.
+    unless_fault (wanted_by verb d) (λ wanted. Ok (record { stamp = stamp; wanted = wanted })))
+    else Err BadRequest)
+
+-- what a message asks, or its first fault
+unfoldable pub asks : Form → List ℕ → Result Request MessageFault
+asks form bytes = unless_fault (value_of bytes) (request_of form)
+
+-- ---- headers. (This project's profile.)
+
+-- what a header has: the text of a rules file, and perhaps the values that the opening tree and the tokens are
+pub record Header : Type 0 where
+  pub rules : List ℕ
+  pub opening : Option Data
+  pub tokens : Option Data
+
+-- an object with the member `rules`, a text, perhaps the members `data` and `tokens`, and no other
+abbrev pub header_of : Data → Option Header
+header_of d =
+    if has_only (codes "rules" ∷ codes "data" ∷ codes "tokens" ∷ []) d
+    then option_map (λ rules. record { rules = rules; opening = get (codes "data") d; tokens = get (codes "tokens") d }) (text_at (codes "rules") d)
+    else None
+
+-- what the header of a line has, or its first fault
+unfoldable pub header_in : List ℕ → Result Header MessageFault
+header_in bytes = unless_fault (value_of bytes) (λ d. or_fault BadRequest (header_of d))
+
+-- the opening tree, or its fault: null where there is none
+abbrev pub opening_tree : Option Data → Result Tree MessageFault
+opening_tree None = Ok no_tree
+opening_tree (Some d) = tree_of_value d
+
+-- the tokens, if the value is such: nobody can sign in where there is none
+abbrev pub opening_tokens : Option Data → Option Tokens
+opening_tokens None = Some []
+opening_tokens (Some d) = tokens_of d

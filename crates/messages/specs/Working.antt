@@ -1,0 +1,4 @@
+-- Words of private contracts. No public clause stands on them.
+pub mod Faults
+pub mod Opening
+pub mod Asking

@@ -1,0 +1,28 @@
+-- What is opened by the parts of a header.
+use Rattle.std.specs.Prelude.{◌≡◌, ℕ, ◌≤◌, ◌<◌, ◌⊎◌, Option, Some, None, option_map, Result, Ok, Err}
+use Rattle.serde_json.specs.Data.{Data as AnyData}
+use Rattle.serde_json.specs.View.{view}
+use Rattle.tree_model.specs.Tree.{Tree, count}
+use Rattle.rules_reader.specs.Book.{Book}
+use Rattle.rtdb_core.specs.declared.limits.TheConstants.{MAX_LOCATIONS}
+use Rattle.rtdb_core.specs.State.{opening}
+use Rattle.messages.specs.declared.message.MessageFault.TheVariants.{NoMemory}
+use Rattle.messages.specs.declared.header.HeaderFault.{HeaderFault}
+use Rattle.messages.specs.declared.header.HeaderFault.TheVariants.{Line, Rules, Data, BadTokens, TreeFull}
+use Rattle.messages.specs.declared.header.Header as code
+use Rattle.messages.specs.declared.header.Opened.{Opened}
+use Rattle.tokens.specs.Tokens.{Tokens}
+use Rattle.messages.specs.Message.{Header, opening_tree, opening_tokens}
+
+-- what the code has read of a header
+abbrev pub header_seen : code.Header → Header
+header_seen h = record { rules = h.rules.now; opening = option_map (λ value. view value.now) h.opening; tokens = option_map (λ value. view value.now) h.tokens }
+
+-- what these rules open with these values, if they are a tree and tokens, and the tree not too large
+abbrev pub OpensBy : Book → Option AnyData → Option AnyData → Result Opened HeaderFault → Type 0
+OpensBy book value named (Ok opened) = (tree : Tree) × (opening_tree value ≡ Ok tree) × (opening_tokens named ≡ Some opened.tokens) × (count tree ≤ MAX_LOCATIONS) × (opened.core ≡ opening book tree)
+OpensBy book value named (Err (Data fault)) = (fault ≡ NoMemory) ⊎ (opening_tree value ≡ Err fault)
+OpensBy book value named (Err BadTokens) = (tree : Tree) × (opening_tree value ≡ Ok tree) × (opening_tokens named ≡ None)
+OpensBy book value named (Err TreeFull) = (tree : Tree) × (tokens : Tokens) × (opening_tree value ≡ Ok tree) × (opening_tokens named ≡ Some tokens) × (MAX_LOCATIONS < count tree)
+OpensBy book value named (Err (Line fault)) = fault ≡ NoMemory
+OpensBy book value named (Err (Rules fault)) = ⊥

@@ -1,0 +1,321 @@
+//! Answers: the texts of replies and faults, compact JSON with the members in the order of their
+//! names, and no line feed.
+ghost use Rattle.std.specs.Prelude.{◌≡◌, ◌++◌, codes, option_map, IfOk};
+ghost use Rattle.serde_json.specs.Data.{string, object, member, no_members};
+ghost use Rattle.serde_json.specs.View.{view, members_view};
+ghost use Rattle.messages.specs.AnswerText.{text, fault_text, rules_fault_text, bad_tokens_text, unknown_token_text, line_fault_text, accepted_text, message_code, refusal_members, plain_data, placed_data, named_data, rules_data, read_denied_data, write_denied_data, validate_denied_data, why_text, accepted_data, refusal_data, rule_data, byte_data, what_data, rule_fault_data, rules_fault_data};
+
+use crate::ask::LineFault;
+use crate::code::Code;
+use crate::message::MessageFault;
+use json_tree::{NoMemory, Node, write_json};
+use path_capture::{Path, Pattern};
+use rtdb_core::{Named, NamedRules, Refusal, Reply, Why};
+use rules_reader::{RuleFault, RuleName, RulesFault};
+use serde_json::{Map, Value, json};
+use std::alloc::Global;
+
+/// The text of a reply, in one pass over what it has.
+pub fn write_reply(alloc: Global, reply: &Reply) -> Result<Vec<u8>, NoMemory>
+    ensures { IfOk result (λ bytes. bytes.items ≡ text reply.now) }
+{
+    match reply {
+        Reply::Done => done(alloc),
+        Reply::Value(tree) => write_value(alloc, tree.as_ref()),
+        Reply::Refused(refusal) => write_refusal(alloc, refusal),
+    }
+}
+
+/// The text of a fault of a message.
+#[tactic(auto, unfolding(crate::specs::AnswerText::fault_text), using(crate::proofs::Texts::text_of_view))]
+pub fn write_fault(alloc: Global, fault: MessageFault) -> Result<Vec<u8>, NoMemory>
+    ensures { IfOk result (λ bytes. bytes.items ≡ fault_text fault) }
+{
+    let value = plain(alloc, code_of_message(fault))?;
+    Ok(value.to_vec(alloc)?)
+}
+
+/// The text of a fault of a rules file.
+#[tactic(auto, unfolding(crate::specs::AnswerText::rules_fault_text), using(crate::proofs::Texts::text_of_view, crate::proofs::Texts::rules_fault_is_no_float))]
+pub fn write_rules_fault(alloc: Global, fault: &RulesFault) -> Result<Vec<u8>, NoMemory>
+    ensures { IfOk result (λ bytes. bytes.items ≡ rules_fault_text fault.now) }
+{
+    let value = value_of_rules_fault(alloc, fault)?;
+    Ok(value.to_vec(alloc)?)
+}
+
+/// The text for tokens that are none.
+#[tactic(auto, unfolding(crate::specs::AnswerText::bad_tokens_text), using(crate::proofs::Texts::text_of_view))]
+pub fn write_bad_tokens(alloc: Global) -> Result<Vec<u8>, NoMemory>
+    ensures { IfOk result (λ bytes. bytes.items ≡ bad_tokens_text) }
+{
+    let value = plain(alloc, Code::BadTokens)?;
+    Ok(value.to_vec(alloc)?)
+}
+
+#[tactic(auto, unfolding(crate::specs::AnswerText::unknown_token_text), using(crate::proofs::Texts::text_of_view))]
+fn write_unknown_token(alloc: Global) -> Result<Vec<u8>, NoMemory>
+    ensures { IfOk result (λ bytes. bytes.items ≡ unknown_token_text) }
+{
+    let value = plain(alloc, Code::UnknownToken)?;
+    Ok(value.to_vec(alloc)?)
+}
+
+/// The text for a message that asks nothing of the database.
+pub fn write_line_fault(alloc: Global, fault: &LineFault) -> Result<Vec<u8>, NoMemory>
+    ensures { IfOk result (λ bytes. bytes.items ≡ line_fault_text fault.now) }
+{
+    match fault {
+        LineFault::Message(fault) => write_fault(alloc, *fault),
+        LineFault::UnknownToken => write_unknown_token(alloc),
+        LineFault::Rules(fault) => write_rules_fault(alloc, fault),
+    }
+}
+
+/// The text of the answer to a header that is accepted, with so many rules.
+#[tactic(auto, unfolding(crate::specs::AnswerText::accepted_text), using(crate::proofs::Texts::text_of_view))]
+pub fn write_accepted(alloc: Global, count: usize) -> Result<Vec<u8>, NoMemory>
+    ensures { IfOk result (λ bytes. bytes.items ≡ accepted_text count) }
+{
+    let value = accepted(alloc, count as u64)?;
+    Ok(value.to_vec(alloc)?)
+}
+
+fn accepted(alloc: Global, count: u64) -> Result<Value, NoMemory>
+    ensures { IfOk result (λ value. view value ≡ accepted_data count) }
+{
+    Ok(json!(in alloc; {"ok": true, "rules": count})?)
+}
+
+fn code_of_message(fault: MessageFault) -> Code
+    ensures { result ≡ message_code fault }
+{
+    match fault {
+        MessageFault::TooLarge => Code::TooLarge,
+        MessageFault::BadJson => Code::BadJson,
+        MessageFault::BadRequest => Code::BadRequest,
+        MessageFault::BadPath => Code::BadPath,
+        MessageFault::BadValue => Code::BadValue,
+        MessageFault::TooDeep => Code::TooDeep,
+        MessageFault::NoMemory => Code::NoMemory,
+    }
+}
+
+#[tactic(auto, using(crate::proofs::Texts::done_text))]
+fn done(alloc: Global) -> Result<Vec<u8>, NoMemory>
+    ensures { IfOk result (λ bytes. bytes.items ≡ text Reply.Done) }
+{
+    Ok(Vec::from_slice(alloc, b"{\"ok\":true}")?)
+}
+
+/// The text of the value that stands in a tree, in one pass over it: what a reply that has this tree
+/// says, with no copy of it.
+pub fn write_value(alloc: Global, tree: Option<&Node>) -> Result<Vec<u8>, NoMemory>
+    ensures { IfOk result (λ bytes. bytes.items ≡ text (Reply.Value (option_map (λ node. node.now) tree.entry))) }
+{
+    let front = Vec::from_slice(alloc, b"{\"ok\":true,\"value\":")?;
+    let mut bytes = write_json(front, tree)?;
+    bytes.push(b'}')?;
+    Ok(bytes)
+}
+
+/// The text of a refusal.
+#[tactic(auto, unfolding(crate::specs::AnswerText::text), using(crate::proofs::Texts::text_of_view, crate::proofs::Texts::refusal_is_no_float))]
+pub fn write_refusal(alloc: Global, refusal: &Refusal) -> Result<Vec<u8>, NoMemory>
+    ensures { IfOk result (λ bytes. bytes.items ≡ text (Reply.Refused refusal.now)) }
+{
+    let value = value_of_refusal(alloc, refusal)?;
+    Ok(value.to_vec(alloc)?)
+}
+
+fn value_of_refusal(alloc: Global, refusal: &Refusal) -> Result<Value, NoMemory>
+    ensures { IfOk result (λ value. view value ≡ refusal_data refusal.now) }
+{
+    match refusal {
+        Refusal::SessionOpen => plain(alloc, Code::SessionOpen),
+        Refusal::TooManySessions => plain(alloc, Code::TooManySessions),
+        Refusal::NoSession => plain(alloc, Code::NoSession),
+        Refusal::NotAdmin => plain(alloc, Code::NotAdmin),
+        Refusal::EmptyUpdate => plain(alloc, Code::EmptyUpdate),
+        Refusal::Overlap => plain(alloc, Code::Overlap),
+        Refusal::ReadDenied(named) => read_denied(alloc, named),
+        Refusal::WriteDenied(path, named) => write_denied(alloc, path, named),
+        Refusal::ValidateDenied(path, pattern, why) => validate_denied(alloc, path, pattern, *why),
+        Refusal::TreeFull => plain(alloc, Code::TreeFull),
+        Refusal::NoMemory => plain(alloc, Code::NoMemory),
+    }
+}
+
+fn value_of_rules_fault(alloc: Global, fault: &RulesFault) -> Result<Value, NoMemory>
+    ensures { IfOk result (λ value. view value ≡ rules_fault_data fault.now) }
+{
+    match fault {
+        RulesFault::BadRulesJson => plain(alloc, Code::BadRulesJson),
+        RulesFault::BadRulesShape(pattern) => {
+            let place = pattern.print()?;
+            placed(alloc, Code::BadRulesShape, place.as_str())
+        }
+        RulesFault::TooManyRules => plain(alloc, Code::TooManyRules),
+        RulesFault::BadRule(rule, fault) => value_of_rule_fault(alloc, rule, fault),
+        RulesFault::NoMemory => plain(alloc, Code::NoMemory),
+    }
+}
+
+fn value_of_rule_fault(alloc: Global, rule: &RuleName, fault: &RuleFault) -> Result<Value, NoMemory>
+    ensures { IfOk result (λ value. view value ≡ rule_fault_data rule.now fault.now) }
+{
+    match fault {
+        RuleFault::BadExpression { byte } => {
+            with_byte(alloc, rule, Code::BadExpression, *byte as u64)
+        }
+        RuleFault::NotInProfile(left_out) => {
+            with_name(alloc, rule, Code::NotInProfile, left_out.name())
+        }
+        RuleFault::TypeError => with_rule(alloc, rule, Code::TypeError),
+        RuleFault::UnknownName(name) => with_name(alloc, rule, Code::UnknownName, name.as_str()),
+    }
+}
+
+// A refusal for a rule.
+fn with_rule(alloc: Global, rule: &RuleName, code: Code) -> Result<Value, NoMemory>
+    ensures { IfOk result (λ value. view value ≡ rule_data rule.now code) }
+{
+    let at = rule.pattern.print()?;
+    Ok(json!(in alloc; {
+        "at": at.as_str(),
+        "code": code.number(),
+        "name": code.name(),
+        "ok": false,
+        "rule": rule.kind.name(),
+    })?)
+}
+
+// A refusal for a byte of a rule's text.
+fn with_byte(alloc: Global, rule: &RuleName, code: Code, byte: u64) -> Result<Value, NoMemory>
+    ensures { IfOk result (λ value. view value ≡ byte_data rule.now code byte) }
+{
+    let at = rule.pattern.print()?;
+    Ok(json!(in alloc; {
+        "at": at.as_str(),
+        "byte": byte,
+        "code": code.number(),
+        "name": code.name(),
+        "ok": false,
+        "rule": rule.kind.name(),
+    })?)
+}
+
+// A refusal for a name in a rule.
+fn with_name(alloc: Global, rule: &RuleName, code: Code, what: &str) -> Result<Value, NoMemory>
+    ensures { IfOk result (λ value. view value ≡ what_data rule.now code what.now) }
+{
+    let at = rule.pattern.print()?;
+    Ok(json!(in alloc; {
+        "at": at.as_str(),
+        "code": code.number(),
+        "name": code.name(),
+        "ok": false,
+        "rule": rule.kind.name(),
+        "what": what,
+    })?)
+}
+
+// A refusal with no further member.
+fn plain(alloc: Global, code: Code) -> Result<Value, NoMemory>
+    ensures { IfOk result (λ value. view value ≡ plain_data code) }
+{
+    Ok(json!(in alloc; {"code": code.number(), "name": code.name(), "ok": false})?)
+}
+
+// A refusal with a place.
+fn placed(alloc: Global, code: Code, place: &str) -> Result<Value, NoMemory>
+    ensures { IfOk result (λ value. view value ≡ placed_data code place.now) }
+{
+    Ok(json!(in alloc; {"at": place, "code": code.number(), "name": code.name(), "ok": false})?)
+}
+
+fn read_denied(alloc: Global, named: &NamedRules) -> Result<Value, NoMemory>
+    ensures { IfOk result (λ value. view value ≡ read_denied_data named.now) }
+{
+    let code = Code::ReadDenied;
+    let rules = values_of(alloc, named.as_slice())?;
+    Ok(json!(in alloc; {"code": code.number(), "name": code.name(), "ok": false, "rules": rules})?)
+}
+
+fn write_denied(alloc: Global, at: &Path, named: &NamedRules) -> Result<Value, NoMemory>
+    ensures { IfOk result (λ value. view value ≡ write_denied_data at.now named.now) }
+{
+    let place = at.print(alloc)?;
+    let rules = values_of(alloc, named.as_slice())?;
+    placed_with_rules(alloc, Code::WriteDenied, place.as_str(), rules)
+}
+
+fn validate_denied(alloc: Global, at: &Path, pattern: &Pattern, why: Why) -> Result<Value, NoMemory>
+    ensures { IfOk result (λ value. view value ≡ validate_denied_data at.now pattern.now why) }
+{
+    let code = Code::ValidateDenied;
+    let place = at.print(alloc)?;
+    let pattern = pattern.print()?;
+    Ok(json!(in alloc; {
+        "at": place.as_str(),
+        "code": code.number(),
+        "name": code.name(),
+        "ok": false,
+        "pattern": pattern.as_str(),
+        "why": why_text(why),
+    })?)
+}
+
+// A refusal with a place and rules.
+fn placed_with_rules(
+    alloc: Global,
+    code: Code,
+    place: &str,
+    rules: Value,
+) -> Result<Value, NoMemory>
+    ensures { IfOk result (λ value. view value ≡ object (member (codes "at") (string place.now) (refusal_members code (member (codes "rules") (view rules) no_members)))) }
+{
+    let mut members = members_of(alloc, code)?;
+    let place = Value::try_from_str(alloc, place)?;
+    serde_json::put(&mut members, alloc, "at", place)?;
+    serde_json::put(&mut members, alloc, "rules", rules)?;
+    Ok(Value::Object(members))
+}
+
+// What every refusal has.
+fn members_of(alloc: Global, code: Code) -> Result<Map<String, Value>, NoMemory>
+    ensures { IfOk result (λ members. members_view members.entries ≡ refusal_members code no_members) }
+{
+    let mut members = Map::new(alloc);
+    let name = Value::try_from_str(alloc, code.name())?;
+    serde_json::put(&mut members, alloc, "code", Value::from(code.number()))?;
+    serde_json::put(&mut members, alloc, "name", name)?;
+    serde_json::put(&mut members, alloc, "ok", Value::Bool(false))?;
+    Ok(members)
+}
+
+fn values_of(alloc: Global, named: &[Named]) -> Result<Value, NoMemory>
+    ensures { IfOk result (λ value. view value ≡ rules_data named.now) }
+{
+    let mut values = Vec::with_capacity(alloc, named.len())?;
+    for rule in named {
+        values.push(value_of_named(alloc, rule)?)?;
+    }
+    Ok(Value::Array(values))
+}
+
+fn value_of_named(alloc: Global, named: &Named) -> Result<Value, NoMemory>
+    ensures { IfOk result (λ value. view value ≡ named_data named.now) }
+{
+    let pattern = named.pattern.print()?;
+    Ok(json!(in alloc; {"pattern": pattern.as_str(), "why": why_text(named.why)})?)
+}
+
+fn why_text(why: Why) -> &'static str
+    ensures { result.now ≡ why_text why }
+{
+    match why {
+        Why::No => "false",
+        Why::Erred => "error",
+    }
+}

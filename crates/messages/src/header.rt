@@ -1,0 +1,187 @@
+//! The header of a script: the rules file that its requests are judged by, the opening tree, and the
+//! tokens.
+ghost use Rattle.std.specs.Prelude.{◌≡◌, ◌∷◌, [], Ok, Some, None, codes, Option, option_map, IfOk, IsErrOf};
+ghost use Rattle.std.specs.List.{list_all, list_any};
+ghost use Rattle.std.specs.Str.{bytes_eq};
+ghost use Rattle.serde_json.specs.View.{view, members_view};
+ghost use Rattle.path_capture.specs.Write.{tree_or_null};
+ghost use Rattle.tokens.specs.Tokens.{names_of, has_only};
+ghost use Rattle.messages.specs.Message.{Tells, header_of, opening_tree, opening_tokens};
+ghost use Rattle.messages.specs.Header.{Opens};
+ghost use Rattle.messages.specs.Working.Opening.{OpensBy, header_seen};
+ghost use Rattle.serde_json.specs.Data.{Data as AnyData};
+ghost use Rattle.messages.specs.declared.header.HeaderFault.TheVariants.{Line as of_line, Rules as of_rules};
+
+use crate::message::{MessageFault, read_value, text_at, tree_of_value};
+use json_tree::Node;
+use rtdb_core::Core;
+use rules_reader::{Rules, RulesFault, compile};
+use serde_json::{Map, Value};
+use std::alloc::Global;
+use tokens::{Tokens, TokensFault};
+
+/// Why a header is refused: a fault of the line, of the rules file in it, of the opening tree, or of the
+/// tokens.
+#[derive(Debug, Drop)]
+pub enum HeaderFault {
+    Line(MessageFault),
+    Rules(RulesFault),
+    /// A key or a primitive of the opening tree is not lawful, or one stands too deep.
+    Data(MessageFault),
+    /// What stands under `tokens` is none.
+    BadTokens,
+    /// The opening tree has more locations than may be.
+    TreeFull,
+}
+
+impl From<MessageFault> for HeaderFault {
+    ghost from_gives = { λ fault header. header ≡ of_line fault };
+
+    fn from(fault: MessageFault) -> HeaderFault {
+        HeaderFault::Line(fault)
+    }
+}
+
+impl From<RulesFault> for HeaderFault {
+    ghost from_gives = { λ fault header. header ≡ of_rules fault };
+
+    fn from(fault: RulesFault) -> HeaderFault {
+        HeaderFault::Rules(fault)
+    }
+}
+
+// What a header has.
+#[derive(Clone, Copy)]
+struct Header<'a> {
+    rules: &'a str,
+    opening: Option<&'a Value>,
+    tokens: Option<&'a Value>,
+}
+
+/// What a header opens: a database, and who may sign in to it.
+#[derive(Drop)]
+pub struct Opened {
+    pub core: Core,
+    pub tokens: Tokens,
+}
+
+/// The database that a header opens, with its tokens, or its first fault: a pass over the line, those of
+/// its rules file, one over its data, and two over its tokens.
+#[tactic(auto, unfolding(crate::specs::Message::header_in))]
+pub fn read_header(alloc: Global, line: &[u8]) -> Result<Opened, HeaderFault>
+    ensures { Opens line.now result }
+{
+    let value = read_value(alloc, line)?;
+    let Some(header) = header_of(&value) else {
+        return Err(HeaderFault::Line(MessageFault::BadRequest));
+    };
+    let rules = compile(alloc, header.rules.as_bytes())?;
+    rules.root();
+    open(alloc, rules, header.opening, header.tokens)
+}
+
+// What these rules open, with the tree and the tokens of these values.
+fn open(
+    alloc: Global,
+    rules: Rules,
+    opening: Option<&Value>,
+    named: Option<&Value>,
+) -> Result<Opened, HeaderFault>
+    ensures { OpensBy rules (option_map (λ value. view value.now) opening.entry) (option_map (λ value. view value.now) named.entry) result }
+{
+    match opening_tree(alloc, opening) {
+        Ok(tree) => with_tree(alloc, rules, tree, named),
+        Err(fault) => Err(HeaderFault::Data(fault)),
+    }
+}
+
+fn with_tree(
+    alloc: Global,
+    rules: Rules,
+    tree: Option<Node>,
+    named: Option<&Value>,
+) -> Result<Opened, HeaderFault>
+    ensures { (value : Option AnyData) → opening_tree value ≡ Ok (tree_or_null tree) → OpensBy rules value (option_map (λ value. view value.now) named.entry) result }
+{
+    match opening_tokens(alloc, named) {
+        Ok(tokens) => with_tokens(alloc, rules, tree, tokens),
+        Err(TokensFault::BadTokens) => Err(HeaderFault::BadTokens),
+        Err(TokensFault::NoMemory) => Err(HeaderFault::Line(MessageFault::NoMemory)),
+    }
+}
+
+fn with_tokens(
+    alloc: Global,
+    rules: Rules,
+    tree: Option<Node>,
+    tokens: Tokens,
+) -> Result<Opened, HeaderFault>
+    ensures { (value named : Option AnyData) → opening_tree value ≡ Ok (tree_or_null tree) → opening_tokens named ≡ Some tokens → OpensBy rules value named result }
+{
+    match Core::new(alloc, rules, tree) {
+        Ok(core) => Ok(Opened { core, tokens }),
+        Err(_) => Err(HeaderFault::TreeFull),
+    }
+}
+
+// The tokens of the member `tokens`: none where there is none.
+fn opening_tokens(alloc: Global, named: Option<&Value>) -> Result<Tokens, TokensFault>
+    ensures tokens { IfOk result (λ tokens. opening_tokens (option_map (λ value. view value.now) named.entry) ≡ Some tokens) }
+    ensures bad_tokens { IsErrOf result TokensFault.BadTokens → opening_tokens (option_map (λ value. view value.now) named.entry) ≡ None }
+{
+    match named {
+        Some(value) => Tokens::from_json(alloc, value),
+        None => Ok(Tokens::new(alloc)),
+    }
+}
+
+// The tree of the member `data`: null where there is none.
+fn opening_tree(alloc: Global, opening: Option<&Value>) -> Result<Option<Node>, MessageFault>
+    ensures { Tells tree_or_null result (opening_tree (option_map (λ value. view value.now) opening.entry)) }
+{
+    match opening {
+        Some(value) => tree_of_value(alloc, value),
+        None => Ok(None),
+    }
+}
+
+// The members of a header, where it has no other.
+fn header_of(value: &Value) -> Option<Header<'_>>
+    ensures { option_map header_seen result ≡ header_of (view value.now) }
+{
+    if !has_header_alone(value) {
+        return None;
+    }
+    let rules = text_at(value, "rules")?;
+    Some(Header {
+        rules,
+        opening: value.get("data"),
+        tokens: value.get("tokens"),
+    })
+}
+
+fn has_header_alone(value: &Value) -> bool
+    ensures { result ≡ has_only (codes "rules" ∷ codes "data" ∷ codes "tokens" ∷ []) (view value.now) }
+{
+    match value.as_object() {
+        Some(members) => are_of_header(members),
+        None => true,
+    }
+}
+
+fn are_of_header(members: &Map<String, Value>) -> bool
+    ensures { result ≡ list_all (λ name. list_any (bytes_eq name) (codes "rules" ∷ codes "data" ∷ codes "tokens" ∷ [])) (names_of (members_view members.now.entries)) }
+{
+    for (name, _) in members.iter() {
+        if !is_of_header(name.as_str()) {
+            return false;
+        }
+    }
+    true
+}
+
+fn is_of_header(name: &str) -> bool
+    ensures { result ≡ list_any (bytes_eq name.now) (codes "rules" ∷ codes "data" ∷ codes "tokens" ∷ []) }
+{
+    name == "rules" || name == "data" || name == "tokens"
+}

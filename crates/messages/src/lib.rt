@@ -1,0 +1,23 @@
+//! Messages: what a line asks, and the texts of answers.
+//!
+//! A message is a line of JSON, and so is its answer. [`read_asked`] says what a message asks of the
+//! database, [`read_header`] what a header opens, and [`write_reply`] and its like what is answered; the
+//! contract of each is what the definitions say of its bytes.
+#![tactic(auto)]
+
+mod answer;
+mod ask;
+mod code;
+mod header;
+mod limits;
+mod message;
+
+pub use answer::{
+    write_accepted, write_bad_tokens, write_fault, write_line_fault, write_refusal, write_reply,
+    write_rules_fault, write_value,
+};
+pub use ask::{Asked, LineFault, read_asked};
+pub use code::Code;
+pub use header::{HeaderFault, Opened, read_header};
+pub use limits::{MAX_MESSAGE_BYTES, the_limit_of_messages};
+pub use message::{Form, MessageFault, Request, Stamp, Text, Verb, Wanted, read_request};

@@ -1,0 +1,459 @@
+//! Messages: what a line of a script or a message of a socket wants.
+ghost use Rattle.std.specs.Prelude.{◌≡◌, ◌≤◌, ◌++◌, ◌∷◌, [], option_map, IfOk, IfSome, OnOk};
+ghost use Rattle.std.specs.List.{list_all, list_any};
+ghost use Rattle.std.specs.Str.{bytes_eq};
+ghost use Rattle.serde_json.specs.View.{view, members_view};
+ghost use Rattle.path_capture.specs.Write.{tree_or_null};
+ghost use Rattle.tokens.specs.Tokens.{names_of, has_only, text_at};
+ghost use Rattle.messages.specs.Message.{Tells, value_of, whole_at, verb_named, verb_of, verb_in, form_members, verb_members, stamp_of, IsWithin, path_of, path_in, path_below, tree_of_value, write_at, write_below, writes_below, wanted_by, request_of, asks, or_fault};
+ghost use Rattle.messages.specs.declared.message.MessageFault.TheVariants.{BadRequest};
+ghost use Rattle.messages.specs.declared.message.MessageFault.TheVariants.{NoMemory as no_memory};
+ghost use Rattle.messages.specs.Working.Faults.{fault_of_path};
+
+use crate::limits::MAX_MESSAGE_BYTES;
+use json_tree::{NoMemory, Node, ValueFault, from_json};
+use path_capture::{Path, PathFault, Write};
+use rtdb_core::{Event, MAX_MOMENT, Writes};
+use std::marker::Model;
+use serde_json::{Map, Value};
+use std::alloc::Global;
+use thiserror::Error;
+
+/// Who asks, and at which moment, in milliseconds since 1970.
+#[derive(Clone, Copy, Debug, PartialEq, Eq)]
+pub struct Stamp {
+    pub now: u64,
+    pub session: u64,
+}
+
+/// How a message says who asks, and when.
+#[derive(Clone, Copy, Debug, PartialEq, Eq)]
+pub enum Form {
+    /// A line of a script says both itself.
+    Script,
+    /// The server knows both of a message of a socket.
+    Socket(Stamp),
+}
+
+/// What a message asks for, by its member `do`.
+#[derive(Clone, Copy, Debug, PartialEq, Eq)]
+pub enum Verb {
+    Open,
+    Close,
+    SignIn,
+    SignOut,
+    Get,
+    Set,
+    Remove,
+    Update,
+    Deploy,
+}
+
+/// A text that a message has. Contracts see its bytes.
+#[derive(Drop)]
+pub struct Text {
+    held: String,
+}
+
+impl Model for Text {
+    ghost use Rattle.std.specs.Prelude.{ℕ, List, string_bytes};
+    ghost use Rattle.std.specs.Coded.{coded_list, coded_ℕ};
+
+    ghost Value = { List ℕ };
+
+    ghost coded = { coded_list coded_ℕ };
+
+    ghost view = { λ text. string_bytes text.held };
+}
+
+impl Text {
+    fn copy_of(alloc: Global, text: &str) -> Result<Text, NoMemory>
+        ensures { IfOk result (λ copy. copy ≡ text.now) }
+    {
+        let held = String::from_str(alloc, text)?;
+        Ok(Text { held })
+    }
+
+    /// The text, borrowed.
+    pub fn as_str(&self) -> &str
+        ensures { result.now ≡ self.now }
+    {
+        self.held.as_str()
+    }
+}
+
+/// What a message wants: an event, or what only tokens and a rules file make one.
+#[derive(Drop)]
+pub enum Wanted {
+    /// This event.
+    Step(Event),
+    /// To sign in by this secret.
+    SignIn(Text),
+    /// To deploy the rules file with this text.
+    Deploy(Text),
+}
+
+/// What a message wants, and for whom.
+#[derive(Drop)]
+pub struct Request {
+    pub stamp: Stamp,
+    pub wanted: Wanted,
+}
+
+/// Why a message asks nothing: the first of its faults.
+#[derive(Clone, Copy, Debug, PartialEq, Eq, Error)]
+pub enum MessageFault {
+    /// It has over 1,048,576 bytes.
+    #[error("a message over 1048576 bytes")]
+    TooLarge,
+    /// It is no JSON.
+    #[error("no JSON")]
+    BadJson,
+    /// A member is wanting, unknown or of the wrong type or range, or the verb is unknown.
+    #[error("no lawful request")]
+    BadRequest,
+    /// A key of the path is not lawful.
+    #[error("no lawful path")]
+    BadPath,
+    /// A key or a primitive of the value is not lawful.
+    #[error("a key or a primitive is not lawful")]
+    BadValue,
+    /// The path, the value, or both together are over 32 keys deep.
+    #[error("more than 32 keys deep")]
+    TooDeep,
+    #[error("out of memory")]
+    NoMemory,
+}
+
+impl From<NoMemory> for MessageFault {
+    ghost from_gives = { λ _ fault. fault ≡ no_memory };
+
+    fn from(_refused: NoMemory) -> MessageFault {
+        MessageFault::NoMemory
+    }
+}
+
+/// What a message asks, or its first fault: one pass over the bytes for the value, and one over
+/// what the value has.
+#[tactic(auto, unfolding(crate::specs::Message::asks))]
+pub fn read_request(alloc: Global, bytes: &[u8], form: Form) -> Result<Request, MessageFault>
+    ensures asked { Tells (λ request. request) result (asks form bytes.now) }
+    ensures moment { IfOk result (λ request. IsWithin form → request.stamp.now ≤ MAX_MOMENT) }
+{
+    let value = read_value(alloc, bytes)?;
+    request_of(alloc, form, &value)
+}
+
+/// The value of a message.
+#[tactic(auto, unfolding(crate::specs::Message::value_of))]
+pub(crate) fn read_value(alloc: Global, bytes: &[u8]) -> Result<Value, MessageFault>
+    ensures { Tells view result (value_of bytes.now) }
+{
+    if bytes.len() > MAX_MESSAGE_BYTES {
+        return Err(MessageFault::TooLarge);
+    }
+    match Value::from_slice(alloc, bytes) {
+        Ok(value) => Ok(value),
+        Err(fault) => if fault.is_memory() {
+            Err(MessageFault::NoMemory)
+        } else {
+            Err(MessageFault::BadJson)
+        },
+    }
+}
+
+fn request_of(alloc: Global, form: Form, value: &Value) -> Result<Request, MessageFault>
+    ensures asked { Tells (λ request. request) result (request_of form (view value.now)) }
+    ensures moment { IfOk result (λ request. IsWithin form → request.stamp.now ≤ MAX_MOMENT) }
+{
+    let Some(verb) = verb_in(form, value) else {
+        return Err(MessageFault::BadRequest);
+    };
+    if !has_only_members(form, verb, value) {
+        return Err(MessageFault::BadRequest);
+    }
+    let Some(stamp) = stamp_of(form, value) else {
+        return Err(MessageFault::BadRequest);
+    };
+    let wanted = wanted_by(alloc, verb, value)?;
+    Ok(Request { stamp, wanted })
+}
+
+fn verb_in(form: Form, value: &Value) -> Option<Verb>
+    ensures { result ≡ verb_in form (view value.now) }
+{
+    verb_of(form, text_at(value, "do")?)
+}
+
+fn verb_of(form: Form, name: &str) -> Option<Verb>
+    ensures { result ≡ verb_of form name.now }
+{
+    match form {
+        Form::Script => if name == "open" {
+            return Some(Verb::Open);
+        } else if name == "close" {
+            return Some(Verb::Close);
+        },
+        Form::Socket(_) => {}
+    }
+    verb_named(name)
+}
+
+fn verb_named(name: &str) -> Option<Verb>
+    ensures { result ≡ verb_named name.now }
+{
+    if name == "signin" {
+        Some(Verb::SignIn)
+    } else if name == "signout" {
+        Some(Verb::SignOut)
+    } else if name == "get" {
+        Some(Verb::Get)
+    } else if name == "set" {
+        Some(Verb::Set)
+    } else if name == "remove" {
+        Some(Verb::Remove)
+    } else if name == "update" {
+        Some(Verb::Update)
+    } else if name == "deploy" {
+        Some(Verb::Deploy)
+    } else {
+        None
+    }
+}
+
+// Whether no member has a name that the verb has not in this form.
+fn has_only_members(form: Form, verb: Verb, value: &Value) -> bool
+    ensures { result ≡ has_only (form_members form ++ verb_members verb) (view value.now) }
+{
+    match value.as_object() {
+        Some(members) => are_members(form, verb, members),
+        None => true,
+    }
+}
+
+fn are_members(form: Form, verb: Verb, members: &Map<String, Value>) -> bool
+    ensures { result ≡ list_all (λ name. list_any (bytes_eq name) (form_members form ++ verb_members verb)) (names_of (members_view members.now.entries)) }
+{
+    for (name, _) in members.iter() {
+        if !is_member(form, verb, name.as_str()) {
+            return false;
+        }
+    }
+    true
+}
+
+fn is_member(form: Form, verb: Verb, name: &str) -> bool
+    ensures { result ≡ list_any (bytes_eq name.now) (form_members form ++ verb_members verb) }
+{
+    let of_form = match form {
+        Form::Script => name == "do" || name == "now" || name == "s",
+        Form::Socket(_) => name == "do",
+    };
+    of_form
+        || match verb {
+            Verb::Open | Verb::Close | Verb::SignOut => false,
+            Verb::SignIn => name == "token",
+            Verb::Get | Verb::Remove => name == "path",
+            Verb::Set => name == "path" || name == "value",
+            Verb::Update => name == "path" || name == "values",
+            Verb::Deploy => name == "rules",
+        }
+}
+
+fn stamp_of(form: Form, value: &Value) -> Option<Stamp>
+    ensures stamp { result ≡ stamp_of form (view value.now) }
+    ensures moment { IfSome result (λ stamp. IsWithin form → stamp.now ≤ MAX_MOMENT) }
+{
+    match form {
+        Form::Script => {
+            let now = whole_at(value, "now")?;
+            let session = whole_at(value, "s")?;
+            Some(Stamp { now, session })
+        }
+        Form::Socket(stamp) => Some(stamp),
+    }
+}
+
+// A member that is a whole number from 0 to 2^53 - 1.
+fn whole_at(value: &Value, name: &str) -> Option<u64>
+    ensures number { result ≡ whole_at name.now (view value.now) }
+    ensures within { IfSome result (λ number. number ≤ MAX_MOMENT) }
+{
+    let number = value.get(name).and_then(Value::as_u64)?;
+    if number <= MAX_MOMENT {
+        Some(number)
+    } else {
+        None
+    }
+}
+
+// A member that is a text.
+pub(crate) fn text_at<'a>(value: &'a Value, name: &str) -> Option<&'a str>
+    ensures { option_map (λ text. text.now) result ≡ text_at name.now (view value.now) }
+{
+    value.get(name).and_then(Value::as_str)
+}
+
+fn wanted_by(alloc: Global, verb: Verb, value: &Value) -> Result<Wanted, MessageFault>
+    ensures { Tells (λ wanted. wanted) result (wanted_by verb (view value.now)) }
+{
+    match verb {
+        Verb::Open => Ok(Wanted::Step(Event::Open)),
+        Verb::Close => Ok(Wanted::Step(Event::Close)),
+        Verb::SignIn => {
+            let secret = text_in(alloc, value, "token")?;
+            Ok(Wanted::SignIn(secret))
+        }
+        Verb::SignOut => Ok(Wanted::Step(Event::SignOut)),
+        Verb::Get => {
+            let path = path_in(alloc, value)?;
+            Ok(Wanted::Step(Event::Get(path)))
+        }
+        Verb::Set => set_of(alloc, value),
+        Verb::Remove => {
+            let path = path_in(alloc, value)?;
+            Ok(Wanted::Step(Event::Remove(path)))
+        }
+        Verb::Update => update_of(alloc, value),
+        Verb::Deploy => {
+            let rules = text_in(alloc, value, "rules")?;
+            Ok(Wanted::Deploy(rules))
+        }
+    }
+}
+
+fn text_in(alloc: Global, value: &Value, name: &str) -> Result<Text, MessageFault>
+    ensures { Tells (λ text. text) result (or_fault BadRequest (text_at name.now (view value.now))) }
+{
+    let Some(text) = text_at(value, name) else {
+        return Err(MessageFault::BadRequest);
+    };
+    let copy = Text::copy_of(alloc, text)?;
+    Ok(copy)
+}
+
+fn path_in(alloc: Global, value: &Value) -> Result<Path, MessageFault>
+    ensures { Tells (λ path. path) result (path_in (view value.now)) }
+{
+    let Some(text) = text_at(value, "path") else {
+        return Err(MessageFault::BadRequest);
+    };
+    path_of(alloc, text)
+}
+
+fn set_of(alloc: Global, value: &Value) -> Result<Wanted, MessageFault>
+    ensures { Tells (λ wanted. wanted) result (wanted_by Verb.Set (view value.now)) }
+{
+    let Some(text) = text_at(value, "path") else {
+        return Err(MessageFault::BadRequest);
+    };
+    let Some(written) = value.get("value") else {
+        return Err(MessageFault::BadRequest);
+    };
+    let path = path_of(alloc, text)?;
+    let tree = tree_of_value(alloc, written)?;
+    let write = write_at(path, tree)?;
+    Ok(Wanted::Step(Event::Set(write)))
+}
+
+fn update_of(alloc: Global, value: &Value) -> Result<Wanted, MessageFault>
+    ensures { Tells (λ wanted. wanted) result (wanted_by Verb.Update (view value.now)) }
+{
+    let Some(text) = text_at(value, "path") else {
+        return Err(MessageFault::BadRequest);
+    };
+    let Some(members) = value.get("values").and_then(Value::as_object) else {
+        return Err(MessageFault::BadRequest);
+    };
+    let path = path_of(alloc, text)?;
+    let writes = writes_below(alloc, &path, members)?;
+    Ok(Wanted::Step(Event::Update(Writes::of_vec(writes))))
+}
+
+// The writes of an update, whose members stand in the byte order of their names.
+#[tactic(auto, using(crate::proofs::Members::at_first, crate::proofs::Members::at_last, crate::proofs::Members::one_more, crate::proofs::Members::at_fault))]
+fn writes_below(
+    alloc: Global,
+    path: &Path,
+    members: &Map<String, Value>,
+) -> Result<Vec<Write>, MessageFault>
+    ensures { Tells (λ writes. writes.items) result (writes_below path.now (members_view members.now.entries)) }
+{
+    let mut writes = with_room(alloc, members.len())?;
+    for (name, value) in members.iter() {
+        let write = write_below(alloc, path, name.as_str(), value)?;
+        keep(&mut writes, write)?;
+    }
+    Ok(writes)
+}
+
+fn with_room(alloc: Global, count: usize) -> Result<Vec<Write>, NoMemory>
+    ensures { IfOk result (λ writes. writes.items ≡ []) }
+{
+    Ok(Vec::with_capacity(alloc, count)?)
+}
+
+fn keep(writes: &mut Vec<Write>, write: Write) -> Result<(), NoMemory>
+    ensures { OnOk result (writes.new.items ≡ writes.old.items ++ write ∷ []) }
+{
+    writes.push(write)?;
+    Ok(())
+}
+
+fn write_below(alloc: Global, path: &Path, name: &str, value: &Value) -> Result<Write, MessageFault>
+    ensures { Tells (λ write. write) result (write_below path.now name.now (view value.now)) }
+{
+    let at = path_below(alloc, path, name)?;
+    let tree = tree_of_value(alloc, value)?;
+    write_at(at, tree)
+}
+
+fn path_below(alloc: Global, path: &Path, name: &str) -> Result<Path, MessageFault>
+    ensures { Tells (λ at. at) result (path_below path.now name.now) }
+{
+    let mut below = path_of(alloc, name)?;
+    let mut at = path.copy(alloc)?;
+    match at.join(&mut below) {
+        Ok(()) => Ok(at),
+        Err(fault) => Err(fault_of_path(fault)),
+    }
+}
+
+fn path_of(alloc: Global, text: &str) -> Result<Path, MessageFault>
+    ensures { Tells (λ path. path) result (path_of text.now) }
+{
+    match Path::parse(alloc, text) {
+        Ok(path) => Ok(path),
+        Err(fault) => Err(fault_of_path(fault)),
+    }
+}
+
+fn fault_of_path(fault: PathFault) -> MessageFault
+    ensures { result ≡ fault_of_path fault }
+{
+    match fault {
+        PathFault::BadPath => MessageFault::BadPath,
+        PathFault::TooDeep => MessageFault::TooDeep,
+        PathFault::NoMemory => MessageFault::NoMemory,
+    }
+}
+
+pub(crate) fn tree_of_value(alloc: Global, value: &Value) -> Result<Option<Node>, MessageFault>
+    ensures { Tells tree_or_null result (tree_of_value (view value.now)) }
+{
+    match from_json(alloc, value) {
+        Ok(tree) => Ok(tree),
+        Err(ValueFault::BadValue) => Err(MessageFault::BadValue),
+        Err(ValueFault::TooDeep) => Err(MessageFault::TooDeep),
+        Err(ValueFault::NoMemory) => Err(MessageFault::NoMemory),
+    }
+}
+
+fn write_at(path: Path, tree: Option<Node>) -> Result<Write, MessageFault>
+    ensures { Tells (λ write. write) result (write_at path (tree_or_null tree)) }
+{
+    match Write::new(path, tree) {
+        Ok(write) => Ok(write),
+        Err(_) => Err(MessageFault::TooDeep),
+    }
+}
