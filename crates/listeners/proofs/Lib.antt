@@ -1,0 +1,5 @@
+pub mod Joined
+pub mod Numbers
+pub mod Orders
+pub mod Counts
+pub mod Edges
