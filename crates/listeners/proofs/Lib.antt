@@ -1,5 +1,0 @@
-pub mod Joined
-pub mod Numbers
-pub mod Orders
-pub mod Counts
-pub mod Edges

@@ -1,4 +1,0 @@
-pub mod Query
-pub mod Order
-pub mod Selection
-pub mod Working
