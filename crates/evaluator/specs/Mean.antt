@@ -10,7 +10,7 @@ use Rattle.evaluator.specs.Calls.{Given, nothing, one, two, listed, others, call
 use Rattle.evaluator.specs.Env.{Env, variable, capture}
 
 abbrev mutual
-  -- (Reference, expressions; each line is a row of the table of values.)
+  -- (Reference, expressions; a line for each form of an expression.)
   pub mean : Tree → Env → Option Part
   mean (t.Number n) env = option_map value (in_range (pos n))
   mean (t.Text s) env = Some (value (words s))

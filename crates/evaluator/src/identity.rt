@@ -76,7 +76,8 @@ impl Claims {
         None
     }
 
-    /// The same claims once more: one growth for the list, and one for each name and each text.
+    /// The same claims once more: the growths of a list that is pushed to, and one for each name and each
+    /// text.
     pub fn copy(&self, alloc: Global) -> Result<Claims, NoMemory>
         ensures { IfOk result (λ claims. claims ≡ self.now) }
     {
@@ -167,7 +168,7 @@ impl Identity {
     }
 
     /// The same identity once more: a growth for each of its texts, for each claim's name and text, and
-    /// for the list of claims.
+    /// those of the list of claims.
     pub fn copy(&self, alloc: Global) -> Result<Identity, NoMemory>
         ensures { IfOk result (λ who. who ≡ self.now) }
     {

@@ -28,8 +28,8 @@ use std::alloc::Global;
 
 /// Judges a read of a path with this query: granted exactly where a `.read` holds at the path or above
 /// it, else denied with all `.read` rules there. Of d keys, d · log w in nodes of w children, and each
-/// rule on the way once; the arena takes two places for each key and what expressions make, and the
-/// rest of memory only a denial. Nothing grows with what is stored beside the path. (Guide "Core
+/// rule on the way once; the arena takes a place for each key and what expressions make, other memory
+/// the captures on the way and a denial. Nothing grows with what is stored beside the path. (Guide "Core
 /// syntax", `.read` and `.write` rules cascade.)
 pub fn judge_read<'a>(
     alloc: Global,
@@ -82,8 +82,8 @@ fn judge_alone<'a>(
 /// first location that is not granted; a `.validate` is evaluated only at places that exist in the
 /// proposed tree, above a location or in what is written, and none behind the first that fails. Nothing
 /// grows with what is stored beside the locations: of n locations of d keys, n · log n comparisons, d ·
-/// log w steps for each, and what is written. The arena takes two places for each step, and what
-/// expressions make; the rest of memory the names of a denial. (Guide "Core syntax", `.read` and
+/// log w steps for each, and what is written. The arena takes the list of locations, two places for each
+/// step, and what expressions make; other memory the captures on the way and the names of a denial. (Guide "Core syntax", `.read` and
 /// `.write` rules cascade, `.validate` rules do not.)
 pub fn judge_write<'a>(
     alloc: Global,

@@ -1,8 +1,9 @@
 //! Laws of what is granted, and of verdicts: of the definitions alone.
-ghost use Rattle.std.specs.Prelude.{◌≡◌, ◌↔◌, ◌++◌, List, true, Contains, IsTrue, IsPermutation};
+ghost use Rattle.std.specs.Prelude.{◌≡◌, ◌↔◌, ◌++◌, List, true, false, Contains, IsTrue, IsPermutation};
 ghost use Rattle.tree_model.specs.Path.{Path, is_prefix};
 ghost use Rattle.tree_model.specs.Tree.{Tree};
-ghost use Rattle.tree_model.specs.Write.{Write, proposed};
+ghost use Rattle.tree_model.specs.PathMap.{sub};
+ghost use Rattle.tree_model.specs.Write.{Write, location, written, overlaps, proposed};
 ghost use Rattle.rules_reader.specs.Part.{Pattern};
 ghost use Rattle.rules_reader.specs.declared.kind.Kind.{Kind};
 ghost use Rattle.rules_reader.specs.Place.{HasOneCapture};
@@ -29,10 +30,11 @@ pub fn only_rules_above_grant()
     ensures { (q r : Question) (kind : Kind) (path : Path) → ((place : Path) → is_prefix place path ≡ true → Holds q kind place → Holds r kind place) → IsGranted q kind path → IsGranted r kind path }
 {}
 
-/// Every rule that is asked for some write of an event sees as `newData` the tree that all its writes
-/// propose together. It does nothing. (Reference, `newData` variable.)
+/// Whatever rule is asked for one of the writes of an event, the tree that its `newData` is of has all
+/// of them: at each location that the event writes stands there what it writes. It does nothing.
+/// (Reference, `newData` variable.)
 pub fn every_write_sees_the_whole()
-    ensures { (scene : Scene) (t : Tree) (all : List Write) (pattern : Pattern) (place : Path) → (env_at (writing scene (proposed t all)) pattern place).access ≡ writes (proposed t all, place) }
+    ensures { (scene : Scene) (t : Tree) (all : List Write) (w : Write) (pattern : Pattern) (place : Path) → overlaps all ≡ false → Contains all w → (whole : Tree) × ((env_at (writing scene (proposed t all)) pattern place).access ≡ writes (whole, place)) × (sub whole (location w) ≡ written w) }
 {}
 
 /// In which order the locations of an event stand changes no verdict. It does nothing.
