@@ -14,9 +14,9 @@ use crate::limits::MAX_MESSAGE_BYTES;
 use json_tree::{NoMemory, Node, ValueFault, from_json};
 use path_capture::{Path, PathFault, Write};
 use rtdb_core::{Event, MAX_MOMENT, Writes};
-use std::marker::Model;
 use serde_json::{Map, Value};
 use std::alloc::Global;
+use std::marker::Model;
 use thiserror::Error;
 
 /// Who asks, and at which moment, in milliseconds since 1970.

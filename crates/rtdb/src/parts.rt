@@ -1,10 +1,10 @@
 //! Calls that no script makes, and the order of a message's faults.
 use bumpalo::Bump;
 use json_tree::{Leaf, Node};
+use messages::{Form, MessageFault, Stamp, Wanted, read_request, write_reply};
 use path_capture::Pattern;
 use rtdb_core::{Core, Event, Named, NamedRules, Refusal, Reply, Why};
 use rules_reader::compile;
-use messages::{Form, MessageFault, Stamp, Wanted, read_request, write_reply};
 use std::alloc::AllocError;
 
 const SOCKET: Form = Form::Socket(Stamp { now: 5, session: 7 });

@@ -16,8 +16,7 @@ mod streams;
 pub use outgoing::send_text;
 pub use script::{ScriptEnd, run_script};
 pub use script_laws::{
-    every_line_has_an_answer, lines_are_answered_by_a_run,
-    what_is_said_is_a_run_from_the_opening,
+    every_line_has_an_answer, lines_are_answered_by_a_run, what_is_said_is_a_run_from_the_opening,
 };
 pub use stream::{Broken, Sink, Source};
 pub use streams::{Reading, Writing};
