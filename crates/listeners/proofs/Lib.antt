@@ -1,0 +1,10 @@
+pub mod Joined
+pub mod Numbers
+pub mod Orders
+pub mod Counts
+pub mod Edges
+pub mod Keeping
+pub mod Listing
+pub mod Places
+pub mod Bounding
+pub mod Showing

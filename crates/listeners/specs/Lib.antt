@@ -1,0 +1,4 @@
+pub mod Query
+pub mod Order
+pub mod Selection
+pub mod Working

@@ -1,0 +1,104 @@
+-- Where a child stands in the order of a query: its place, and its key with the number of this key.
+use Rattle.std.specs.Prelude.{ℕ, suc, ◌&&◌, List, [], ◌∷◌, map, filter, length, Bool, true, not, nat_lt, ℤ, Option, Some, None, option_map}
+use Rattle.std.specs.Option.{option_map_or}
+use Rattle.std.specs.declared.cmp.Ordering.{Ordering}
+use Rattle.std.specs.Ordering.{is_lt, is_gt, is_eq, ordering_then}
+use Rattle.tree_model.specs.Key.{Key, key_cmp}
+use Rattle.tree_model.specs.PathMap.{sub}
+use Rattle.tree_model.specs.Primitive.{Primitive, truth, whole, words}
+use Rattle.listeners.specs.Order.{number_of, numbered_cmp, length_cmp, Place, nothing, value, place_cmp}
+use Rattle.listeners.specs.Query.{Order, by_key, by_value, by_child, Query}
+use Rattle.listeners.specs.Selection.{Child, place_of, is_within}
+
+-- the place of the child, and its key with the number that it is
+abbrev pub Rank : Type 0
+Rank = Place × (Option ℤ × Key)
+
+-- the order of keys whose numbers are known
+abbrev pub keyed_cmp : Option ℤ × Key → Option ℤ × Key → Ordering
+keyed_cmp k l = ordering_then (numbered_cmp k.0 l.0) (ordering_then (length_cmp k.0 k.1 l.1) (key_cmp k.1 l.1))
+
+abbrev pub keyed : Key → Option ℤ × Key
+keyed k = (number_of k, k)
+
+abbrev pub rank_cmp : Rank → Rank → Ordering
+rank_cmp r s = ordering_then (place_cmp r.0 s.0) (keyed_cmp r.1 s.1)
+
+-- the place by which a child is ordered; by keys all are in one place
+abbrev pub place_by : Option Order → Child → Place
+place_by None c = nothing
+place_by (Some by_key) c = nothing
+place_by (Some by_value) c = place_of c.1
+place_by (Some (by_child path)) c = place_of (sub c.1 path)
+
+abbrev pub rank_of : Option Order → Child → Rank
+rank_of order c = (place_by order c, keyed c.0)
+
+-- ---- bounds
+
+-- a bound: a key, or a value
+pub data Mark : Type 0 where
+  at_key : Option ℤ × Key → Mark
+  at_value : Primitive → Mark
+
+abbrev pub key_in : Primitive → Key
+key_in (truth b) = []
+key_in (whole z) = []
+key_in (words s) = s
+
+abbrev pub mark_of : Option Order → Primitive → Mark
+mark_of None v = at_key (keyed (key_in v))
+mark_of (Some by_key) v = at_key (keyed (key_in v))
+mark_of (Some by_value) v = at_value v
+mark_of (Some (by_child path)) v = at_value v
+
+abbrev pub mark_cmp : Rank → Mark → Ordering
+mark_cmp r (at_key k) = keyed_cmp r.1 k
+mark_cmp r (at_value v) = place_cmp r.0 (value v)
+
+pub record Marks : Type 0 where
+  pub start_at : Option Mark
+  pub end_at : Option Mark
+  pub equal_to : Option Mark
+
+abbrev pub marks_of : Query → Marks
+marks_of query = record {
+  start_at = option_map (mark_of query.order) query.start_at;
+  end_at = option_map (mark_of query.order) query.end_at;
+  equal_to = option_map (mark_of query.order) query.equal_to;
+}
+
+abbrev pub is_between : Marks → Rank → Bool
+is_between marks r =
+    option_map_or (λ m. not (is_lt (mark_cmp r m))) marks.start_at true
+    && option_map_or (λ m. not (is_gt (mark_cmp r m))) marks.end_at true
+    && option_map_or (λ m. is_eq (mark_cmp r m)) marks.equal_to true
+
+-- ---- the children within the bounds
+
+-- each child with its index, from n on
+abbrev pub numbered : ℕ → List Child → List (ℕ × Child)
+numbered n [] = []
+numbered n (c ∷ cs) = (n, c) ∷ numbered (suc n) cs
+
+-- the ranks of those within the bounds, each with its index
+abbrev pub ranked : Option Order → ℕ × Child → ℕ × Rank
+ranked order e = (e.0, rank_of order e.1)
+
+abbrev pub ranks_within : Query → List Child → List (ℕ × Rank)
+ranks_within query cs = map (ranked query.order) (filter (λ e. is_within query e.1) (numbered 0 cs))
+
+-- ---- limits
+
+-- how many stand before a rank, or behind it
+abbrev pub count_before : Rank → List (ℕ × Rank) → ℕ
+count_before r rs = length (filter (λ s. is_lt (rank_cmp s.1 r)) rs)
+
+abbrev pub count_behind : Rank → List (ℕ × Rank) → ℕ
+count_behind r rs = length (filter (λ s. is_gt (rank_cmp s.1 r)) rs)
+
+-- a rank that the limits keep, among these
+abbrev pub is_kept_of : Option ℕ → Option ℕ → List (ℕ × Rank) → Rank → Bool
+is_kept_of first last rs r =
+    option_map_or (nat_lt (count_before r rs)) first true
+    && option_map_or (nat_lt (count_behind r rs)) last true

@@ -1,0 +1,116 @@
+//! The edge of a selection: the child with which a limit stops.
+ghost use Rattle.std.specs.Prelude.{◌≡◌, ◌<◌, ℕ, length, true, map, Some, None, IfOk};
+ghost use Rattle.std.specs.Bool.{OnTrue};
+ghost use Rattle.std.specs.Option.{option_map_or};
+ghost use Rattle.std.specs.List.Sorted.{IsPermutation, IsSorted};
+ghost use Rattle.listeners.specs.Query.{is_limit};
+ghost use Rattle.listeners.specs.Working.Items.{item_seen, item_cmp, rank_seen, StandsAt, lies_inside};
+ghost use Rattle.listeners.specs.Working.Parts.{first_of, last_of};
+ghost use Rattle.listeners.specs.Working.Ranks.{Rank, is_kept_of};
+
+use crate::item::Item;
+use crate::order::Limit;
+use bumpalo::Bump;
+use json_tree::NoMemory;
+
+// Where a limit stops: nowhere, so that all children are kept; with the last one of the first children, up
+// to which all are kept; or with the first one of the last children, from which on all are.
+#[derive(Clone, Copy)]
+pub(crate) enum Edge<'a> {
+    Nowhere,
+    Last(Item<'a>),
+    First(Item<'a>),
+}
+
+impl<'a> Edge<'a> {
+    // The edge of a limit among these children.
+    pub(crate) fn of_limit(
+        arena: &'a Bump,
+        items: &[Item<'a>],
+        limit: Option<Limit>,
+    ) -> Result<Edge<'a>, NoMemory>
+        requires first { option_map_or is_limit (first_of limit) true ≡ true }
+        requires last { option_map_or is_limit (last_of limit) true ≡ true }
+        ensures { IfOk result (λ edge. (r : Rank) → lies_inside edge r ≡ is_kept_of (first_of limit) (last_of limit) (map item_seen items.now) r) }
+    {
+        match limit {
+            Some(Limit::First(limit)) => first_children(arena, items, usize::from(limit)),
+            Some(Limit::Last(limit)) => last_children(arena, items, usize::from(limit)),
+            None => Ok(Edge::Nowhere),
+        }
+    }
+
+    // Whether a child is kept.
+    pub(crate) fn keeps(&self, item: &Item<'_>) -> bool
+        ensures { result ≡ lies_inside self.now (rank_seen item.now) }
+    {
+        match self {
+            Edge::Nowhere => true,
+            Edge::Last(last) => !item.compare(last).is_gt(),
+            Edge::First(first) => !item.compare(first).is_lt(),
+        }
+    }
+}
+
+fn first_children<'a>(
+    arena: &'a Bump,
+    items: &[Item<'a>],
+    limit: usize,
+) -> Result<Edge<'a>, NoMemory>
+    requires { 0 < limit }
+    ensures { IfOk result (λ edge. (r : Rank) → lies_inside edge r ≡ is_kept_of (Some limit) None (map item_seen items.now) r) }
+{
+    if items.len() < limit {
+        return Ok(Edge::Nowhere);
+    }
+    let last = item_at(arena, items, limit - 1)?;
+    Ok(Edge::Last(last))
+}
+
+fn last_children<'a>(
+    arena: &'a Bump,
+    items: &[Item<'a>],
+    limit: usize,
+) -> Result<Edge<'a>, NoMemory>
+    requires { 0 < limit }
+    ensures { IfOk result (λ edge. (r : Rank) → lies_inside edge r ≡ is_kept_of None (Some limit) (map item_seen items.now) r) }
+{
+    if items.len() < limit {
+        return Ok(Edge::Nowhere);
+    }
+    let first = item_at(arena, items, items.len() - limit)?;
+    Ok(Edge::First(first))
+}
+
+// The child at this index, once they are in order. Where they are so already, as children by their keys
+// mostly are, nothing is sorted.
+fn item_at<'a>(arena: &'a Bump, items: &[Item<'a>], i: usize) -> Result<Item<'a>, NoMemory>
+    requires { i < length items.now }
+    ensures { IfOk result (λ item. StandsAt items.now i item) }
+{
+    if is_in_order(items) {
+        return Ok(items[i]);
+    }
+    let sorted = sorted(arena, items)?;
+    Ok(sorted[i])
+}
+
+fn is_in_order(items: &[Item<'_>]) -> bool
+    ensures { OnTrue result (IsSorted item_cmp items.now) }
+{
+    for i in 1..items.len() {
+        if items[i].compare(&items[i - 1]).is_lt() {
+            return false;
+        }
+    }
+    true
+}
+
+fn sorted<'a>(arena: &'a Bump, items: &[Item<'a>]) -> Result<Vec<Item<'a>, &'a Bump>, NoMemory>
+    ensures permutation { IfOk result (λ sorted. IsPermutation items.now sorted.items) }
+    ensures sorted { IfOk result (λ sorted. IsSorted item_cmp sorted.items) }
+{
+    let mut sorted = Vec::from_slice(arena, items)?;
+    sorted.sort_unstable_by(|a, b| a.compare(b));
+    Ok(sorted)
+}

@@ -1,0 +1,27 @@
+//! Queries, and the parts of a tree that they select.
+#![tactic(auto)]
+
+mod bounds;
+mod build;
+mod edge;
+mod fault;
+mod item;
+mod laws;
+mod limits;
+mod list_key;
+mod members;
+mod number;
+mod order;
+mod place;
+mod query;
+mod said;
+mod selection;
+
+pub use fault::QueryFault;
+pub use laws::{
+    a_limit_bounds_the_selection, no_query_selects_the_whole, the_order_of_children,
+    the_order_of_keys, the_order_of_values, what_a_query_selects,
+};
+pub use limits::{MAX_LIMIT, the_greatest_limit};
+pub use query::Query;
+pub use selection::select;

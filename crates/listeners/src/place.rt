@@ -1,0 +1,61 @@
+//! What stands at a location, as far as children are ordered by it.
+ghost use Rattle.std.specs.Prelude.{◌≡◌};
+ghost use Rattle.json_tree.specs.Leaf.{primitive_of};
+ghost use Rattle.path_capture.specs.Write.{tree_or_null};
+ghost use Rattle.listeners.specs.Order.{bool_cmp, primitive_cmp, place_cmp};
+ghost use Rattle.listeners.specs.Selection.{place_of};
+ghost use Rattle.listeners.specs.Working.Items.{place_seen};
+
+use arena_snapshot::View;
+use json_tree::Leaf;
+use std::cmp::Ordering;
+
+// Nothing, a primitive, or children.
+#[derive(Clone, Copy)]
+pub(crate) enum Place<'a> {
+    Nothing,
+    Value(&'a Leaf),
+    Location,
+}
+
+// What stands at the root of a tree.
+pub(crate) fn place_of<'a>(view: Option<View<'a>>) -> Place<'a>
+    ensures { place_seen result ≡ place_of (tree_or_null view.entry) }
+{
+    match view {
+        Some(view) => {
+            view.law();
+            match view.leaf() {
+                Some(leaf) => Place::Value(leaf),
+                None => Place::Location,
+            }
+        }
+        None => Place::Nothing,
+    }
+}
+
+// Nothing comes first, then primitives, then locations with children, which are all equal.
+#[tactic(auto, unfolding(crate::specs::Order::place_cmp))]
+pub(crate) fn compare(place: &Place<'_>, other: &Place<'_>) -> Ordering
+    ensures { result ≡ place_cmp (place_seen place.now) (place_seen other.now) }
+{
+    match (place, other) {
+        (Place::Nothing, Place::Nothing) | (Place::Location, Place::Location) => Ordering::Equal,
+        (Place::Value(leaf), Place::Value(other)) => compare_leaves(leaf, other),
+        (Place::Nothing, _) | (_, Place::Location) => Ordering::Less,
+        (Place::Location, _) | (_, Place::Nothing) => Ordering::Greater,
+    }
+}
+
+// Booleans come first, then numbers, then texts.
+fn compare_leaves(leaf: &Leaf, other: &Leaf) -> Ordering
+    ensures { result ≡ primitive_cmp (primitive_of leaf.now) (primitive_of other.now) }
+{
+    match (leaf, other) {
+        (Leaf::Truth(b), Leaf::Truth(other)) => b.cmp(other),
+        (Leaf::Whole(number), Leaf::Whole(other)) => number.value().cmp(&other.value()),
+        (Leaf::Words(text), Leaf::Words(other)) => text.as_str().cmp(other.as_str()),
+        (Leaf::Truth(_), _) | (_, Leaf::Words(_)) => Ordering::Less,
+        (Leaf::Words(_), _) | (_, Leaf::Truth(_)) => Ordering::Greater,
+    }
+}
