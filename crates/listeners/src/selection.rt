@@ -14,13 +14,13 @@ use arena_snapshot::{View, kept};
 use bumpalo::Bump;
 use json_tree::NoMemory;
 
-/// The part of a tree that a query selects, if it selects anything: without a query the tree itself, and of
-/// one primitive nothing. For w children each is looked at once, which takes log w steps, or d · log w where
-/// they are ordered by a path of d keys; those within the bounds are listed in the arena. Where a limit is
-/// not greater than their number and their order is not that in which they are stored, they are listed
-/// once more and sorted there, by w · log w comparisons. The indices of those that are kept are a list too,
-/// and the children are borrowed. Want of
-/// memory is the one error. (Guide "Work with Lists of Data", how query data is ordered and filtering data.)
+/// The part of a tree that a query selects, if it selects anything: without a query the tree itself, and
+/// of one primitive nothing. For w children each is looked at once, which takes log w steps, or d · log w
+/// where they are ordered by a path of d keys; those within the bounds are listed in the arena. Where a
+/// limit is not greater than their number and their order is not that in which they are stored, they are
+/// listed once more and sorted there, by w · log w comparisons. The indices of those that are kept are a
+/// list too, and the children are borrowed. Want of memory is the one error. (Guide "Work with Lists of
+/// Data", how query data is ordered and filtering data.)
 pub fn select<'a>(
     arena: &'a Bump,
     view: Option<View<'a>>,
