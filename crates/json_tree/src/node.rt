@@ -142,8 +142,8 @@ impl Node {
         self.count
     }
 
-    /// The same tree once more, in one pass: one growth for each text, each long key and each list
-    /// of children.
+    /// The same tree once more, in one pass: one growth for each text, each key and each list of
+    /// children.
     #[cycle(copy)]
     pub fn copy(&self, alloc: Global) -> Result<Node, NoMemory>
         ensures { IfOk result (λ node. node ≡ self.now) }

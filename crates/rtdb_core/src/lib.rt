@@ -11,7 +11,6 @@ mod machine;
 mod refusals;
 mod reply;
 mod run_laws;
-mod selected;
 mod session;
 mod step_laws;
 mod trees;
