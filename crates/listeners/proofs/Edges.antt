@@ -6,7 +6,7 @@ use Rattle.std.proofs.lemmas.Bool.{lt-ltb, le-ltb, false_from_ne_true, cases_Boo
 use Rattle.std.proofs.lemmas.List.{get_or_default}
 use Rattle.std.proofs.lemmas.List.Sorted.{ranks_by, sorted_far, length_permutation}
 use Rattle.listeners.specs.declared.item.Item.{Item}
-use Rattle.listeners.specs.declared.edge.Edge.TheVariants.{Last, First}
+use Rattle.listeners.specs.declared.edge.Edge.TheVariants.{UpTo, FromOn}
 use Rattle.listeners.specs.Working.Items.{item_seen, rank_seen, item_cmp, StandsAt, lies_inside}
 use Rattle.listeners.specs.Working.Ranks.{Rank, rank_cmp, count_before, count_behind, is_kept_of}
 use Rattle.listeners.proofs.Orders.{rank_total}
@@ -128,14 +128,14 @@ module _ (items : List Item) (i : ℕ) (item : Item) (at : StandsAt items i item
     )
 
   -- what the last item of a limit from the first on keeps
-  pub up_to : (n : ℕ) → n ≡ i + 1 → (r : Rank) → lies_inside (Last item) r ≡ is_kept_of (Some n) None (map item_seen items) r
+  pub up_to : (n : ℕ) → n ≡ i + 1 → (r : Rank) → lies_inside (UpTo item) r ≡ is_kept_of (Some n) None (map item_seen items) r
   up_to n is r = ⊎_elim
       (λ more. ap not more ∙ sym (ap (λ b. b && true) (le-ltb (count_before r (map item_seen items)) n (omega (arith, is, many_before r more)))))
       (λ up. ap not up ∙ sym (ap (λ b. b && true) (lt-ltb (count_before r (map item_seen items)) n (omega (arith, is, few_before r up)))))
       (cases_Bool (is_gt (rank_cmp r (rank_seen item))))
 
   -- and the first one of a limit from the last one on
-  pub from_on : (n : ℕ) → n + i ≡ length items → (r : Rank) → lies_inside (First item) r ≡ is_kept_of None (Some n) (map item_seen items) r
+  pub from_on : (n : ℕ) → n + i ≡ length items → (r : Rank) → lies_inside (FromOn item) r ≡ is_kept_of None (Some n) (map item_seen items) r
   from_on n is r = ⊎_elim
       (λ less. ap not less ∙ sym (le-ltb (count_behind r (map item_seen items)) n (omega (arith, is, many_behind r less))))
       (λ up. ap not up ∙ sym (lt-ltb (count_behind r (map item_seen items)) n (omega (arith, is, few_behind r up))))

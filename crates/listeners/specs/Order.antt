@@ -9,6 +9,7 @@ use Rattle.tree_model.specs.Primitive.{Primitive, truth, whole, words}
 
 -- ---- key order. (Guide "Work with Lists of Data", how query data is ordered: orderByKey. That equal numbers go by the shorter text and all others by bytes is this project's profile.)
 
+-- the byte of a decimal digit
 abbrev pub is_digit : ℕ → Bool
 is_digit b = nat_le 48 b && nat_le b 57
 
@@ -21,6 +22,7 @@ decimal_after n (b ∷ bs) = decimal_after (n * 10 + (b - 48)) bs
 abbrev pub natural_of : List ℕ → Option ℕ
 natural_of text = if nat_le 1 (length text) && list_all is_digit text then Some (decimal_after 0 text) else None
 
+-- the number behind a minus; -0 is 0
 abbrev pub negated : ℕ → ℤ
 negated zero = pos zero
 negated (suc n) = negsuc n
@@ -38,6 +40,7 @@ if_small z = if int_le (negsuc 2147483647) z && int_le z (pos 2147483647) then S
 abbrev pub number_of : Key → Option ℤ
 number_of key = option_and_then if_small (integer_of key)
 
+-- keys that are numbers by their numbers, and before those that are none
 abbrev pub numbered_cmp : Option ℤ → Option ℤ → Ordering
 numbered_cmp None None = Equal
 numbered_cmp None (Some y) = Greater
@@ -61,6 +64,7 @@ pub data Place : Type 0 where
   value : Primitive → Place
   location : Place
 
+-- false, then true
 abbrev pub bool_cmp : Bool → Bool → Ordering
 bool_cmp false false = Equal
 bool_cmp false true = Less

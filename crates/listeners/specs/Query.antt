@@ -46,6 +46,7 @@ order_named text =
     if bytes_eq text (codes "$value") then Some by_value else
     if is_child_path (segments text) then Some (by_child (segments text)) else None
 
+-- the order of a value, which has to be a text
 abbrev pub order_of : Data → Option Order
 order_of d = option_and_then order_named (as_str d)
 
@@ -62,6 +63,7 @@ bound_of (object ms) = None
 abbrev pub is_limit : ℕ → Bool
 is_limit limit = nat_le 1 limit && nat_le limit MAX_LIMIT
 
+-- the limit of a value, which has to be such a number, written without a point
 abbrev pub limit_of : Data → Option ℕ
 limit_of null = None
 limit_of (boolean b) = None
@@ -79,19 +81,31 @@ abbrev pub names_of : Members → List (List ℕ)
 names_of no_members = []
 names_of (member name d ms) = name ∷ names_of ms
 
+-- the members that a query may have
 abbrev pub query_names : List (List ℕ)
 query_names = codes "orderBy" ∷ codes "startAt" ∷ codes "endAt" ∷ codes "equalTo" ∷ codes "limitToFirst" ∷ codes "limitToLast" ∷ []
 
--- an object whose members all have these names
+-- an object that has no other members
 abbrev pub has_query_names : Data → Bool
 has_query_names d = option_map_or (λ ms. list_all (λ name. list_any (bytes_eq name) query_names) (names_of ms)) (as_object d) false
+
+-- all of these, if each of them is lawful
+abbrev pub if_all : Option (Option Order) → Option (Option Primitive) → Option (Option Primitive) → Option (Option Primitive) → Option (Option ℕ) → Option (Option ℕ) → Option Query
+if_all None start_at end_at equal_to first last = None
+if_all (Some order) None end_at equal_to first last = None
+if_all (Some order) (Some start_at) None equal_to first last = None
+if_all (Some order) (Some start_at) (Some end_at) None first last = None
+if_all (Some order) (Some start_at) (Some end_at) (Some equal_to) None last = None
+if_all (Some order) (Some start_at) (Some end_at) (Some equal_to) (Some first) None = None
+if_all (Some order) (Some start_at) (Some end_at) (Some equal_to) (Some first) (Some last) =
+    Some (record { order = order; start_at = start_at; end_at = end_at; equal_to = equal_to; limit_to_first = first; limit_to_last = last })
 
 -- what the members say, each by itself
 abbrev pub members_said : Data → Option Query
 members_said d =
-    option_and_then (λ order. option_and_then (λ start_at. option_and_then (λ end_at. option_and_then (λ equal_to. option_and_then (λ first. option_map (λ last.
-    record { order = order; start_at = start_at; end_at = end_at; equal_to = equal_to; limit_to_first = first; limit_to_last = last })
-    (optional limit_of (codes "limitToLast") d)) (optional limit_of (codes "limitToFirst") d)) (optional bound_of (codes "equalTo") d)) (optional bound_of (codes "endAt") d)) (optional bound_of (codes "startAt") d)) (optional order_of (codes "orderBy") d)
+    if_all (optional order_of (codes "orderBy") d)
+    (optional bound_of (codes "startAt") d) (optional bound_of (codes "endAt") d) (optional bound_of (codes "equalTo") d)
+    (optional limit_of (codes "limitToFirst") d) (optional limit_of (codes "limitToLast") d)
 
 -- it is a text
 abbrev pub is_words : Primitive → Bool
@@ -117,15 +131,17 @@ goes_together query =
     && not (is_some query.equal_to && (is_some query.start_at || is_some query.end_at))
     && not (is_some query.limit_to_first && is_some query.limit_to_last)
 
+-- a query whose members go together
 abbrev pub if_together : Query → Option Query
 if_together query = if goes_together query then Some query else None
 
--- the query that a value is. None is `BadQuery`
+-- the query that a value is: its names are those of a query, each member is lawful, and they go together. None is `BadQuery`
 unfoldable pub query_of : Data → Option Query
 query_of d = if has_query_names d then option_and_then if_together (members_said d) else None
 
 -- ---- what holds of every query
 
+-- the path of the order, if it has one, is lawful
 abbrev pub is_lawful_order : Order → Bool
 is_lawful_order by_key = true
 is_lawful_order by_value = true
@@ -153,6 +169,7 @@ joined [] = []
 joined (k ∷ []) = k
 joined (k ∷ l ∷ path) = k ++ 47 ∷ joined (l ∷ path)
 
+-- the order by key alone, and the order by value alone
 abbrev pub is_by_key : Order → Bool
 is_by_key by_key = true
 is_by_key by_value = false
@@ -169,6 +186,7 @@ child_of by_key = None
 child_of by_value = None
 child_of (by_child path) = Some path
 
+-- what a rule reads as `query.orderByKey` and the other seven fields: what was asked for, and nothing that was not
 abbrev pub asked_by : Query → Asked
 asked_by query = record {
   order_by_key = option_map_or is_by_key query.order false;

@@ -13,13 +13,13 @@ use crate::order::Limit;
 use bumpalo::Bump;
 use json_tree::NoMemory;
 
-// Where a limit stops: nowhere, so that all children are kept; with the last one of the first children, up
-// to which all are kept; or with the first one of the last children, from which on all are.
+// Which children a limit keeps: all; those up to a child, the last of the first ones; or those from a child
+// on, the first of the last ones.
 #[derive(Clone, Copy)]
 pub(crate) enum Edge<'a> {
     Nowhere,
-    Last(Item<'a>),
-    First(Item<'a>),
+    UpTo(Item<'a>),
+    FromOn(Item<'a>),
 }
 
 impl<'a> Edge<'a> {
@@ -46,8 +46,8 @@ impl<'a> Edge<'a> {
     {
         match self {
             Edge::Nowhere => true,
-            Edge::Last(last) => !item.compare(last).is_gt(),
-            Edge::First(first) => !item.compare(first).is_lt(),
+            Edge::UpTo(last) => !item.compare(last).is_gt(),
+            Edge::FromOn(first) => !item.compare(first).is_lt(),
         }
     }
 }
@@ -64,7 +64,7 @@ fn first_children<'a>(
         return Ok(Edge::Nowhere);
     }
     let last = item_at(arena, items, limit - 1)?;
-    Ok(Edge::Last(last))
+    Ok(Edge::UpTo(last))
 }
 
 fn last_children<'a>(
@@ -79,7 +79,7 @@ fn last_children<'a>(
         return Ok(Edge::Nowhere);
     }
     let first = item_at(arena, items, items.len() - limit)?;
-    Ok(Edge::First(first))
+    Ok(Edge::FromOn(first))
 }
 
 // The child at this index, once they are in order. Where they are so already, as children by their keys

@@ -15,7 +15,7 @@ pub(crate) enum SaidOrder<'a> {
     Child(&'a str),
 }
 
-// Where the children begin or end.
+// Where the children begin or end. A number is one within the limits.
 #[derive(Clone, Copy)]
 pub(crate) enum SaidBound<'a> {
     Truth(bool),

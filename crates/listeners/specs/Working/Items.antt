@@ -17,7 +17,7 @@ use Rattle.listeners.specs.declared.bounds.Mark.{Mark}
 use Rattle.listeners.specs.declared.bounds.Mark.TheVariants.{Key as AtKey, Value as AtValue}
 use Rattle.listeners.specs.declared.bounds.Bounds.{Bounds}
 use Rattle.listeners.specs.declared.edge.Edge.{Edge}
-use Rattle.listeners.specs.declared.edge.Edge.TheVariants.{Nowhere, Last, First}
+use Rattle.listeners.specs.declared.edge.Edge.TheVariants.{Nowhere, UpTo, FromOn}
 
 abbrev pub key_seen : ListKey → Option ℤ × Key
 key_seen key = (key.number, key.text.now)
@@ -59,5 +59,5 @@ pub record StandsAt (items : List Item) (i : ℕ) (item : Item) : Type 0 where
 -- what lies on this side of the edge
 abbrev pub lies_inside : Edge → Rank → Bool
 lies_inside Nowhere r = true
-lies_inside (Last item) r = not (is_gt (rank_cmp r (rank_seen item)))
-lies_inside (First item) r = not (is_lt (rank_cmp r (rank_seen item)))
+lies_inside (UpTo item) r = not (is_gt (rank_cmp r (rank_seen item)))
+lies_inside (FromOn item) r = not (is_lt (rank_cmp r (rank_seen item)))
