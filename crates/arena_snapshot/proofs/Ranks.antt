@@ -1,6 +1,6 @@
 -- How many children stand before a key, and which key stands at an index.
 use Rattle.std.proofs.Common.{◌≡◌, ◌≢◌, ℕ, zero, suc, ◌+◌, ◌-◌, ◌≤◌, ◌<◌, ◌⊎◌, inl, inr, Bool, true, false, cond, not, ◌&&◌, List, [], ◌∷◌, map, length, get_or, Some, None, sym, ap, ◌∙◌, refl, arith}
-use Rattle.std.specs.List.{slice_get, sum_by, AllByRecursion}
+use Rattle.std.specs.List.{slice_get, sum_by, count_by, AllByRecursion}
 use Rattle.std.specs.Ordering.{is_lt, eq_by_cmp}
 use Rattle.std.specs.declared.cmp.Ordering.{Ordering}
 use Rattle.std.specs.declared.cmp.Ordering.TheVariants.{Less, Equal, Greater}
@@ -214,21 +214,14 @@ pub child_keys-null : child_keys null ≡ []
 unfolding child_keys
 child_keys-null = ap (map (λ (e : Key × Tree). e.0)) (no_children null (omega (arith, depth-null)))
 
-module _ (t : Tree) (i : ℕ) (k found : Key) (low : i < length (child_keys t)) (at : Some found ≡ slice_get (child_keys t) i) where
-  inside : i < length (entries_of t)
-  inside = omega (arith, width-entries t)
-
-  found_is : (get_or (entries_of t) i (found, null)).0 ≡ found
-  found_is = let is = at ∙ key_at t i (found, null) inside in cc
-
-  pub stored_low : is_before found k ≡ true → i < before k t
-  stored_low h = rank_low k (entries_of t) i (found, null) (entries_sorted t) inside (ap (λ l. is_before l k) found_is ∙ h)
-
-  pub stored_high : is_before found k ≡ false → before k t ≤ i
-  stored_high h = rank_high k (entries_of t) i (found, null) (entries_sorted t) inside (ap (λ l. is_before l k) found_is ∙ h)
-
-pub stored_there : (t : Tree) (i : ℕ) → i < length (child_keys t) → None ≡ slice_get (child_keys t) i → ⊥
-stored_there t i low none = let is = none ∙ key_at t i ([], null) (omega (arith, width-entries t)) in cc
+-- keys before a name are children before it
+pub keys_before : (k : Key) (t : Tree) → count_by (λ l. is_lt (key_cmp l k)) (child_keys t) ≡ before k t
+unfolding child_keys
+keys_before k t = go (entries_of t)
+  where
+    go : (es : Entries) → count_by (λ l. is_before l k) (map (λ (e : Key × Tree). e.0) es) ≡ count_before k es
+    go [] = refl
+    go (e ∷ es) = omega (arith, sum_by-cons (λ l. one_if (is_before l k)) e.0 (map (λ (f : Key × Tree). f.0) es), sum_by-cons (number (below k)) e es, go es)
 
 pub before_within : (k : Key) (t : Tree) → before k t ≤ length (child_keys t)
 before_within k t = omega (arith, all (entries_of t), width-entries t)

@@ -6,8 +6,8 @@ use crate::view::{Kind, View};
 use json_tree::{Key, NoMemory, Node};
 use std::alloc::Global;
 
-/// The same tree, owned, in one pass over it: one growth for each text, each key and each list of
-/// children, and where children are changed a binary search for each child.
+/// The same tree, owned, in one pass over it: one growth for each text, each long key and each list
+/// of children, and where children are changed a binary search for each child.
 #[cycle(copy_out)]
 pub fn copy_out(alloc: Global, view: &View) -> Result<Node, NoMemory>
     ensures { IfOk result (λ node. node ≡ view.now) }

@@ -1,19 +1,19 @@
 //! A layer: the children that are laid over a node, or over nothing, in the order of their keys, with
 //! the sizes of what they make. It costs nothing for the other children of the node.
-ghost use Rattle.std.specs.Prelude.{◌≡◌, ◌≢◌, ◌++◌, ◌∷◌, [], Some, None, map, IfOk, OnOk};
-ghost use Rattle.tree_model.specs.PathMap.{get};
+ghost use Rattle.std.specs.Prelude.{◌≡◌, ◌≢◌, ◌++◌, ◌∷◌, [], Some, None, map, option_map, IfOk, OnOk};
+ghost use Rattle.tree_model.specs.PathMap.{get, sub};
 ghost use Rattle.tree_model.specs.Tree.{null, non_null, IsLawful};
 ghost use Rattle.arena_snapshot.specs.View.{node_or_null};
-ghost use Rattle.arena_snapshot.specs.Working.Change.{changed, AllBefore};
+ghost use Rattle.arena_snapshot.specs.Working.Change.{changed, before, AllBefore};
 ghost use Rattle.arena_snapshot.specs.Working.Layer.{IsLayer};
 ghost use Rattle.arena_snapshot.specs.Working.Patches.{change_of};
 
-use crate::patches::{stored_before, stored_width};
+use crate::patches::stored_width;
 use crate::sizes::{Sizes, exchanged, stored_sizes};
 use crate::view::{Kind, Patch, Patched, View};
 use bumpalo::Bump;
 use bumpalo::collections::into_bump_slice;
-use json_tree::{Key, NoMemory, Node};
+use json_tree::{Key, NoMemory, Node, Place};
 
 #[derive(Drop)]
 pub(crate) struct Layer<'a> {
@@ -37,8 +37,17 @@ impl<'a> Layer<'a> {
         })
     }
 
-    // Lays a child at a key behind all others, or removes the stored one.
-    pub(crate) fn push(&mut self, key: &'a Key, child: Option<View<'a>>) -> Result<(), NoMemory>
+    // Lays a child at a key behind all others, or removes the stored one, which is given with its
+    // place in the node.
+    pub(crate) fn push(
+        &mut self,
+        key: &'a Key,
+        stored: Place,
+        child: Option<View<'a>>,
+    ) -> Result<(), NoMemory>
+        requires stored { option_map (λ node. node.now) stored.child
+            ≡ non_null (sub (node_or_null self.old.base) (key.now ∷ [])) }
+        requires before { stored.before ≡ before key.now (node_or_null self.old.base) }
         requires layer { IsLayer (node_or_null self.old.base) self.old.patches.items self.old.sizes }
         requires behind { AllBefore key.now (map change_of self.old.patches.items) }
         requires some { child ≢ Some null }
@@ -47,13 +56,12 @@ impl<'a> Layer<'a> {
             ≡ map change_of self.old.patches.items ++ (key.now, child.entry) ∷ []) }
         ensures layer { OnOk result (IsLayer (node_or_null self.new.base) self.new.patches.items self.new.sizes) }
     {
-        let stored_before = stored_before(self.base, key);
-        let before = self.sizes.width - (stored_width(self.base) - stored_before);
-        let sizes = exchanged(self.base, self.sizes, key, &child)?;
+        let before = self.sizes.width - (stored_width(self.base) - stored.before);
+        let sizes = exchanged(self.sizes, stored.child, &child)?;
         self.patches.push(Patch {
             key,
             child,
-            stored_before,
+            stored_before: stored.before,
             before,
         })?;
         self.sizes = sizes;

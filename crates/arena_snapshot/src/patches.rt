@@ -1,6 +1,5 @@
 //! Patches in the order of their keys: which child stands at a key, and which key at an index.
-ghost use Rattle.std.specs.Prelude.{◌≡◌, ◌<◌, ◌≤◌, ◌∷◌, [], true, false, length, map, option_map, slice_get};
-ghost use Rattle.std.specs.Bool.{OnTrue, OnFalse};
+ghost use Rattle.std.specs.Prelude.{◌≡◌, ◌≤◌, ◌∷◌, [], true, false, length, map, option_map, slice_get};
 ghost use Rattle.std.specs.List.Sorted.{IsSearchInRange, IsBinarySearchResult, IsPartitionedBy, IsPartitionPoint};
 ghost use Rattle.tree_model.specs.Key.{key_cmp};
 ghost use Rattle.tree_model.specs.PathMap.{sub};
@@ -10,11 +9,26 @@ ghost use Rattle.arena_snapshot.specs.Working.Change.{changed, AreChanges, befor
 ghost use Rattle.arena_snapshot.specs.Working.Patches.{change_of, ArePatches, is_behind};
 
 use crate::view::{Patch, View};
-use json_tree::{Key, Node};
+use json_tree::{Key, Node, Place};
 
 // ---- stored children
 
-pub(crate) fn stored_child<'a>(base: Option<&'a Node>, name: &str) -> Option<&'a Node>
+// What is stored at a key, and how many stored children stand before it, by one binary search.
+pub(crate) fn stored_place<'a>(base: Option<&'a Node>, key: &Key) -> Place<'a>
+    ensures child { option_map (λ node. node.now) result.child
+        ≡ non_null (sub (node_or_null base.entry) (key.now ∷ [])) }
+    ensures before { result.before ≡ before key.now (node_or_null base.entry) }
+{
+    match base {
+        Some(node) => node.place(key.text()),
+        None => Place {
+            child: None,
+            before: 0,
+        },
+    }
+}
+
+fn stored_child<'a>(base: Option<&'a Node>, name: &str) -> Option<&'a Node>
     ensures { option_map (λ node. node.now) result
         ≡ non_null (sub (node_or_null base.entry) (name.now ∷ [])) }
 {
@@ -49,35 +63,6 @@ pub(crate) fn stored_width(base: Option<&Node>) -> usize
     match base {
         Some(node) => node.width(),
         None => 0,
-    }
-}
-
-// How many stored children stand before a key, by a binary search.
-pub(crate) fn stored_before(base: Option<&Node>, key: &Key) -> usize
-    ensures { result ≡ before key.now (node_or_null base.entry) }
-{
-    let mut low = 0;
-    let mut high = stored_width(base);
-    while low < high {
-        let middle = low + (high - low) / 2;
-        if is_before(base, middle, key) {
-            low = middle + 1;
-        } else {
-            high = middle;
-        }
-    }
-    low
-}
-
-// Whether the child at an index stands before a key.
-fn is_before(base: Option<&Node>, i: usize, key: &Key) -> bool
-    requires { i < length (child_keys (node_or_null base)) }
-    ensures lower { OnTrue result (i < before key.now (node_or_null base.entry)) }
-    ensures higher { OnFalse result (before key.now (node_or_null base.entry) ≤ i) }
-{
-    match stored_key(base, i) {
-        Some(found) => found.text().cmp(key.text()).is_lt(),
-        None => false,
     }
 }
 

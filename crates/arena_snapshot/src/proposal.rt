@@ -14,7 +14,7 @@ ghost use Rattle.arena_snapshot.specs.View.{node_or_null};
 ghost use Rattle.arena_snapshot.specs.Working.Left.{left, Ascend};
 
 use crate::layer::Layer;
-use crate::patches::stored_child;
+use crate::patches::stored_place;
 use crate::view::View;
 use bumpalo::Bump;
 use json_tree::{Key, NoMemory, Node};
@@ -113,9 +113,9 @@ fn lay_below<'a>(
     while start < writes.len() {
         let key = key_of(writes[start], depth);
         let end = run_end(writes, start, depth, key);
-        let stored = stored_child(base, key.text());
-        let child = lay(bump, stored, &writes[start..end], depth + 1)?;
-        layer.push(key, child)?;
+        let stored = stored_place(base, key);
+        let child = lay(bump, stored.child, &writes[start..end], depth + 1)?;
+        layer.push(key, stored, child)?;
         start = end;
     }
     Ok(layer.finish())

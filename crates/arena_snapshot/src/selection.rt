@@ -4,12 +4,14 @@ ghost use Rattle.tree_model.specs.Tree.{non_null};
 ghost use Rattle.arena_snapshot.specs.Kept.{kept, StrictlyAscend};
 
 use crate::layer::Layer;
+use crate::patches::stored_place;
 use crate::view::View;
 use bumpalo::Bump;
 use json_tree::NoMemory;
 
 /// The tree of the children at these indices, if there is one: for n indices, n growths of one list in
-/// the arena at most, and a binary search for each. The children themselves are borrowed.
+/// the arena at most, and in a patched tree a binary search for each. The children themselves are
+/// borrowed.
 pub fn kept<'a>(
     bump: &'a Bump,
     view: &View<'a>,
@@ -22,7 +24,7 @@ pub fn kept<'a>(
     let mut layer = Layer::new(bump, None)?;
     for index in indices {
         if let Some((key, child)) = view.entry_at(*index) {
-            layer.push(key, Some(child))?;
+            layer.push(key, stored_place(None, key), Some(child))?;
         }
     }
     Ok(layer.finish())

@@ -1,13 +1,12 @@
 //! Sizes: how many locations and children there are where a child is exchanged for another, kept by
 //! what goes and what comes.
-ghost use Rattle.std.specs.Prelude.{◌≡◌, ◌<◌, ◌≤◌, ◌+◌, ◌∷◌, [], None, IfOk};
-ghost use Rattle.tree_model.specs.PathMap.{get, sub};
+ghost use Rattle.std.specs.Prelude.{◌≡◌, ◌<◌, ◌≤◌, ◌+◌, [], None, option_map, IfOk};
+ghost use Rattle.tree_model.specs.PathMap.{get};
 ghost use Rattle.arena_snapshot.specs.View.{node_or_null};
-ghost use Rattle.arena_snapshot.specs.Working.Change.{share, shared, total, one, locations};
+ghost use Rattle.arena_snapshot.specs.Working.Change.{total, one, locations, locations_of, one_of};
 
-use crate::patches::stored_child;
 use crate::view::View;
-use json_tree::{Key, NoMemory, Node};
+use json_tree::{NoMemory, Node};
 
 /// How many locations exist, and how many children there are.
 #[derive(Clone, Copy)]
@@ -38,33 +37,32 @@ pub(crate) fn stored_sizes(base: Option<&Node>) -> Result<Sizes, NoMemory>
     }
 }
 
-// The sizes after the stored child of a key is exchanged for this one.
+// The sizes after the stored child, if there is one, is exchanged for this one.
 pub(crate) fn exchanged(
-    base: Option<&Node>,
     sizes: Sizes,
-    key: &Key,
+    stored: Option<&Node>,
     child: &Option<View>,
 ) -> Result<Sizes, NoMemory>
-    requires count { share locations key.now (sub (node_or_null base) (key.now ∷ [])) ≤ sizes.count }
-    requires width { share one key.now (sub (node_or_null base) (key.now ∷ [])) ≤ sizes.width }
-    ensures count { IfOk result (λ after. after.count + share locations key.now (sub (node_or_null base.entry) (key.now ∷ [])) ≡ sizes.count + shared locations key.now child.now) }
-    ensures width { IfOk result (λ after. after.width + share one key.now (sub (node_or_null base.entry) (key.now ∷ [])) ≡ sizes.width + shared one key.now child.now) }
+    requires count { locations_of (option_map (λ node. node.now) stored) ≤ sizes.count }
+    requires width { one_of (option_map (λ node. node.now) stored) ≤ sizes.width }
+    ensures count { IfOk result (λ after. after.count + locations_of (option_map (λ node. node.now) stored.entry) ≡ sizes.count + locations_of child.now) }
+    ensures width { IfOk result (λ after. after.width + one_of (option_map (λ node. node.now) stored.entry) ≡ sizes.width + one_of child.now) }
     ensures fits { IfOk result (λ after. after.count ≤ usize.MAX) }
 {
-    let gone = stored_share(base, key)?;
-    let come = share_of(key, child)?;
+    let gone = stored_share(stored)?;
+    let come = share_of(child)?;
     Ok(Sizes {
         count: sum(sizes.count - gone.count, come.count)?,
         width: sum(sizes.width - gone.width, come.width)?,
     })
 }
 
-// What the stored child of a key adds to its parent.
-fn stored_share(base: Option<&Node>, key: &Key) -> Result<Sizes, NoMemory>
-    ensures count { IfOk result (λ sizes. sizes.count ≡ share locations key.now (sub (node_or_null base.entry) (key.now ∷ []))) }
-    ensures width { IfOk result (λ sizes. sizes.width ≡ share one key.now (sub (node_or_null base.entry) (key.now ∷ []))) }
+// What the stored child, if there is one, adds to its parent.
+fn stored_share(stored: Option<&Node>) -> Result<Sizes, NoMemory>
+    ensures count { IfOk result (λ sizes. sizes.count ≡ locations_of (option_map (λ node. node.now) stored.entry)) }
+    ensures width { IfOk result (λ sizes. sizes.width ≡ one_of (option_map (λ node. node.now) stored.entry)) }
 {
-    match stored_child(base, key.text()) {
+    match stored {
         Some(child) => Ok(Sizes {
             count: in_full(child.count())?,
             width: 1,
@@ -74,9 +72,9 @@ fn stored_share(base: Option<&Node>, key: &Key) -> Result<Sizes, NoMemory>
 }
 
 // What this child adds to its parent.
-fn share_of(key: &Key, child: &Option<View>) -> Result<Sizes, NoMemory>
-    ensures count { IfOk result (λ sizes. sizes.count ≡ shared locations key.now child.now) }
-    ensures width { IfOk result (λ sizes. sizes.width ≡ shared one key.now child.now) }
+fn share_of(child: &Option<View>) -> Result<Sizes, NoMemory>
+    ensures count { IfOk result (λ sizes. sizes.count ≡ locations_of child.now) }
+    ensures width { IfOk result (λ sizes. sizes.width ≡ one_of child.now) }
 {
     match child {
         Some(child) => Ok(Sizes {

@@ -177,8 +177,19 @@ impl<'a> View<'a> {
         }
     }
 
-    // The child at an index, with its key.
+    // The child at an index, with its key: of a stored tree in constant time, and of a patched one by a
+    // search for the key.
     pub(crate) fn entry_at(&self, i: usize) -> Option<(&'a Key, View<'a>)>
+        ensures { option_map (λ entry. (entry.0.now, entry.1)) result
+            ≡ slice_get (entries_of self.now) i }
+    {
+        match &self.kind {
+            Kind::Stored(node) => stored_entry(node, i),
+            Kind::Patched(_) => self.searched_entry(i),
+        }
+    }
+
+    fn searched_entry(&self, i: usize) -> Option<(&'a Key, View<'a>)>
         ensures { option_map (λ entry. (entry.0.now, entry.1)) result
             ≡ slice_get (entries_of self.now) i }
     {
@@ -195,4 +206,13 @@ impl<'a> View<'a> {
     {
         let _kind = &self.kind;
     }
+}
+
+// The stored child at an index, with its key.
+fn stored_entry<'a>(node: &'a Node, i: usize) -> Option<(&'a Key, View<'a>)>
+    ensures { option_map (λ entry. (entry.0.now, entry.1)) result
+        ≡ slice_get (entries_of node.now) i }
+{
+    let (key, child) = node.entry_at(i)?;
+    Some((key, View::stored(child)))
 }

@@ -1,5 +1,6 @@
 -- What a binary search finds among children in order.
-use Rattle.std.proofs.Common.{◌≡◌, ◌≢◌, ℕ, zero, suc, ◌<◌, true, false, cond, List, [], ◌∷◌, length, get_or, Some, None, Result, Ok, Err, MatchResult, sym, ap, ◌∙◌, inl, inr, refl, add-one, arith}
+use Rattle.std.proofs.Common.{◌≡◌, ◌≢◌, ℕ, zero, suc, ◌+◌, ◌<◌, ◌≤◌, Bool, true, false, cond, List, [], ◌∷◌, map, length, get_or, Some, None, Result, Ok, Err, MatchResult, sym, ap, ◌∙◌, inl, inr, refl, add-one, arith}
+use Rattle.std.specs.List.{count_by}
 use Rattle.std.specs.declared.cmp.Ordering.{Ordering}
 use Rattle.std.specs.declared.cmp.Ordering.TheVariants.{Less, Equal, Greater}
 use Rattle.std.specs.Ordering.{is_lt, eq_by_cmp, ordering_reverse}
@@ -10,6 +11,7 @@ use Rattle.std.specs.List.Sorted.{IsSortedBy, IsSearchInRange, IsBinarySearchRes
 use Rattle.std.proofs.lemmas.Bool.{cases_lt}
 use Rattle.std.proofs.lemmas.Map.Text.{is_eq-slice_cmp}
 use Rattle.std.proofs.lemmas.List.Sorted.{searchable_from_sorted}
+use Rattle.std.proofs.lemmas.List.Sums.{sum_by-cons}
 use Rattle.tree_model.specs.Key.{Key, key_cmp}
 use Rattle.tree_model.proofs.Orders.{keys_total, exact_keys, tied_key, bytes_eq-self}
 use Rattle.tree_model.proofs.Grafts.{find_beyond}
@@ -70,3 +72,62 @@ searched name cs (Err i) s within parted =
       | inl before ↦ let less = parts.0 j d (omega arith) before in cc
       | inr after ↦ let more = parts.1 j d after inside in cc
     ])
+
+-- ---- how many children stand before a key
+
+abbrev keys_of : {X : Type 0} → List (Key × X) → List Key
+keys_of cs = map (λ c. c.0) cs
+
+-- the key stands before the name
+abbrev is_low : Key → Key → Bool
+is_low name k = is_lt (key_cmp k name)
+
+abbrev one_if : Bool → ℕ
+one_if b = cond b 1 0
+
+one_low : (name k : Key) (ks : List Key) → is_low name k ≡ true → count_by (is_low name) (k ∷ ks) ≡ count_by (is_low name) ks + 1
+one_low name k ks low = let one : one_if (is_low name k) ≡ 1 = ap one_if low in omega (arith, sum_by-cons (λ l. one_if (is_low name l)) k ks, one)
+
+none_low : (name k : Key) (ks : List Key) → is_low name k ≡ false → count_by (is_low name) (k ∷ ks) ≡ count_by (is_low name) ks
+none_low name k ks high = let none : one_if (is_low name k) ≡ 0 = ap one_if high in omega (arith, sum_by-cons (λ l. one_if (is_low name l)) k ks, none)
+
+-- none of those behind a name stands before it
+none_behind : {X : Type 0} (name : Key) (cs : List (Key × X)) → below_all key_cmp name cs ≡ true → count_by (is_low name) (keys_of cs) ≡ 0
+none_behind name [] below = refl
+none_behind name (c ∷ cs) below =
+    let high : is_low name c.0 ≡ false = ap is_lt (keys_total.antisymm c.0 name) ∙ not_less (key_cmp name c.0) (first_so _ _ below) in
+    none_low name c.0 (keys_of cs) high ∙ none_behind name cs (second_so _ _ below)
+
+above_first : {X : Type 0} (name : Key) (cs : List (Key × X)) (i : ℕ) (d : Key × X) → below_all key_cmp name cs ≡ true → i < length cs → is_lt (key_cmp name (get_or cs i d).0) ≡ true
+above_first name [] i d below within = absurd (omega arith)
+above_first name (c ∷ cs) zero d below within = first_so _ _ below
+above_first name (c ∷ cs) (suc i) d below within = above_first name cs i d (second_so _ _ below) (omega arith)
+
+-- as many stand before a child's key as its index says
+rank_at : {X : Type 0} (cs : List (Key × X)) (i : ℕ) (d : Key × X) → is_sorted key_cmp cs ≡ true → i < length cs → count_by (is_low (get_or cs i d).0) (keys_of cs) ≡ i
+rank_at [] i d s within = absurd (omega arith)
+rank_at (c ∷ cs) zero d s within = none_low c.0 c.0 (keys_of cs) (ap is_lt (tied_itself keys_total c.0)) ∙ none_behind c.0 cs (first_so _ _ s)
+rank_at (c ∷ cs) (suc i) d s within =
+    let name : Key = (get_or cs i d).0 in
+    omega (arith, one_low name c.0 (keys_of cs) (above_first c.0 cs i d (first_so _ _ s) (omega arith)), rank_at cs i d (second_so _ _ s) (omega arith))
+
+-- and before any name as many as the point says that parts what stands before it from the rest
+rank_parted : {X : Type 0} (name : Key) (cs : List (Key × X)) (i : ℕ) → i ≤ length cs → ((j : ℕ) (d : Key × X) → j < i → is_low name (get_or cs j d).0 ≡ true)
+    → ((j : ℕ) (d : Key × X) → i ≤ j → j < length cs → is_low name (get_or cs j d).0 ≡ false) → count_by (is_low name) (keys_of cs) ≡ i
+rank_parted name [] i within low high = omega arith
+rank_parted name (c ∷ cs) zero within low high =
+    none_low name c.0 (keys_of cs) (high 0 c (omega arith) (omega arith)) ∙ rank_parted name cs 0 (omega arith) (λ j d less. absurd (omega arith)) (λ j d more inside. high (suc j) d (omega arith) (omega arith))
+rank_parted name (c ∷ cs) (suc i) within low high =
+    omega (
+      arith,
+      one_low name c.0 (keys_of cs) (low 0 c (omega arith)),
+      rank_parted name cs i (omega arith) (λ j d less. low (suc j) d (omega arith)) (λ j d more inside. high (suc j) d (omega arith) (omega arith)),
+    )
+
+-- where a binary search for a name ends
+pub ranked : {X : Type 0} (name : Key) (cs : List (Key × X)) (r : Result ℕ ℕ) → is_sorted key_cmp cs ≡ true → IsSearchInRange r (length cs) → IsBinarySearchResult (λ c. key_cmp c.0 name) cs r
+    → MatchResult r (λ i. Key × X → count_by (is_low name) (keys_of cs) ≡ i) (λ i. count_by (is_low name) (keys_of cs) ≡ i)
+ranked name cs (Ok i) s within is = λ d. ap (λ k. count_by (is_low k) (keys_of cs)) (sym (exact_keys (get_or cs i d).0 name (is d))) ∙ rank_at cs i d s within
+ranked name cs (Err i) s within parted =
+    let parts = parted (searchable_from_sorted keys_total (λ c. c.0) cs name (sorted_by_key cs s)) in
+    rank_parted name cs i within (λ j d less. ap is_lt (parts.0 j d (omega arith) less)) (λ j d more inside. ap is_lt (parts.1 j d more inside))

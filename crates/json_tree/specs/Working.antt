@@ -4,3 +4,4 @@ pub mod NodeFalls
 pub mod Levels
 pub mod Members
 pub mod Changed
+pub mod Held

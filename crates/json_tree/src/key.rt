@@ -5,6 +5,7 @@ ghost use Rattle.tree_model.specs.Key.{is_key, is_key_byte, key_cmp};
 ghost use Rattle.json_tree.specs.declared.key.KeyFault.TheVariants.{NoMemory as no_memory};
 
 use crate::memory::NoMemory;
+use arrayvec::ArrayString;
 use std::alloc::{AllocError, Global};
 use std::cmp::Ordering;
 use std::marker::Model;
@@ -29,26 +30,39 @@ impl From<NoMemory> for KeyFault {
     }
 }
 
+/// How many bytes of a key lie in the key itself: a key that a client makes of the time and of chance
+/// has 20.
+const SHORT_BYTES: usize = 24;
+
 /// A lawful key: 1 to 768 bytes of UTF-8, no ASCII control character and none of `. $ # [ ] /`
-/// among them. Contracts see its bytes. (Guide "Structure Your Database", how data is structured.)
+/// among them. The bytes of a text of at most 24 lie in its key, which takes no memory for them; the
+/// digits of an index in an array do not. Contracts see the bytes. (Guide "Structure Your Database", how
+/// data is structured.)
 #[derive(Debug, Drop)]
 pub struct Key {
-    held: String,
+    held: Held,
+}
+
+#[derive(Debug, Drop)]
+pub(crate) enum Held {
+    Short(ArrayString<SHORT_BYTES>),
+    Long(String),
 }
 
 impl Model for Key {
-    ghost use Rattle.std.specs.Prelude.{◌≡◌, ℕ, List, true, string_bytes};
+    ghost use Rattle.std.specs.Prelude.{◌≡◌, ℕ, List, true};
     ghost use Rattle.tree_model.specs.Key.{is_key};
+    ghost use Rattle.json_tree.specs.Working.Held.{bytes_of};
 
     ghost Value = { List ℕ };
 
-    ghost view = { λ key. string_bytes key.held };
+    ghost view = { λ key. bytes_of key.held };
 
-    ghost invariant = { λ key. is_key (string_bytes key.held) ≡ true };
+    ghost invariant = { λ key. is_key (bytes_of key.held) ≡ true };
 }
 
 impl Key {
-    /// The key of this text, in one growth.
+    /// The key of this text, in one growth at most.
     pub fn new(alloc: Global, text: &str) -> Result<Key, KeyFault>
         ensures ok { IfOk result (λ key. key ≡ text.now) }
         ensures lawful { IfOk result (λ key. is_key key ≡ true) }
@@ -65,10 +79,13 @@ impl Key {
         ensures bytes { result.now ≡ self.now }
         ensures lawful { is_key self.now ≡ true }
     {
-        self.held.as_str()
+        match &self.held {
+            Held::Short(text) => text.as_str(),
+            Held::Long(text) => text.as_str(),
+        }
     }
 
-    /// The same key once more, in one growth.
+    /// The same key once more, in one growth at most.
     pub fn copy(&self, alloc: Global) -> Result<Key, NoMemory>
         ensures { IfOk result (λ key. key ≡ self.now) }
     {
@@ -82,14 +99,16 @@ impl Key {
         self.text().cmp(text)
     }
 
-    /// The key of a text that is known to be lawful, in one growth and without a test.
+    /// The key of a text that is known to be lawful, in one growth at most and without a test.
     pub fn of_lawful(alloc: Global, text: &str) -> Result<Key, NoMemory>
         requires { is_key text.now ≡ true }
         ensures { IfOk result (λ key. key ≡ text.now) }
     {
-        Ok(Key {
-            held: String::from_str(alloc, text)?,
-        })
+        let held = match ArrayString::from(text) {
+            Ok(short) => Held::Short(short),
+            Err(_) => Held::Long(String::from_str(alloc, text)?),
+        };
+        Ok(Key { held })
     }
 
     // The key of an index in an array: its decimal digits.
@@ -97,7 +116,7 @@ impl Key {
         ensures { IfOk result (λ key. key ≡ decimal index) }
     {
         Ok(Key {
-            held: index.to_string(alloc)?,
+            held: Held::Long(index.to_string(alloc)?),
         })
     }
 }
@@ -122,7 +141,7 @@ fn is_key_byte(b: u8) -> bool
     32 <= b && b != 127 && !matches!(b, b'.' | b'$' | b'#' | b'[' | b']' | b'/')
 }
 
-/// The same keys once more, by one growth for the list and one for each key.
+/// The same keys once more, by one growth for the list and one at most for each key.
 pub fn copy_keys(alloc: Global, keys: &[Key]) -> Result<Vec<Key>, NoMemory>
     ensures { IfOk result (λ copies. copies.items ≡ keys.now) }
 {

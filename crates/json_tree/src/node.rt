@@ -1,7 +1,8 @@
 //! A node: the stored tree in memory, a leaf or children in the order of their keys.
-ghost use Rattle.std.specs.Prelude.{◌≡◌, ◌≢◌, ◌<◌, ◌≤◌, true, ◌∷◌, [], length, min, map, All, IsOk, IfOk, option_map, slice_get, None};
+ghost use Rattle.std.specs.Prelude.{◌≡◌, ◌≢◌, ◌<◌, ◌≤◌, true, ◌∷◌, [], length, min, map, count_by, All, IsOk, IfOk, option_map, slice_get, None};
 ghost use Rattle.std.specs.List.{AllByRecursion};
 ghost use Rattle.std.specs.List.Sorted.{IsSearchInRange, IsBinarySearchResult};
+ghost use Rattle.std.specs.Ordering.{is_lt};
 ghost use Rattle.std.specs.FinMap.{is_sorted};
 ghost use Rattle.std.specs.FinMap as map_of;
 ghost use Rattle.tree_model.specs.Key.{key_cmp};
@@ -33,6 +34,15 @@ pub(crate) enum Kind {
     Primitive(Leaf),
     // Ascending by the bytes of the keys, at least one.
     Parent(Vec<(Key, Node)>),
+}
+
+/// Where a key stands among the children of a node.
+#[derive(Clone, Copy)]
+pub struct Place<'a> {
+    /// The child of the key, if there is one.
+    pub child: Option<&'a Node>,
+    /// How many children stand before the key, whether there is one at it or not.
+    pub before: usize,
 }
 
 impl Model for Node {
@@ -103,7 +113,24 @@ impl Node {
     {
         match &self.kind {
             Kind::Primitive(_) => None,
-            Kind::Parent(children) => child_of(children, name),
+            Kind::Parent(children) => place_of(children, name).child,
+        }
+    }
+
+    /// The child of this key with how many children stand before the key, by one binary search: log w
+    /// of w children.
+    pub fn place(&self, name: &str) -> Place<'_>
+        ensures child { option_map (λ node. node.now) result.child
+            ≡ non_null (sub self.now (name.now ∷ [])) }
+        ensures before { result.before
+            ≡ count_by (λ key. is_lt (key_cmp key name.now)) (child_keys self.now) }
+    {
+        match &self.kind {
+            Kind::Primitive(_) => Place {
+                child: None,
+                before: 0,
+            },
+            Kind::Parent(children) => place_of(children, name),
         }
     }
 
@@ -127,6 +154,15 @@ impl Node {
         }
     }
 
+    /// The child at an index with its key, in the order of the keys, in constant time.
+    pub fn entry_at(&self, i: usize) -> Option<(&Key, &Node)>
+        ensures { option_map (λ entry. (entry.0.now, entry.1.now)) result
+            ≡ slice_get (map_of.entries (children self.now)) i }
+    {
+        let entry = self.children().get(i)?;
+        Some((&entry.0, &entry.1))
+    }
+
     /// The most keys above a primitive, in constant time.
     pub fn depth(&self) -> usize
         ensures { result ≡ depth self.now }
@@ -142,8 +178,8 @@ impl Node {
         self.count
     }
 
-    /// The same tree once more, in one pass: one growth for each text, each key and each list of
-    /// children.
+    /// The same tree once more, in one pass: one growth for each text, each long key and each list
+    /// of children.
     #[cycle(copy)]
     pub fn copy(&self, alloc: Global) -> Result<Node, NoMemory>
         ensures { IfOk result (λ node. node ≡ self.now) }
@@ -202,14 +238,22 @@ pub(crate) fn sizes_of(children: &Vec<(Key, Node)>) -> (usize, usize)
     (depth, count)
 }
 
-fn child_of<'a>(children: &'a Vec<(Key, Node)>, name: &str) -> Option<&'a Node>
+fn place_of<'a>(children: &'a Vec<(Key, Node)>, name: &str) -> Place<'a>
     requires { AreChildren children.now.items }
-    ensures { option_map (λ node. node.now) result
+    ensures child { option_map (λ node. node.now) result.child
         ≡ non_null (sub (graft children.now.items) (name.now ∷ [])) }
+    ensures before { result.before ≡ count_by (λ key. is_lt (key_cmp key name.now))
+        (map (λ child. child.0) children.now.items) }
 {
     match index_of(children, name) {
-        Ok(index) => Some(&children[index].1),
-        Err(_) => None,
+        Ok(index) => Place {
+            child: Some(&children[index].1),
+            before: index,
+        },
+        Err(index) => Place {
+            child: None,
+            before: index,
+        },
     }
 }
 

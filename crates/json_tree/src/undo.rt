@@ -52,7 +52,7 @@ impl Undo {
 }
 
 /// Puts a tree at a path of a stored tree, as [`put`] does, and gives what undoes it: a replaced tree is
-/// kept, not dropped. The keys that lead to what changes are copied, by one growth each and one for
+/// kept, not dropped. The keys that lead to what changes are copied, by one growth at most each and one for
 /// their list, before anything changes; so it takes the way down twice.
 pub fn put_with_undo(
     alloc: Global,

@@ -184,7 +184,7 @@ fn with_key<'a>(failure: Failure<'a>, key: &'a Key) -> Result<Failure<'a>, NoMem
     Ok(failure)
 }
 
-/// The place of a failure: a growth for the list and one for each key.
+/// The place of a failure: a growth for the list and one at most for each key.
 pub(crate) fn place_of(alloc: Global, keys: &[&Key]) -> Result<Path, NoMemory>
     requires { length keys.now ≤ most_keys }
     ensures { IfOk result (λ path. path ≡ map (λ key. key.now) (reverse keys.now)) }

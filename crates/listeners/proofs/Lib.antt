@@ -3,6 +3,7 @@ pub mod Numbers
 pub mod Orders
 pub mod Counts
 pub mod Edges
+pub mod Heards
 pub mod Keeping
 pub mod Listing
 pub mod Places

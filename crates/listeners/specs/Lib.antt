@@ -1,4 +1,6 @@
 pub mod Query
 pub mod Order
 pub mod Selection
+pub mod Table
+pub mod Listener
 pub mod Working

@@ -4,3 +4,4 @@ pub mod Said
 pub mod Numbers
 pub mod Ranks
 pub mod Items
+pub mod Heard

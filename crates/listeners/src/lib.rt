@@ -9,6 +9,7 @@ mod item;
 mod laws;
 mod limits;
 mod list_key;
+mod listener_id;
 mod members;
 mod number;
 mod order;
@@ -16,12 +17,17 @@ mod place;
 mod query;
 mod said;
 mod selection;
+mod table;
 
 pub use fault::QueryFault;
 pub use laws::{
     a_limit_bounds_the_selection, no_query_selects_the_whole, the_order_of_children,
     the_order_of_keys, the_order_of_values, what_a_query_selects,
 };
-pub use limits::{MAX_LIMIT, the_greatest_limit};
+pub use limits::{
+    MAX_ID_BYTES, MAX_LIMIT, MAX_LISTENERS, the_greatest_limit, the_limits_of_listeners,
+};
+pub use listener_id::ListenerId;
 pub use query::Query;
 pub use selection::select;
+pub use table::{AddFault, Listener, NoListener, Table};

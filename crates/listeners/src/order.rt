@@ -31,7 +31,7 @@ pub(crate) enum Limit {
 }
 
 impl ChildPath {
-    // The path of a text, by one growth for the list of its keys, one for each key, and those of the
+    // The path of a text, by one growth for the list of its keys, one at most for each key, and those of the
     // joined text.
     pub(crate) fn parse(alloc: Global, text: &str) -> Result<ChildPath, NoMemory>
         ensures { IfOk result (λ child. child.path ≡ segments text.now) }

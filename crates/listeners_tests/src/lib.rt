@@ -12,4 +12,6 @@ mod random;
 #[cfg(test)]
 mod reading;
 #[cfg(test)]
+mod tables;
+#[cfg(test)]
 mod worked;

@@ -15,7 +15,7 @@ use Rattle.messages.specs.declared.message.Verb.TheVariants as verbs
 use Rattle.messages.specs.declared.message.Wanted.{Wanted}
 use Rattle.messages.specs.declared.message.Wanted.TheVariants.{Step, SignIn, Deploy}
 use Rattle.messages.specs.declared.ask.Asked.{Asked}
-use Rattle.messages.specs.Message.{or_fault, unless_fault, value_of, form_members, verb_members, stamp_of, path_of, path_in, tree_of_value, write_at, writes_below, wanted_by, verb_in, request_of, asks}
+use Rattle.messages.specs.Message.{or_fault, unless_fault, value_of, form_members, verb_members, stamp_of, path_of, query_at, query_said, path_in, tree_of_value, write_at, writes_below, wanted_by, verb_in, request_of, asks}
 use Rattle.messages.specs.Ask.{ComesTo, IsAsked}
 
 -- an event that is wanted deploys rules files alone
@@ -41,7 +41,11 @@ wanted_plain verbs.Open d = tt
 wanted_plain verbs.Close d = tt
 wanted_plain verbs.SignIn d = in_turn IsPlain (or_fault BadRequest (text_at (codes "token") d)) _ (λ secret. tt)
 wanted_plain verbs.SignOut d = tt
-wanted_plain verbs.Get d = in_turn IsPlain (path_in d) _ (λ path. tt)
+wanted_plain verbs.Get d =
+    in_turn IsPlain (or_fault BadRequest (text_at (codes "path") d)) _ (λ text.
+    in_turn IsPlain (or_fault BadRequest (query_at d)) _ (λ said.
+    in_turn IsPlain (path_of text) _ (λ path.
+    in_turn IsPlain (query_said said) _ (λ query. tt))))
 wanted_plain verbs.Set d =
     in_turn IsPlain (or_fault BadRequest (text_at (codes "path") d)) _ (λ text.
     in_turn IsPlain (or_fault BadRequest (get (codes "value") d)) _ (λ value.

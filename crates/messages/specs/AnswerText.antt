@@ -37,6 +37,7 @@ number_of code.BadRequest = 102
 number_of code.BadPath = 103
 number_of code.BadValue = 104
 number_of code.TooDeep = 105
+number_of code.BadQuery = 106
 number_of code.EmptyUpdate = 107
 number_of code.Overlap = 108
 number_of code.TooLarge = 109
@@ -65,6 +66,7 @@ name_of code.BadRequest = codes "BadRequest"
 name_of code.BadPath = codes "BadPath"
 name_of code.BadValue = codes "BadValue"
 name_of code.TooDeep = codes "TooDeep"
+name_of code.BadQuery = codes "BadQuery"
 name_of code.EmptyUpdate = codes "EmptyUpdate"
 name_of code.Overlap = codes "Overlap"
 name_of code.TooLarge = codes "TooLarge"
@@ -159,6 +161,7 @@ message_code message_faults.BadRequest = code.BadRequest
 message_code message_faults.BadPath = code.BadPath
 message_code message_faults.BadValue = code.BadValue
 message_code message_faults.TooDeep = code.TooDeep
+message_code message_faults.BadQuery = code.BadQuery
 message_code message_faults.NoMemory = code.NoMemory
 
 -- the text of a fault of a message

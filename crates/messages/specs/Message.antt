@@ -1,6 +1,7 @@
 -- What a message asks, or its first fault.
 use Rattle.std.specs.Prelude.{◌≡◌, ℕ, ◌+◌, ◌⊎◌, List, [], ◌∷◌, ◌++◌, length, Bool, nat_le, if◌then◌else◌, codes, Option, Some, None, option_map, option_and_then, Result, Ok, Err, ⊤, ◌≤◌}
 use Rattle.std.specs.List.{list_all, list_any}
+use Rattle.std.specs.Option.{option_map_or}
 use Rattle.std.specs.Str.{is_utf8, bytes_eq}
 use Rattle.serde_json.specs.Data.{Data, null, boolean, number, string, array, object, Members, no_members, member}
 use Rattle.serde_json.specs.Find.{get, as_str, as_number, as_u64, as_object}
@@ -13,6 +14,7 @@ use Rattle.tree_model.specs.Tree.{Tree, null as no_tree}
 use Rattle.tree_model.specs.Write.{Write}
 use Rattle.json_tree.specs.Json.{is_lawful, of_json}
 use Rattle.path_capture.specs.Path.{segments}
+use Rattle.listeners.specs.Query.{Query, query_of}
 use Rattle.evaluator.specs.declared.env.TheConstants.{MAX_MOMENT}
 use Rattle.messages.specs.declared.limits.TheConstants.{MAX_MESSAGE_BYTES}
 use Rattle.tokens.specs.Tokens.{names_of, has_only, text_at, Tokens, tokens_of}
@@ -26,7 +28,7 @@ use Rattle.messages.specs.declared.message.Wanted.{Wanted}
 use Rattle.messages.specs.declared.message.Wanted.TheVariants.{Step, SignIn, Deploy}
 use Rattle.messages.specs.declared.message.Request.{Request}
 use Rattle.messages.specs.declared.message.MessageFault.{MessageFault}
-use Rattle.messages.specs.declared.message.MessageFault.TheVariants.{TooLarge, BadJson, BadRequest, BadPath, BadValue, TooDeep, NoMemory}
+use Rattle.messages.specs.declared.message.MessageFault.TheVariants.{TooLarge, BadJson, BadRequest, BadPath, BadValue, TooDeep, BadQuery, NoMemory}
 
 -- ---- one thing after another, up to the first fault
 
@@ -86,7 +88,7 @@ verb_members verbs.Open = []
 verb_members verbs.Close = []
 verb_members verbs.SignIn = codes "token" ∷ []
 verb_members verbs.SignOut = []
-verb_members verbs.Get = codes "path" ∷ []
+verb_members verbs.Get = codes "path" ∷ codes "query" ∷ []
 verb_members verbs.Set = codes "path" ∷ codes "value" ∷ []
 verb_members verbs.Remove = codes "path" ∷ []
 verb_members verbs.Update = codes "path" ∷ codes "values" ∷ []
@@ -135,13 +137,26 @@ writes_below path (member name d ms) =
 abbrev pub path_in : Data → Result Path MessageFault
 path_in d = unless_fault (or_fault BadRequest (text_at (codes "path") d)) (λ text. path_of text)
 
--- what is wanted by a verb: first the members, then the path, the value, and the write; of an update these of each member in turn
+-- the member `query`, which may be left out and else is an object
+abbrev pub query_at : Data → Option (Option Data)
+query_at d = option_map_or (λ said. option_map (λ members. Some said) (as_object said)) (get (codes "query") d) (Some None)
+
+-- the query that it is, if there is one
+abbrev pub query_said : Option Data → Result (Option Query) MessageFault
+query_said None = Ok None
+query_said (Some said) = or_fault BadQuery (option_map (λ query. Some query) (query_of said))
+
+-- what is wanted by a verb: first the members, then the path, the value, the write, and the query; of an update these of each member in turn
 abbrev pub wanted_by : Verb → Data → Result Wanted MessageFault
 wanted_by verbs.Open d = Ok (Step Open)
 wanted_by verbs.Close d = Ok (Step Close)
 wanted_by verbs.SignIn d = unless_fault (or_fault BadRequest (text_at (codes "token") d)) (λ secret. Ok (SignIn secret))
 wanted_by verbs.SignOut d = Ok (Step SignOut)
-wanted_by verbs.Get d = unless_fault (path_in d) (λ path. Ok (Step (Get path)))
+wanted_by verbs.Get d =
+    unless_fault (or_fault BadRequest (text_at (codes "path") d)) (λ text.
+    unless_fault (or_fault BadRequest (query_at d)) (λ said.
+    unless_fault (path_of text) (λ path.
+    unless_fault (query_said said) (λ query. Ok (Step (Get path query))))))
 wanted_by verbs.Set d =
     unless_fault (or_fault BadRequest (text_at (codes "path") d)) (λ text.
     unless_fault (or_fault BadRequest (get (codes "value") d)) (λ value.

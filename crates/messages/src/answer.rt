@@ -97,6 +97,7 @@ fn code_of_message(fault: MessageFault) -> Code
         MessageFault::BadPath => Code::BadPath,
         MessageFault::BadValue => Code::BadValue,
         MessageFault::TooDeep => Code::TooDeep,
+        MessageFault::BadQuery => Code::BadQuery,
         MessageFault::NoMemory => Code::NoMemory,
     }
 }

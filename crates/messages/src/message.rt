@@ -1,17 +1,18 @@
 //! Messages: what a line of a script or a message of a socket wants.
-ghost use Rattle.std.specs.Prelude.{◌≡◌, ◌≤◌, ◌++◌, ◌∷◌, [], option_map, IfOk, IfSome, OnOk};
+ghost use Rattle.std.specs.Prelude.{◌≡◌, ◌≤◌, ◌++◌, ◌∷◌, [], Some, option_map, IfOk, IfSome, OnOk};
 ghost use Rattle.std.specs.List.{list_all, list_any};
 ghost use Rattle.std.specs.Str.{bytes_eq};
 ghost use Rattle.serde_json.specs.View.{view, members_view};
 ghost use Rattle.path_capture.specs.Write.{tree_or_null};
 ghost use Rattle.tokens.specs.Tokens.{names_of, has_only, text_at};
-ghost use Rattle.messages.specs.Message.{Tells, value_of, whole_at, verb_named, verb_of, verb_in, form_members, verb_members, stamp_of, IsWithin, path_of, path_in, path_below, tree_of_value, write_at, write_below, writes_below, wanted_by, request_of, asks, or_fault};
+ghost use Rattle.messages.specs.Message.{Tells, value_of, whole_at, verb_named, verb_of, verb_in, form_members, verb_members, stamp_of, IsWithin, path_of, path_in, path_below, query_at, query_said, tree_of_value, write_at, write_below, writes_below, wanted_by, request_of, asks, or_fault};
 ghost use Rattle.messages.specs.declared.message.MessageFault.TheVariants.{BadRequest};
 ghost use Rattle.messages.specs.declared.message.MessageFault.TheVariants.{NoMemory as no_memory};
 ghost use Rattle.messages.specs.Working.Faults.{fault_of_path};
 
 use crate::limits::MAX_MESSAGE_BYTES;
 use json_tree::{NoMemory, Node, ValueFault, from_json};
+use listeners::{Query, QueryFault};
 use path_capture::{Path, PathFault, Write};
 use rtdb_core::{Event, MAX_MOMENT, Writes};
 use serde_json::{Map, Value};
@@ -121,6 +122,9 @@ pub enum MessageFault {
     /// The path, the value, or both together are over 32 keys deep.
     #[error("more than 32 keys deep")]
     TooDeep,
+    /// The query is none.
+    #[error("no lawful query")]
+    BadQuery,
     #[error("out of memory")]
     NoMemory,
 }
@@ -253,7 +257,8 @@ fn is_member(form: Form, verb: Verb, name: &str) -> bool
         || match verb {
             Verb::Open | Verb::Close | Verb::SignOut => false,
             Verb::SignIn => name == "token",
-            Verb::Get | Verb::Remove => name == "path",
+            Verb::Get => name == "path" || name == "query",
+            Verb::Remove => name == "path",
             Verb::Set => name == "path" || name == "value",
             Verb::Update => name == "path" || name == "values",
             Verb::Deploy => name == "rules",
@@ -305,10 +310,7 @@ fn wanted_by(alloc: Global, verb: Verb, value: &Value) -> Result<Wanted, Message
             Ok(Wanted::SignIn(secret))
         }
         Verb::SignOut => Ok(Wanted::Step(Event::SignOut)),
-        Verb::Get => {
-            let path = path_in(alloc, value)?;
-            Ok(Wanted::Step(Event::Get(path)))
-        }
+        Verb::Get => get_of(alloc, value),
         Verb::Set => set_of(alloc, value),
         Verb::Remove => {
             let path = path_in(alloc, value)?;
@@ -339,6 +341,53 @@ fn path_in(alloc: Global, value: &Value) -> Result<Path, MessageFault>
         return Err(MessageFault::BadRequest);
     };
     path_of(alloc, text)
+}
+
+fn get_of(alloc: Global, value: &Value) -> Result<Wanted, MessageFault>
+    ensures { Tells (λ wanted. wanted) result (wanted_by Verb.Get (view value.now)) }
+{
+    let Some(text) = text_at(value, "path") else {
+        return Err(MessageFault::BadRequest);
+    };
+    let Some(said) = query_at(value) else {
+        return Err(MessageFault::BadRequest);
+    };
+    let path = path_of(alloc, text)?;
+    let query = query_said(alloc, said)?;
+    Ok(Wanted::Step(Event::Get(path, query)))
+}
+
+// The member `query`, None inside where it is left out.
+fn query_at(value: &Value) -> Option<Option<&Value>>
+    ensures { option_map (λ said. option_map (λ query. view query.now) said) result ≡ query_at (view value.now) }
+{
+    match value.get("query") {
+        Some(said) => if said.is_object() {
+            Some(Some(said))
+        } else {
+            None
+        },
+        None => Some(None),
+    }
+}
+
+fn query_said(alloc: Global, said: Option<&Value>) -> Result<Option<Query>, MessageFault>
+    ensures { Tells (λ query. query) result (query_said (option_map (λ query. view query.now) said.entry)) }
+{
+    match said {
+        Some(value) => query_of(alloc, value),
+        None => Ok(None),
+    }
+}
+
+fn query_of(alloc: Global, value: &Value) -> Result<Option<Query>, MessageFault>
+    ensures { Tells (λ query. query) result (query_said (Some (view value.now))) }
+{
+    match Query::from_json(alloc, value) {
+        Ok(query) => Ok(Some(query)),
+        Err(QueryFault::BadQuery) => Err(MessageFault::BadQuery),
+        Err(QueryFault::NoMemory) => Err(MessageFault::NoMemory),
+    }
 }
 
 fn set_of(alloc: Global, value: &Value) -> Result<Wanted, MessageFault>

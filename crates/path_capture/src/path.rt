@@ -64,7 +64,7 @@ impl Path {
 
     /// The path of a text: its segments between slashes, of which empty ones are dropped. One pass
     /// tests the text before anything grows; a second makes the path, by one growth for the list
-    /// and one for each key. (This project's profile.)
+    /// and one at most for each key. (This project's profile.)
     pub fn parse(alloc: Global, text: &str) -> Result<Path, PathFault>
         ensures ok { IfOk result (λ path. path ≡ segments text.now) }
 
@@ -133,7 +133,7 @@ impl Path {
         print_keys(alloc, self.keys())
     }
 
-    /// The same path once more, by one growth for the list and one for each key.
+    /// The same path once more, by one growth for the list and one at most for each key.
     pub fn copy(&self, alloc: Global) -> Result<Path, NoMemory>
         ensures { IfOk result (λ path. path ≡ self.now) }
     {

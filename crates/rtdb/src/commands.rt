@@ -3,7 +3,7 @@ ghost use Rattle.std.specs.Prelude.{◌≡◌, None};
 
 use crate::command::command;
 use crate::files::{Files, ReadFault};
-use crate::memory::{Full, Pieces, Written};
+use sessions::{Reading, Writing};
 use std::alloc::{AllocError, Global};
 use std::io;
 use std::test::Fail;
@@ -52,18 +52,43 @@ impl Files for Shelf {
     }
 }
 
-/// What was told of faults.
+/// An input that is read a few bytes at a time.
 #[derive(Drop)]
-struct Told {
-    bytes: Vec<u8>,
+struct Pieces<'a> {
+    text: &'a [u8],
 }
 
-impl io::Write for Told {
+impl<'a> io::Read for Pieces<'a> {
+    fn read(&mut self, buffer: &mut [u8]) -> io::Result<usize> {
+        let count = self.text.len().min(buffer.len()).min(7);
+        let (piece, rest) = self.text.split_at(count);
+        buffer[..count].copy_from_slice(piece);
+        self.text = rest;
+        Ok(count)
+    }
+}
+
+/// What was printed, or told of faults: at most so many bytes, after which a write fails.
+#[derive(Drop)]
+struct Printed {
+    bytes: Vec<u8>,
+    room: usize,
+}
+
+impl Printed {
+    fn new(bytes: Vec<u8>, room: usize) -> Printed {
+        Printed { bytes, room }
+    }
+}
+
+impl io::Write for Printed {
     fn write(&mut self, text: &[u8]) -> io::Result<usize> {
-        match self.bytes.extend_from_slice(text) {
-            Ok(()) => Ok(text.len()),
-            Err(_) => Err(io::Error::from(io::ErrorKind::OutOfMemory)),
+        let count = text.len().min(self.room);
+        if self.bytes.extend_from_slice(&text[..count]).is_err() {
+            return Err(io::Error::from(io::ErrorKind::OutOfMemory));
         }
+        self.room -= count;
+        Ok(count)
     }
 
     fn flush(&mut self) -> io::Result<()> {
@@ -239,13 +264,12 @@ fn words_of(alloc: Global, row: &Row) -> Result<Vec<String>, AllocError> {
 // What a row's words, input and output come to, where that is not as the row says.
 fn other(alloc: Global, row: &Row) -> Result<String, Fail> {
     let words = words_of(alloc, row)?;
-    let mut input = Pieces::new(row.1, 7, u64::MAX);
-    let mut output = Written::new(Vec::new(alloc), 1000, row.2, Full::Fails);
-    let mut told = Told {
-        bytes: Vec::new(alloc),
-    };
+    let mut printed = Printed::new(Vec::new(alloc), row.2);
+    let mut told = Printed::new(Vec::new(alloc), usize::MAX);
+    let mut input = Reading::new(Pieces { text: row.1 });
+    let mut output = Writing::new(&mut printed);
     let status = command(alloc, &words, &Shelf, &mut input, &mut output, &mut told);
-    let same = output.bytes.as_slice() == row.3.as_bytes()
+    let same = printed.bytes.as_slice() == row.3.as_bytes()
         && told.bytes.as_slice() == row.4.as_bytes();
     if same && status == row.5 {
         return Ok(String::new(alloc));

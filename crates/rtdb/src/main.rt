@@ -12,17 +12,7 @@ mod command;
 mod commands;
 mod files;
 mod line;
-#[cfg(test)]
-mod memory;
-#[cfg(test)]
-mod parts;
-#[cfg(test)]
-mod rows;
-#[cfg(test)]
-mod tests;
 mod wanted;
-#[cfg(test)]
-mod worked;
 
 use command::{BAD_LINE, NO_MEMORY, command};
 use files::SystemFiles;

@@ -8,12 +8,13 @@ use Rattle.tree_model.specs.Path.{Path}
 use Rattle.tree_model.specs.PathMap.{sub}
 use Rattle.tree_model.specs.Tree.{Tree, non_null, count}
 use Rattle.tree_model.specs.Write.{Write, overlaps}
-use Rattle.evaluator.specs.Asked.{no_query}
 use Rattle.judge.specs.declared.verdict.Verdict.{Verdict}
 use Rattle.judge.specs.declared.verdict.Verdict.TheVariants as verdicts
 use Rattle.judge.specs.Tests.{read_verdict}
 use Rattle.evaluator.specs.Identity.{Identity}
 use Rattle.rules_reader.specs.Book.{Book}
+use Rattle.listeners.specs.Query.{Query}
+use Rattle.listeners.specs.Selection.{selection}
 use Rattle.rtdb_core.specs.Headline.{is_done, rules_by, identity_by}
 use Rattle.rtdb_core.specs.declared.limits.TheConstants.{MAX_SESSIONS, MAX_LOCATIONS}
 use Rattle.rtdb_core.specs.declared.event.Event.{Event}
@@ -23,7 +24,7 @@ use Rattle.rtdb_core.specs.declared.reply.Refusal.TheVariants.{SessionOpen, TooM
 use Rattle.rtdb_core.specs.declared.reply.Reply.{Reply}
 use Rattle.rtdb_core.specs.declared.reply.Reply.TheVariants.{Done, Value, Refused}
 use Rattle.rtdb_core.specs.State.{Session, Sessions, State, fresh, is_open, identity_of, listeners_of, is_admin, scene_at}
-use Rattle.rtdb_core.specs.Step.{Outcome, refused, unless_refused, denial, full, or_full, tree_with, verdict_on, write_refusal, read_refusal, opened, opens, closed, closes, signed, signs, deployed, deploys, value_at, gets, written_to, makes, sets, removal, updates, outcome}
+use Rattle.rtdb_core.specs.Step.{asked_for, Outcome, refused, unless_refused, denial, full, or_full, tree_with, verdict_on, write_refusal, read_refusal, opened, opens, closed, closes, signed, signs, deployed, deploys, value_at, gets, written_to, makes, sets, removal, updates, outcome}
 
 -- who is signed in on each session after an event of one that was answered so
 abbrev SignsOnly : State → ℕ → Event → Outcome → Type 0
@@ -97,9 +98,9 @@ write_wants_none : (old : State) (now session : ℕ) (writes : List Write) → W
 unfolding write_refusal
 write_wants_none old now session writes = or_full_wants_none (denial (verdict_on old now session writes)) (tree_with old writes) (denial_wants_none (verdict_on old now session writes))
 
-read_wants_none : (old : State) (now session : ℕ) (path : Path) → WantsNone (read_refusal old now session path)
+read_wants_none : (old : State) (now session : ℕ) (path : Path) (query : Option Query) → WantsNone (read_refusal old now session path query)
 unfolding read_refusal
-read_wants_none old now session path = denial_wants_none (read_verdict (scene_at old now session) no_query path)
+read_wants_none old now session path query = denial_wants_none (read_verdict (scene_at old now session) (asked_for query) path)
 
 unless : (old : State) (session : ℕ) (event : Event) (o : Option Refusal) (other : Outcome) → WantsNone o → IsFine old session event other → IsFine old session event (unless_refused old o other)
 unless old session event None other h g = g
@@ -130,10 +131,10 @@ module _ (old : State) (session : ℕ) where
       after : Session
       after = record { identity = who; listeners = listeners_of old session }
 
-  fine_get : (now : ℕ) (path : Path) → IsFine old session (Get path) (gets old now session path)
-  fine_get now path =
-      either old session (Get path) (not (is_open old session)) _ _ (closed_refused (Get path))
-      (unless old session (Get path) (read_refusal old now session path) (value_at old path) (read_wants_none old now session path) (fine_value old session (Get path) (non_null (sub old.tree path))))
+  fine_get : (now : ℕ) (path : Path) (query : Option Query) → IsFine old session (Get path query) (gets old now session path query)
+  fine_get now path query =
+      either old session (Get path query) (not (is_open old session)) _ _ (closed_refused (Get path query))
+      (unless old session (Get path query) (read_refusal old now session path query) (value_at old path query) (read_wants_none old now session path query) (fine_value old session (Get path query) (non_null (selection (sub old.tree path) query))))
 
   fine_makes : (now : ℕ) (event : Event) (writes : List Write) → rules_by event old.rules ≡ old.rules → ((before : Option Identity) → identity_by event before ≡ before) → IsFine old session event (makes old now session writes)
   fine_makes now event writes keeps leaves =
@@ -161,7 +162,7 @@ fine old now session Open = fine_open old session
 fine old now session Close = fine_close old session
 fine old now session (SignIn who) = fine_sign old session (SignIn who) (Some who) refl (λ _. refl)
 fine old now session SignOut = fine_sign old session SignOut None refl (λ _. refl)
-fine old now session (Get path) = fine_get old session now path
+fine old now session (Get path query) = fine_get old session now path query
 fine old now session (Set write) = fine_set old session now (Set write) write refl (λ _. refl)
 fine old now session (Remove path) = fine_set old session now (Remove path) (removal path) refl (λ _. refl)
 fine old now session (Update writes) = fine_update old session now writes

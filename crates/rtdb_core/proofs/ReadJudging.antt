@@ -4,25 +4,26 @@ use Rattle.std.proofs.lemmas.Bool.{false≢true}
 use Rattle.tree_model.specs.Path.{Path}
 use Rattle.tree_model.specs.PathMap.{sub}
 use Rattle.tree_model.specs.Tree.{Tree, non_null}
-use Rattle.evaluator.specs.Asked.{no_query}
 use Rattle.judge.specs.declared.verdict.Named.{Named}
 use Rattle.judge.specs.declared.verdict.Verdict.{Verdict}
 use Rattle.judge.specs.declared.verdict.Verdict.TheVariants as verdicts
 use Rattle.judge.specs.Judging.{IsReadVerdict}
 use Rattle.judge.specs.Tests.{read_verdict}
 use Rattle.judge.proofs.Verdicts.{reads_decided}
+use Rattle.listeners.specs.Query.{Query}
+use Rattle.listeners.specs.Selection.{selection}
 use Rattle.rtdb_core.specs.declared.reply.Refusal.TheVariants.{NoSession, ReadDenied, NoMemory}
 use Rattle.rtdb_core.specs.declared.reply.Reply.TheVariants.{Value, Refused}
 use Rattle.rtdb_core.specs.State.{State, is_open, scene_at}
-use Rattle.rtdb_core.specs.Step.{Outcome, refused, unless_refused, denial, read_refusal, value_at, gets}
+use Rattle.rtdb_core.specs.Step.{asked_for, Outcome, refused, unless_refused, denial, read_refusal, value_at, gets}
 use Rattle.rtdb_core.specs.Headline.{GrantsRead, named_for_read, IsReadJudged}
 
-module _ (old : State) (now session : ℕ) (path : Path) where
+module _ (old : State) (now session : ℕ) (path : Path) (query : Option Query) where
   abbrev pub ReadJudged : Outcome → Type 0
-  ReadJudged o = IsReadJudged old now session path o.reply o.after
+  ReadJudged o = IsReadJudged old now session path query o.reply o.after
 
   abbrev names : List Named
-  names = named_for_read old now session path
+  names = named_for_read old now session path query
 
   read_closed : is_open old session ≡ false → ReadJudged (refused old NoSession)
   read_closed closed = record {
@@ -33,7 +34,7 @@ module _ (old : State) (now session : ℕ) (path : Path) where
     stays = refl;
   }
 
-  read_denied : is_open old session ≡ true → ¬ (GrantsRead old now session path) → ReadJudged (refused old (ReadDenied names))
+  read_denied : is_open old session ≡ true → ¬ (GrantsRead old now session path query) → ReadJudged (refused old (ReadDenied names))
   read_denied opened none = record {
     grants = λ _ _ g. absurd (none g);
     denies = λ _ _ _. refl;
@@ -45,7 +46,7 @@ module _ (old : State) (now session : ℕ) (path : Path) where
       same : (named : List Named) → Refused (ReadDenied names) ≡ Refused (ReadDenied named) → names ≡ named
       same named e = cc
 
-  read_granted : is_open old session ≡ true → GrantsRead old now session path → ReadJudged (value_at old path)
+  read_granted : is_open old session ≡ true → GrantsRead old now session path query → ReadJudged (value_at old path query)
   read_granted opened g = record {
     grants = λ _ _ _. refl;
     denies = λ _ _ none. absurd (none g);
@@ -54,7 +55,7 @@ module _ (old : State) (now session : ℕ) (path : Path) where
     stays = refl;
   }
     where
-      same : (tree : Option Tree) → Value (non_null (sub old.tree path)) ≡ Value tree → non_null (sub old.tree path) ≡ tree
+      same : (tree : Option Tree) → Value (non_null (selection (sub old.tree path) query)) ≡ Value tree → non_null (selection (sub old.tree path) query) ≡ tree
       same tree e = cc
 
   pub read_for_memory : ReadJudged (refused old NoMemory)
@@ -66,19 +67,19 @@ module _ (old : State) (now session : ℕ) (path : Path) where
     stays = refl;
   }
 
-  read_by : is_open old session ≡ true → (v : Verdict) → IsReadVerdict (scene_at old now session) no_query path v → ReadJudged (unless_refused old (denial v) (value_at old path))
+  read_by : is_open old session ≡ true → (v : Verdict) → IsReadVerdict (scene_at old now session) (asked_for query) path v → ReadJudged (unless_refused old (denial v) (value_at old path query))
   read_by opened verdicts.Granted h = read_granted opened h
   read_by opened (verdicts.ReadDenied named) h = subst (λ (ns : List Named). ReadJudged (refused old (ReadDenied ns))) (sym h.1) (read_denied opened h.0)
   read_by opened (verdicts.WriteDenied at named) h = absurd h
   read_by opened (verdicts.ValidateDenied at pattern why) h = absurd h
 
-  read_open : is_open old session ≡ true → ReadJudged (unless_refused old (read_refusal old now session path) (value_at old path))
+  read_open : is_open old session ≡ true → ReadJudged (unless_refused old (read_refusal old now session path query) (value_at old path query))
   unfolding read_refusal
-  read_open opened = read_by opened (read_verdict (scene_at old now session) no_query path) ((reads_decided (scene_at old now session) no_query path (read_verdict (scene_at old now session) no_query path)).0 refl)
+  read_open opened = read_by opened (read_verdict (scene_at old now session) (asked_for query) path) ((reads_decided (scene_at old now session) (asked_for query) path (read_verdict (scene_at old now session) (asked_for query) path)).0 refl)
 
-  pub read_judged : ReadJudged (gets old now session path)
+  pub read_judged : ReadJudged (gets old now session path query)
   read_judged = by_session (is_open old session) refl
     where
-      by_session : (b : Bool) → is_open old session ≡ b → ReadJudged (cond (not b) (refused old NoSession) (unless_refused old (read_refusal old now session path) (value_at old path)))
+      by_session : (b : Bool) → is_open old session ≡ b → ReadJudged (cond (not b) (refused old NoSession) (unless_refused old (read_refusal old now session path query) (value_at old path query)))
       by_session true e = read_open e
       by_session false e = read_closed e

@@ -7,22 +7,23 @@ use Rattle.tree_model.specs.Write.{Write, location, proposed}
 use Rattle.path_capture.specs.Write.{tree_or_null}
 use Rattle.arena_snapshot.specs.View.{node_or_null}
 use Rattle.rules_reader.specs.Place.{HasOneCapture}
-use Rattle.evaluator.specs.Asked.{Asked, no_query}
+use Rattle.evaluator.specs.Asked.{Asked}
 use Rattle.judge.specs.Question.{Scene}
 use Rattle.judge.specs.Judging.{IsReadVerdict, IsWriteVerdict}
 use Rattle.judge.specs.Tests.{read_verdict}
 use Rattle.judge.specs.declared.verdict.Verdict.{Verdict}
 use Rattle.judge.proofs.Coming.{is_proposed}
 use Rattle.judge.proofs.Verdicts.{reads_decided, one_verdict}
+use Rattle.listeners.specs.Query.{Query}
 use Rattle.rtdb_core.specs.declared.reply.Refusal.{Refusal}
 use Rattle.rtdb_core.specs.State.{State, scene_at}
-use Rattle.rtdb_core.specs.Step.{denial, full, or_full, tree_with, verdict_on, read_refusal, write_refusal}
+use Rattle.rtdb_core.specs.Step.{asked_for, denial, full, or_full, tree_with, verdict_on, read_refusal, write_refusal}
 
 -- ---- reads
 
-pub read_is : (old : State) (now session : ℕ) (scene : Scene) (asked : Asked) (path : Path) (v : Verdict) → scene ≡ scene_at old now session → asked ≡ no_query → IsReadVerdict scene asked path v → denial v ≡ read_refusal old now session path
+pub read_is : (old : State) (now session : ℕ) (scene : Scene) (asked : Asked) (path : Path) (query : Option Query) (v : Verdict) → scene ≡ scene_at old now session → asked ≡ asked_for query → IsReadVerdict scene asked path v → denial v ≡ read_refusal old now session path query
 unfolding read_refusal
-read_is old now session scene asked path v same none h =
+read_is old now session scene asked path query v same none h =
     ap denial ((reads_decided scene asked path v).1 h ∙ (λ i. read_verdict (same i) (none i) path))
 
 -- ---- writes

@@ -1,9 +1,10 @@
 -- What each step gives.
-use Rattle.std.proofs.Common.{◌≡◌, ◌≢◌, ◌==◌, ◌&&◌, ℕ, cond, inl, inr, List, [], ◌∷◌, refl, sym, ap, subst, ◌∙◌}
+use Rattle.std.proofs.Common.{Option, ◌≡◌, ◌≢◌, ◌==◌, ◌&&◌, ℕ, cond, inl, inr, List, [], ◌∷◌, refl, sym, ap, subst, ◌∙◌}
 use Rattle.tree_model.specs.Path.{Path}
 use Rattle.tree_model.specs.Write.{Write}
 use Rattle.rules_reader.specs.Book.{Book}
 use Rattle.rules_reader.specs.Place.{HasOneCapture}
+use Rattle.listeners.specs.Query.{Query}
 use Rattle.rtdb_core.specs.declared.event.Event.{Event}
 use Rattle.rtdb_core.specs.declared.event.Event.TheVariants.{Open, Close, SignIn, SignOut, Get, Set, Remove, Update, Deploy}
 use Rattle.rtdb_core.specs.declared.reply.Refusal.{Refusal}
@@ -60,10 +61,10 @@ one_answer old new other now session event reply another n m s t =
 for_memory : (old new : State) (reply : Reply) → reply ≡ Refused NoMemory → new ≡ old → ◌≡◌ {A = Outcome} (refused old NoMemory) (record { reply = reply; after = new })
 for_memory old new reply r n = λ i. record { reply = sym r i; after = sym n i }
 
-read_by : (old new : State) (now session : ℕ) (path : Path) (reply : Reply) → Step old now session (Get path) reply new → IsReadJudged old now session path reply new
+read_by : (old new : State) (now session : ℕ) (path : Path) (query : Option Query) (reply : Reply) → Step old now session (Get path query) reply new → IsReadJudged old now session path query reply new
 unfolding Step
-read_by old new now session path reply (inl h) = subst (ReadJudged old now session path) h (read_judged old now session path)
-read_by old new now session path reply (inr h) = subst (ReadJudged old now session path) (for_memory old new reply h.0 h.1) (read_for_memory old now session path)
+read_by old new now session path query reply (inl h) = subst (ReadJudged old now session path query) h (read_judged old now session path query)
+read_by old new now session path query reply (inr h) = subst (ReadJudged old now session path query) (for_memory old new reply h.0 h.1) (read_for_memory old now session path query)
 
 -- where the outcome of an event is that its writes are judged, so is its step
 step_judged : (old new : State) (now session : ℕ) (event : Event) (all : List Write) (reply : Reply) → WriteJudged old now session all (outcome old now session event) → Step old now session event reply new → IsWriteJudged old now session all reply new
@@ -83,7 +84,7 @@ write_judged old now session Close all one asks = absurd asks
 write_judged old now session (SignIn who) all one asks = absurd asks
 write_judged old now session SignOut all one asks = absurd asks
 write_judged old now session (Deploy rules) all one asks = absurd asks
-write_judged old now session (Get path) all one asks = absurd asks
+write_judged old now session (Get path query) all one asks = absurd asks
 write_judged old now session (Set write) all one asks = subst (λ (ws : List Write). WriteJudged old now session ws (outcome old now session (Set write))) (sym asks) (set_judged old now session write one)
 write_judged old now session (Remove path) all one asks = subst (λ (ws : List Write). WriteJudged old now session ws (outcome old now session (Remove path))) (sym asks) (set_judged old now session (removal path) one)
 write_judged old now session (Update writes) all one asks = subst (λ (ws : List Write). WriteJudged old now session ws (outcome old now session (Update writes))) (sym asks) (update_judged old now session writes one)
@@ -95,7 +96,7 @@ at_event old new call reply s event is = subst (λ (e : Event). Step old call.no
 pub judged : (old new : State) (call : Call) (reply : Reply) → HasOneCapture old.rules → Step old call.now call.session call.event reply new → IsJudged old call reply new
 judged old new call reply one s = record {
   step = s;
-  read = λ path is. read_by old new call.now call.session path reply (at_event old new call reply s _ is);
+  read = λ path query is. read_by old new call.now call.session path query reply (at_event old new call reply s _ is);
   write = λ all asks. step_judged old new call.now call.session call.event all reply (write_judged old call.now call.session call.event all one asks) s;
   deploy = λ rules is. deployed_by old new call.now call.session rules reply (at_event old new call reply s _ is);
   refused = λ refusal told. refused_stays old new call.now call.session call.event refusal (subst (λ (r : Reply). Step old call.now call.session call.event r new) told s);

@@ -8,7 +8,8 @@ use Rattle.path_capture.specs.Pattern as parts
 use Rattle.path_capture.specs.Pattern.{part_of_text}
 use Rattle.rules_reader.specs.Part.{Pattern, texts}
 use Rattle.rules_reader.specs.declared.kind.Kind.TheVariants.{Read as read_rules, Write as write_rules}
-use Rattle.evaluator.specs.Asked.{no_query}
+use Rattle.listeners.specs.Query.{Query}
+use Rattle.listeners.specs.Selection.{selection}
 use Rattle.evaluator.specs.Identity.{Identity}
 use Rattle.rules_reader.specs.Book.{Book}
 use Rattle.rules_reader.specs.Place.{HasOneCapture}
@@ -26,24 +27,24 @@ use Rattle.rtdb_core.specs.declared.reply.Refusal.TheVariants.{NotAdmin, ReadDen
 use Rattle.rtdb_core.specs.declared.reply.Reply.{Reply}
 use Rattle.rtdb_core.specs.declared.reply.Reply.TheVariants.{Done, Value, Refused}
 use Rattle.rtdb_core.specs.State.{State, is_open, identity_of, is_admin, scene_at}
-use Rattle.rtdb_core.specs.Step.{Step, Call, Run, removal, tree_with, written_to, deployed}
+use Rattle.rtdb_core.specs.Step.{Step, asked_for, Call, Run, removal, tree_with, written_to, deployed}
 
 -- ---- reads
 
--- the rules in force grant this session a read of the path at this moment, for who is signed in on it: a `.read` holds at it or at a prefix of it. (Guide "Core syntax", `.read` and `.write` rules cascade.)
-abbrev pub GrantsRead : State → ℕ → ℕ → Path → Type 0
-GrantsRead before now session path = MayRead (scene_at before now session) no_query path
+-- the rules in force grant this session a read of the path, with this query, at this moment, for who is signed in on it: a `.read` holds at it or at a prefix of it. (Guide "Core syntax", `.read` and `.write` rules cascade.)
+abbrev pub GrantsRead : State → ℕ → ℕ → Path → Option Query → Type 0
+GrantsRead before now session path query = MayRead (scene_at before now session) (asked_for query) path
 
 -- the `.read` rules at the path and its prefixes, each with the reason why it does not hold
-abbrev pub named_for_read : State → ℕ → ℕ → Path → List Named
-named_for_read before now session path = named_rules (reading (scene_at before now session) no_query) read_rules path
+abbrev pub named_for_read : State → ℕ → ℕ → Path → Option Query → List Named
+named_for_read before now session path query = named_rules (reading (scene_at before now session) (asked_for query)) read_rules path
 
--- A read of an open session is answered by what stands there where it is granted, and denied with the names of its rules where it is not, but for want of memory; never the other way; and it changes nothing. (Guide "Core syntax", `.read` and `.write` rules cascade; the names are this project's profile.)
-pub record IsReadJudged (before : State) (now session : ℕ) (path : Path) (reply : Reply) (after : State) : Type 0 where
-  pub grants : reply ≢ Refused NoMemory → is_open before session ≡ true → GrantsRead before now session path → reply ≡ Value (non_null (sub before.tree path))
-  pub denies : reply ≢ Refused NoMemory → is_open before session ≡ true → ¬ (GrantsRead before now session path) → reply ≡ Refused (ReadDenied (named_for_read before now session path))
-  pub granted : (tree : Option Tree) → reply ≡ Value tree → (is_open before session ≡ true) × GrantsRead before now session path × (tree ≡ non_null (sub before.tree path))
-  pub denied : (named : List Named) → reply ≡ Refused (ReadDenied named) → (is_open before session ≡ true) × ¬ (GrantsRead before now session path) × (named ≡ named_for_read before now session path)
+-- A read of an open session is answered by what its query selects of what stands there (without a query by all of it) where it is granted, and denied with the names of its rules where it is not, but for want of memory; never the other way; and it changes nothing. (Guide "Core syntax", `.read` and `.write` rules cascade; the names are this project's profile.)
+pub record IsReadJudged (before : State) (now session : ℕ) (path : Path) (query : Option Query) (reply : Reply) (after : State) : Type 0 where
+  pub grants : reply ≢ Refused NoMemory → is_open before session ≡ true → GrantsRead before now session path query → reply ≡ Value (non_null (selection (sub before.tree path) query))
+  pub denies : reply ≢ Refused NoMemory → is_open before session ≡ true → ¬ (GrantsRead before now session path query) → reply ≡ Refused (ReadDenied (named_for_read before now session path query))
+  pub granted : (tree : Option Tree) → reply ≡ Value tree → (is_open before session ≡ true) × GrantsRead before now session path query × (tree ≡ non_null (selection (sub before.tree path) query))
+  pub denied : (named : List Named) → reply ≡ Refused (ReadDenied named) → (is_open before session ≡ true) × ¬ (GrantsRead before now session path query) × (named ≡ named_for_read before now session path query)
   pub stays : after ≡ before
 
 -- ---- writes
@@ -54,7 +55,7 @@ AsksFor Open writes = ⊥
 AsksFor Close writes = ⊥
 AsksFor (SignIn who) writes = ⊥
 AsksFor SignOut writes = ⊥
-AsksFor (Get path) writes = ⊥
+AsksFor (Get path query) writes = ⊥
 AsksFor (Set write) writes = writes ≡ write ∷ []
 AsksFor (Remove path) writes = writes ≡ removal path ∷ []
 AsksFor (Update all) writes = writes ≡ all
@@ -127,7 +128,7 @@ rules_by Open rules = rules
 rules_by Close rules = rules
 rules_by (SignIn who) rules = rules
 rules_by SignOut rules = rules
-rules_by (Get path) rules = rules
+rules_by (Get path query) rules = rules
 rules_by (Set write) rules = rules
 rules_by (Remove path) rules = rules
 rules_by (Update writes) rules = rules
@@ -139,7 +140,7 @@ identity_by Open who = None
 identity_by Close who = None
 identity_by (SignIn new) who = Some new
 identity_by SignOut who = None
-identity_by (Get path) who = who
+identity_by (Get path query) who = who
 identity_by (Set write) who = who
 identity_by (Remove path) who = who
 identity_by (Update writes) who = who
@@ -163,7 +164,7 @@ DeploysFile Open = ⊤
 DeploysFile Close = ⊤
 DeploysFile (SignIn who) = ⊤
 DeploysFile SignOut = ⊤
-DeploysFile (Get path) = ⊤
+DeploysFile (Get path query) = ⊤
 DeploysFile (Set write) = ⊤
 DeploysFile (Remove path) = ⊤
 DeploysFile (Update writes) = ⊤
@@ -179,7 +180,7 @@ DeployFiles (call ∷ calls) = DeploysFile call.event × DeployFiles calls
 -- What a call is answered, by the rules in force before it: it is a step; reads, writes and deployments are judged; a refused call changes nothing.
 pub record IsJudged (before : State) (call : Call) (reply : Reply) (after : State) : Type 0 where
   pub step : Step before call.now call.session call.event reply after
-  pub read : (path : Path) → call.event ≡ Get path → IsReadJudged before call.now call.session path reply after
+  pub read : (path : Path) (query : Option Query) → call.event ≡ Get path query → IsReadJudged before call.now call.session path query reply after
   pub write : (writes : List Write) → AsksFor call.event writes → IsWriteJudged before call.now call.session writes reply after
   pub deploy : (rules : Book) → call.event ≡ Deploy rules → IsDeployJudged before call.session rules reply after
   pub refused : (refusal : Refusal) → reply ≡ Refused refusal → after ≡ before

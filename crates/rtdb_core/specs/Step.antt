@@ -5,8 +5,10 @@ use Rattle.tree_model.specs.Path.{Path}
 use Rattle.tree_model.specs.PathMap.{sub}
 use Rattle.tree_model.specs.Tree.{Tree, null, non_null, count}
 use Rattle.tree_model.specs.Write.{Write, location, overlaps, proposed}
-use Rattle.evaluator.specs.Asked.{no_query}
+use Rattle.evaluator.specs.Asked.{Asked, no_query}
 use Rattle.evaluator.specs.Identity.{Identity}
+use Rattle.listeners.specs.Query.{Query, asked_by}
+use Rattle.listeners.specs.Selection.{selection}
 use Rattle.rules_reader.specs.Book.{Book}
 use Rattle.judge.specs.declared.verdict.Verdict.{Verdict}
 use Rattle.judge.specs.declared.verdict.Verdict.TheVariants as verdicts
@@ -64,9 +66,14 @@ or_full None tree = full tree
 unfoldable pub write_refusal : State → ℕ → ℕ → List Write → Option Refusal
 write_refusal old now session writes = or_full (denial (verdict_on old now session writes)) (tree_with old writes)
 
+-- what a rule sees of the query of a read, if it has one
+abbrev pub asked_for : Option Query → Asked
+asked_for None = no_query
+asked_for (Some query) = asked_by query
+
 -- why a read is refused, if it is
-unfoldable pub read_refusal : State → ℕ → ℕ → Path → Option Refusal
-read_refusal old now session path = denial (read_verdict (scene_at old now session) no_query path)
+unfoldable pub read_refusal : State → ℕ → ℕ → Path → Option Query → Option Refusal
+read_refusal old now session path query = denial (read_verdict (scene_at old now session) (asked_for query) path)
 
 -- ---- each event: its refusals in their order, of which the first that applies is answered, else the success. (This project's profile.)
 
@@ -98,14 +105,14 @@ signs old session who =
     if not (is_open old session) then refused old NoSession
     else record { reply = Done; after = signed old session who }
 
--- what stands at the path
-abbrev pub value_at : State → Path → Outcome
-value_at old path = record { reply = Value (non_null (sub old.tree path)); after = old }
+-- what the query selects of what stands at the path; without a query all of it
+abbrev pub value_at : State → Path → Option Query → Outcome
+value_at old path query = record { reply = Value (non_null (selection (sub old.tree path) query)); after = old }
 
-abbrev pub gets : State → ℕ → ℕ → Path → Outcome
-gets old now session path =
+abbrev pub gets : State → ℕ → ℕ → Path → Option Query → Outcome
+gets old now session path query =
     if not (is_open old session) then refused old NoSession
-    else unless_refused old (read_refusal old now session path) (value_at old path)
+    else unless_refused old (read_refusal old now session path query) (value_at old path query)
 
 -- the tree that the writes propose is the tree
 abbrev pub written_to : State → List Write → State
@@ -148,7 +155,7 @@ outcome old now session Open = opens old session
 outcome old now session Close = closes old session
 outcome old now session (SignIn who) = signs old session (Some who)
 outcome old now session SignOut = signs old session None
-outcome old now session (Get path) = gets old now session path
+outcome old now session (Get path query) = gets old now session path query
 outcome old now session (Set write) = sets old now session write
 outcome old now session (Remove path) = sets old now session (removal path)
 outcome old now session (Update writes) = updates old now session writes
@@ -160,7 +167,7 @@ takes_no_memory old session Open = is_open old session || nat_le MAX_SESSIONS (m
 takes_no_memory old session Close = true
 takes_no_memory old session (SignIn who) = not (is_open old session)
 takes_no_memory old session SignOut = not (is_open old session)
-takes_no_memory old session (Get path) = not (is_open old session)
+takes_no_memory old session (Get path query) = not (is_open old session)
 takes_no_memory old session (Set write) = not (is_open old session)
 takes_no_memory old session (Remove path) = not (is_open old session)
 takes_no_memory old session (Update writes) = not (is_open old session) || length writes == 0 || overlaps writes

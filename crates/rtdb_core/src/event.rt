@@ -2,6 +2,7 @@
 ghost use Rattle.std.specs.Prelude.{◌≡◌};
 
 use evaluator::Identity;
+use listeners::Query;
 use path_capture::{Path, Write};
 use rules_reader::Rules;
 use std::marker::Model;
@@ -17,8 +18,8 @@ pub enum Event {
     SignIn(Identity),
     /// Signs out whoever is signed in on the session.
     SignOut,
-    /// Reads the tree at a path.
-    Get(Path),
+    /// Reads the tree at a path, or what a query selects of it.
+    Get(Path, Option<Query>),
     /// Makes a write.
     Set(Write),
     /// Removes what is at a location.

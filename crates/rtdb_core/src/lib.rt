@@ -11,6 +11,7 @@ mod machine;
 mod refusals;
 mod reply;
 mod run_laws;
+mod selected;
 mod session;
 mod step_laws;
 mod trees;

@@ -3,6 +3,7 @@ ghost use Rattle.std.specs.Prelude.{◌≡◌, true, ◌↔◌, ℕ, ◌≤◌, 
 ghost use Rattle.std.specs.FinMap as map_of;
 ghost use Rattle.tree_model.specs.PathMap.{sub};
 ghost use Rattle.tree_model.specs.Tree.{non_null, count};
+ghost use Rattle.listeners.specs.Selection.{selection};
 ghost use Rattle.tree_model.specs.Write.{overlaps};
 ghost use Rattle.path_capture.specs.Write.{tree_or_null};
 ghost use Rattle.rules_reader.specs.Place.{HasOneCapture};
@@ -15,13 +16,15 @@ use crate::event::{Event, Writes};
 use crate::limits::{MAX_LOCATIONS, MAX_SESSIONS};
 use crate::refusals::{denial, full, reset};
 use crate::reply::{Refusal, Reply};
+use crate::selected::{asked_for, selected};
 use crate::session::Session;
 use crate::trees::{count_in, count_of, node_at, removal, sort};
 use arena_snapshot::{View, overlaps, overlay};
 use bumpalo::Bump;
-use evaluator::{Asked, Identity, MAX_MOMENT, Moment};
+use evaluator::{Identity, MAX_MOMENT, Moment};
 use json_tree::{Key, NoMemory, Node};
 use judge::{Scene, judge_read, judge_write};
+use listeners::Query;
 use path_capture::{Path, Write, make_all};
 use rules_reader::Rules;
 use std::alloc::Global;
@@ -103,7 +106,7 @@ impl Core {
     /// Answers a read as [`Core::step`] does, by the tree that stands there, which is borrowed: so a read
     /// costs one step for each key of its path, log w of w children each, and the rules on the way, and
     /// nothing grows with what it answers.
-    #[tactic(auto, unfolding(crate::specs::Step::Step))]
+    #[tactic(auto, unfolding(crate::specs::Step::Step, listeners::specs::Selection::selection))]
     pub fn read(
         &self,
         arena: &mut Bump,
@@ -112,14 +115,14 @@ impl Core {
         path: &Path,
     ) -> Result<Option<&Node>, Refusal>
         requires { now ≤ MAX_MOMENT }
-        ensures found { IfOk result (λ found. Step self.now now session (Event.Get path.now) (Reply.Value (option_map (λ node. node.now) found)) self.now) }
-        ensures refused { IfErr result (λ refusal. Step self.now now session (Event.Get path.now) (Reply.Refused refusal) self.now) }
+        ensures found { IfOk result (λ found. Step self.now now session (Event.Get path.now None) (Reply.Value (option_map (λ node. node.now) found)) self.now) }
+        ensures refused { IfErr result (λ refusal. Step self.now now session (Event.Get path.now None) (Reply.Refused refusal) self.now) }
     {
         if !self.is_open(session) {
             return Err(Refusal::NoSession);
         }
         reset(arena)?;
-        if let Some(refusal) = self.read_refusal(arena, now, session, path)? {
+        if let Some(refusal) = self.read_refusal(arena, now, session, path, None)? {
             return Err(refusal);
         }
         Ok(self.value_at(path.keys()))
@@ -142,7 +145,7 @@ impl Core {
             Event::Close => Ok(self.close(session)),
             Event::SignIn(who) => self.sign(arena, session, Some(who)),
             Event::SignOut => self.sign(arena, session, None),
-            Event::Get(path) => self.get(arena, now, session, &path),
+            Event::Get(path, query) => self.get(arena, now, session, &path, query.as_ref()),
             Event::Set(write) => self.set(arena, now, session, write),
             Event::Remove(path) => self.set(arena, now, session, removal(path)),
             Event::Update(writes) => self.update(arena, now, session, writes),
@@ -297,19 +300,26 @@ impl Core {
         Ok(())
     }
 
-    fn get(&self, arena: &mut Bump, now: u64, session: u64, path: &Path) -> Result<Reply, NoMemory>
+    fn get(
+        &self,
+        arena: &mut Bump,
+        now: u64,
+        session: u64,
+        path: &Path,
+        query: Option<&Query>,
+    ) -> Result<Reply, NoMemory>
         requires { now ≤ MAX_MOMENT }
-        ensures ok { IfOk result (λ reply. outcome self.now now session (Event.Get path.now) ≡ record { reply = reply; after = self.now }) }
-        ensures later { OnErr result (takes_no_memory self.now session (Event.Get path.now) ≡ false) }
+        ensures ok { IfOk result (λ reply. outcome self.now now session (Event.Get path.now (option_map (λ query. query.now) query.entry)) ≡ record { reply = reply; after = self.now }) }
+        ensures later { OnErr result (takes_no_memory self.now session (Event.Get path.now (option_map (λ query. query.now) query.entry)) ≡ false) }
     {
         if !self.is_open(session) {
             return Ok(Reply::Refused(Refusal::NoSession));
         }
         reset(arena)?;
-        if let Some(refusal) = self.read_refusal(arena, now, session, path)? {
+        if let Some(refusal) = self.read_refusal(arena, now, session, path, query)? {
             return Ok(Reply::Refused(refusal));
         }
-        let tree = self.copy_at(path.keys())?;
+        let tree = self.selected_at(arena, path.keys(), query)?;
         Ok(Reply::Value(tree))
     }
 
@@ -411,11 +421,12 @@ impl Core {
         now: u64,
         session: u64,
         path: &Path,
+        query: Option<&Query>,
     ) -> Result<Option<Refusal>, NoMemory>
         requires { now ≤ MAX_MOMENT }
-        ensures { IfOk result (λ refusal. refusal ≡ read_refusal self.now now session path.now) }
+        ensures { IfOk result (λ refusal. refusal ≡ read_refusal self.now now session path.now (option_map (λ query. query.now) query.entry)) }
     {
-        let asked = Asked::none();
+        let asked = asked_for(query);
         let scene = self.scene(now, session);
         let verdict = judge_read(self.alloc, arena, &scene, path, &asked)?;
         Ok(denial(verdict))
@@ -471,6 +482,21 @@ impl Core {
         match self.tree() {
             Some(root) => node_at(root, path),
             None => None,
+        }
+    }
+
+    // What a query selects of it, copied.
+    fn selected_at(
+        &self,
+        arena: &Bump,
+        path: &[Key],
+        query: Option<&Query>,
+    ) -> Result<Option<Node>, NoMemory>
+        ensures { IfOk result (λ tree. tree ≡ non_null (selection (sub self.now.tree path.now) (option_map (λ query. query.now) query.entry))) }
+    {
+        match query {
+            Some(query) => selected(self.alloc, arena, self.value_at(path), query),
+            None => self.copy_at(path),
         }
     }
 

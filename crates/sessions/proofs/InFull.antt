@@ -1,5 +1,5 @@
 -- Each line has one answer in which nothing wants memory.
-use Rattle.std.proofs.Common.{◌≡◌, ◌≢◌, ℕ, Bool, true, false, cond, List, ◌++◌, length, Option, Some, None, option_and_then, Result, Ok, Err, refl, sym, ap, subst, inl, inr, ◌∙◌}
+use Rattle.std.proofs.Common.{◌≡◌, ◌≢◌, ℕ, Bool, true, false, cond, List, ◌++◌, length, Option, Some, None, option_map, option_and_then, Result, Ok, Err, refl, sym, ap, subst, inl, inr, ◌∙◌}
 use Rattle.std.specs.Prelude.{codes, nat_le, ◌+◌}
 use Rattle.std.specs.List.{list_all}
 use Rattle.std.specs.Str.{is_utf8}
@@ -13,6 +13,7 @@ use Rattle.tree_model.specs.PathMap.{depth}
 use Rattle.tree_model.specs.Tree.{Tree}
 use Rattle.json_tree.specs.Json.{is_lawful, of_json}
 use Rattle.path_capture.specs.Path.{segments}
+use Rattle.listeners.specs.Query.{query_of}
 use Rattle.evaluator.specs.Identity.{Identity}
 use Rattle.rules_reader.specs.Book.{Book}
 use Rattle.rules_reader.specs.Refusal.{Refuses}
@@ -29,7 +30,7 @@ use Rattle.messages.specs.declared.limits.TheConstants.{MAX_MESSAGE_BYTES}
 use Rattle.messages.specs.declared.message.Form.{Form}
 use Rattle.messages.specs.declared.message.Form.TheVariants.{Script}
 use Rattle.messages.specs.declared.message.MessageFault.{MessageFault}
-use Rattle.messages.specs.declared.message.MessageFault.TheVariants.{TooLarge, BadJson, BadRequest, BadPath, BadValue, TooDeep, NoMemory}
+use Rattle.messages.specs.declared.message.MessageFault.TheVariants.{TooLarge, BadJson, BadRequest, BadQuery, BadPath, BadValue, TooDeep, NoMemory}
 use Rattle.messages.specs.declared.message.Request.{Request}
 use Rattle.messages.specs.declared.message.Wanted.{Wanted}
 use Rattle.messages.specs.declared.message.Wanted.TheVariants as wanted
@@ -41,7 +42,7 @@ use Rattle.messages.specs.Ask.{ComesTo, IsAsked}
 use Rattle.messages.proofs.Texts.{one_rules_text}
 use Rattle.messages.specs.declared.message.Verb.{Verb}
 use Rattle.messages.specs.declared.message.Verb.TheVariants as verbs
-use Rattle.messages.specs.Message.{or_fault, unless_fault, value_of, form_members, verb_members, stamp_of, path_of, path_in, path_below, tree_of_value, write_at, write_below, writes_below, wanted_by, verb_in, request_of, asks}
+use Rattle.messages.specs.Message.{or_fault, unless_fault, value_of, form_members, verb_members, stamp_of, path_of, query_at, query_said, path_in, path_below, tree_of_value, write_at, write_below, writes_below, wanted_by, verb_in, request_of, asks}
 use Rattle.sessions.specs.Said.{IsAnsweredBy, IsAnsweredInFullBy, IsAnsweredInFull, IsAnswered, DeploysText, IsDecided}
 use Rattle.messages.specs.AnswerText as answer
 
@@ -110,12 +111,20 @@ members_never path (member name d ms) =
 path_in_never : (d : Data) → NeverWants (path_in d)
 path_in_never d = in_turn _ _ (of_option BadRequest (text_at (codes "path") d) (λ e. cc)) (λ text. path_never text)
 
+query_never : (said : Option Data) → NeverWants (query_said said)
+query_never None = of_ok _
+query_never (Some said) = of_option BadQuery (option_map (λ query. Some query) (query_of said)) (λ e. cc)
+
 wanted_never : (verb : Verb) (d : Data) → NeverWants (wanted_by verb d)
 wanted_never verbs.Open d = of_ok _
 wanted_never verbs.Close d = of_ok _
 wanted_never verbs.SignIn d = in_turn _ _ (of_option BadRequest (text_at (codes "token") d) (λ e. cc)) (λ secret. of_ok (SignIn secret))
 wanted_never verbs.SignOut d = of_ok _
-wanted_never verbs.Get d = in_turn _ _ (path_in_never d) (λ path. of_ok (wanted.Step (Get path)))
+wanted_never verbs.Get d =
+    in_turn _ _ (of_option BadRequest (text_at (codes "path") d) (λ e. cc)) (λ text.
+    in_turn _ _ (of_option BadRequest (query_at d) (λ e. cc)) (λ said.
+    in_turn _ _ (path_never text) (λ path.
+    in_turn _ _ (query_never said) (λ query. of_ok (wanted.Step (Get path query))))))
 wanted_never verbs.Set d =
     in_turn _ _ (of_option BadRequest (text_at (codes "path") d) (λ e. cc)) (λ text.
     in_turn _ _ (of_option BadRequest (get (codes "value") d) (λ e. cc)) (λ value.

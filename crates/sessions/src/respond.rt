@@ -105,7 +105,7 @@ fn answer_asked(
 {
     let stamp = asked.stamp;
     match asked.event {
-        Event::Get(path) => answer_read(alloc, core, arena, stamp, &path),
+        Event::Get(path, None) => answer_read(alloc, core, arena, stamp, &path),
         event => {
             let reply = core.step(arena, stamp.now, stamp.session, event);
             say(alloc, &reply)
@@ -122,7 +122,7 @@ fn answer_read(
     path: &Path,
 ) -> Result<Answer, NoMemory>
     requires { stamp.now ≤ MAX_MOMENT }
-    ensures { IfOk result (λ answer. (said : List ℕ) × IsAnsweredBy core.now (Ok (record { stamp = stamp; event = Event.Get path.now })) said core.now × (bytes_of answer ≡ as_line said)) }
+    ensures { IfOk result (λ answer. (said : List ℕ) × IsAnsweredBy core.now (Ok (record { stamp = stamp; event = Event.Get path.now None })) said core.now × (bytes_of answer ≡ as_line said)) }
 {
     match core.read(arena, stamp.now, stamp.session, path) {
         Ok(found) => written(write_value(alloc, found)?),

@@ -58,6 +58,14 @@ one k t = 1
 abbrev pub locations : Key → Tree → ℕ
 locations k t = count t
 
+-- the locations of a child, if there is one
+abbrev pub locations_of : Option Tree → ℕ
+locations_of o = option_map_or count o 0
+
+-- a child as one, if there is one
+abbrev pub one_of : Option Tree → ℕ
+one_of o = option_map_or (λ t. 1) o 0
+
 -- the key stands before another
 abbrev pub is_before : Key → Key → Bool
 is_before k l = is_lt (key_cmp k l)

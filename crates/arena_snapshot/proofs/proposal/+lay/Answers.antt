@@ -3,7 +3,6 @@ use Rattle.std.specs.Borrow.{Bor}
 use Rattle.std.specs.List.{list_any}
 use Rattle.std.proofs.lemmas.List.{nil_from_length, length-map}
 use Rattle.std.proofs.lemmas.Result.{IfOk-weaker}
-use Rattle.tree_model.specs.Key.{Key}
 use Rattle.tree_model.specs.Path.{is_root}
 use Rattle.tree_model.specs.PathMap.{sub}
 use Rattle.tree_model.specs.Tree.{non_null, IsLawful}
@@ -127,7 +126,7 @@ lay_below-loop-start-preserved t c =
     let cs = map change_of c.loop-start.layer.patches.items in
     let xs = map (left (c.args.depth + 1)) (take (c.run_end-end.result - c.loop-start.start) (drop c.loop-start.start c.args.writes.now)) in
     let run = is_run c.args.depth c.args.writes.now c.loop-start.start c.run_end-end.result c.index-writes-start.result key (omega arith) c.index-writes-start.is c.key_of-key.ensures.key end.order end.within end.run end.stop in
-    let below : node_or_null c.stored_child-stored.result ≡ sub base (key ∷ []) = child_is c.stored_child-stored.result (sub base (key ∷ [])) (c.stored_child-stored.ensures ∙ ap (λ (k : Key). non_null (sub base (k ∷ []))) c.text.ensures.bytes) in
+    let below : node_or_null c.stored_place-stored.result.child ≡ sub base (key ∷ []) = child_is c.stored_place-stored.result.child (sub base (key ∷ [])) c.stored_place-stored.ensures.child in
     let child = c.in_ok-child.ensures ∙ ap (λ u. non_null (proposed u xs)) below in
     let next = laid_next run base cs c.in_ok-child.child c.requires.ascending c.loop-start.invariant.laid (λ e. non_null≢null _ (sym child ∙ e)) child in
     let long = run_long c.args.depth c.args.writes.now c.loop-start.start c.run_end-end.result end.order end.within in

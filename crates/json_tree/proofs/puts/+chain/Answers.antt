@@ -21,7 +21,7 @@ returns-in_ok-chain-in-Some t c =
     let rest = c.pop.new.self.items in
     let tree = proposed-chain c.in-Some.key (reverse rest) c.in_ok-chain-in-Some.field-0 c.args.value c.in_ok-chain-in-Some.ensures in
     let path = popped c.args.keys.now.items rest c.in-Some.key c.in-Some.ensures.items in
-    IfOk-weaker c.only_child.result _ _ (λ node made. made ∙ tree ∙ ap (λ p. proposed null ((p, c.args.value) ∷ [])) (sym path)) c.only_child.ensures
+    IfOk-weaker c.only_child-in-Some.result _ _ (λ node made. made ∙ tree ∙ ap (λ p. proposed null ((p, c.args.value) ∷ [])) (sym path)) c.only_child-in-Some.ensures
 
 pub returns-in-None : goal.returns-in-None
 returns-in-None t c =

@@ -46,16 +46,26 @@ pub const ROWS: [Row; 31] = [
         end: ScriptEnd::BadHeader,
     },
     Row {
-        name: "a query, and verbs that are not known",
+        name: "queries, and verbs that are not known",
         input: br#"{"rules":"{\"rules\":{\".read\":true,\".write\":true}}"}
 {"do":"open","now":1,"s":1}
-{"do":"get","now":1,"path":"/","query":{},"s":1}
+{"do":"set","now":1,"path":"/l","s":1,"value":{"a":1,"b":2,"c":3}}
+{"do":"get","now":1,"path":"/l","query":{"limitToLast":1},"s":1}
+{"do":"get","now":1,"path":"/l","query":{},"s":1}
+{"do":"get","now":1,"path":"/l","query":null,"s":1}
+{"do":"get","now":1,"path":"/l","query":{"limitToLast":0},"s":1}
+{"do":"get","now":1,"path":"/l.","query":{"limitToLast":0},"s":1}
 {"do":"poll","now":1,"s":1}
 {"do":"tick","now":1,"s":1}
 "#,
         output: br#"{"ok":true,"rules":2}
 {"ok":true}
+{"ok":true}
+{"ok":true,"value":{"c":3}}
+{"ok":true,"value":{"a":1,"b":2,"c":3}}
 {"code":102,"name":"BadRequest","ok":false}
+{"code":106,"name":"BadQuery","ok":false}
+{"code":103,"name":"BadPath","ok":false}
 {"code":102,"name":"BadRequest","ok":false}
 {"code":102,"name":"BadRequest","ok":false}
 "#,

@@ -1,8 +1,7 @@
 //! Each worked script is answered as its row says, and none by want of memory.
-use crate::memory::{Full, Written};
 use crate::rows::ROWS;
 use bumpalo::Bump;
-use sessions::{Reading, ScriptEnd, run_script};
+use sessions::{Reading, ScriptEnd, Writing, run_script};
 use std::alloc::{AllocError, Global};
 
 const RULES_THAT_GRANT_ALL: &[u8] = br#"{"rules":"{\"rules\":{\".read\":true,\".write\":true}}"}
@@ -11,10 +10,11 @@ const RULES_THAT_GRANT_ALL: &[u8] = br#"{"rules":"{\"rules\":{\".read\":true,\".
 
 // What is written for an input, and how it ends.
 fn answered(alloc: Global, input: &[u8]) -> (Vec<u8>, ScriptEnd) {
+    let mut output = Vec::new(alloc);
     let mut source = Reading::new(input);
-    let mut sink = Written::new(Vec::new(alloc), usize::MAX, usize::MAX, Full::Fails);
+    let mut sink = Writing::new(&mut output);
     let end = run_script(alloc, &mut source, &mut sink, &mut Bump::new(alloc));
-    (sink.bytes, end)
+    (output, end)
 }
 
 #[test]

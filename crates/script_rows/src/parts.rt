@@ -39,8 +39,13 @@ fn faults_of_messages_come_in_their_order(rt: HostRuntime) {
         ),
         (
             Form::Script,
-            br#"{"do":"get","now":1,"s":1,"path":"/a","query":{}}"#.as_slice(),
+            br#"{"do":"get","now":1,"s":1,"path":"/a","query":[]}"#.as_slice(),
             MessageFault::BadRequest,
+        ),
+        (
+            Form::Script,
+            br#"{"do":"get","now":1,"s":1,"path":"/a","query":{"orderBy":"$a"}}"#.as_slice(),
+            MessageFault::BadQuery,
         ),
         (
             Form::Script,

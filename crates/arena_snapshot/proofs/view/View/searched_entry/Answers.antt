@@ -4,7 +4,7 @@ use Rattle.tree_model.specs.Key.{Key}
 use Rattle.tree_model.specs.PathMap.{sub}
 use Rattle.tree_model.specs.Tree.{Tree, non_null}
 use Rattle.arena_snapshot.proofs.Entries.{entry_none, entry_gone, entry_is}
-use Rattle.arena_snapshot.proofs.view.View.entry_at.Goals as goal
+use Rattle.arena_snapshot.proofs.view.View.searched_entry.Goals as goal
 
 pub returns-in_err-key : goal.returns-in_err-key
 returns-in_err-key c =
