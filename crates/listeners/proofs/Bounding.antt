@@ -103,7 +103,7 @@ shorter true false x us vs h le = absurd (true≢false (sym (h refl)))
 shorter false true x us vs h le = omega (arith, le)
 shorter false false x us vs h le = omega (arith, le)
 
-length-filter_le : {X : Type 0} (p q : X → Bool) → ((x : X) → p x ≡ true → q x ≡ true) → (xs : List X) → length (filter p xs) ≤ length (filter q xs)
+pub length-filter_le : {X : Type 0} (p q : X → Bool) → ((x : X) → p x ≡ true → q x ≡ true) → (xs : List X) → length (filter p xs) ≤ length (filter q xs)
 length-filter_le p q weaker [] = omega arith
 length-filter_le p q weaker (x ∷ xs) = shorter (p x) (q x) x (filter p xs) (filter q xs) (weaker x) (length-filter_le p q weaker xs)
 

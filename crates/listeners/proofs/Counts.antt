@@ -1,5 +1,6 @@
 -- How many elements of a list pass a test.
 use Rattle.std.proofs.Common.{◌≡◌, ℕ, zero, suc, ◌+◌, ◌≤◌, ◌<◌, ◌&&◌, Bool, true, false, cond, List, [], ◌∷◌, length, map, get_or, filter, sym, ap, ◌∙◌, refl, arith}
+use Rattle.std.specs.List.{AllByRecursion}
 use Rattle.std.specs.List.Sorted.{IsPermutation}
 use Rattle.std.proofs.lemmas.List.Sums.{length-filter}
 use Rattle.std.proofs.lemmas.List.Sorted.{sum_by-IsPermutation}
@@ -45,6 +46,13 @@ module _ {X : Type 0} (p : X → Bool) where
   all_behind (x ∷ xs) zero h = omega (arith, length-cond_true (p x) x (filter p xs) (h 0 x (omega arith) (omega arith)), all_behind xs zero (λ k d le lt. h (suc k) d (omega arith) (omega arith)))
   all_behind (x ∷ xs) (suc m) h = omega (arith, length-cond_le (p x) x (filter p xs), all_behind xs m (λ k d le lt. h (suc k) d (omega arith) (omega arith)))
 
+  -- all of n from t on
+  pub all_within : (xs : List X) (t n : ℕ) → t + n ≤ length xs → ((k : ℕ) (d : X) → t ≤ k → k < t + n → p (get_or xs k d) ≡ true) → n ≤ length (filter p xs)
+  all_within [] t n le h = omega arith
+  all_within (x ∷ xs) t zero le h = omega arith
+  all_within (x ∷ xs) zero (suc n) le h = omega (arith, length-cond_true (p x) x (filter p xs) (h 0 x (omega arith) (omega arith)), all_within xs zero n (omega arith) (λ k d low high. h (suc k) d (omega arith) (omega arith)))
+  all_within (x ∷ xs) (suc t) (suc n) le h = omega (arith, length-cond_le (p x) x (filter p xs), all_within xs t (suc n) (omega arith) (λ k d low high. h (suc k) d (omega arith) (omega arith)))
+
   pub fewer : (xs : List X) → length (filter p xs) ≤ length xs
   fewer xs = none_behind xs (length xs) (λ k d le lt. absurd (omega arith))
 
@@ -77,3 +85,14 @@ length-map f (x ∷ xs) = ap suc (length-map f xs)
 
 pub count-map : {X Y : Type 0} (f : X → Y) (p : Y → Bool) (xs : List X) → length (filter p (map f xs)) ≡ length (filter (λ x. p (f x)) xs)
 count-map f p xs = ap length (filter-map f p xs) ∙ length-map f (filter (λ x. p (f x)) xs)
+
+-- ---- of two tests
+
+-- tests that agree on each element keep the same
+pub filter_each : {X : Type 0} (p q : X → Bool) (xs : List X) → AllByRecursion (λ x. p x ≡ q x) xs → filter p xs ≡ filter q xs
+filter_each p q [] h = refl
+filter_each p q (x ∷ xs) h = λ i. cond (h.0 i) (x ∷ filter_each p q xs h.1 i) (filter_each p q xs h.1 i)
+
+pub each_weaker : {X : Type 0} (P Q : X → Type 0) → ((x : X) → P x → Q x) → (xs : List X) → AllByRecursion P xs → AllByRecursion Q xs
+each_weaker P Q h [] a = tt
+each_weaker P Q h (x ∷ xs) a = (h x a.0, each_weaker P Q h xs a.1)

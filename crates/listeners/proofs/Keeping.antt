@@ -19,6 +19,7 @@ use Rattle.listeners.specs.Order.{list_cmp, place_cmp}
 use Rattle.listeners.specs.declared.item.Item.{Item}
 use Rattle.listeners.specs.Working.Items.{item_seen, rank_seen}
 use Rattle.listeners.specs.Working.Ranks.{Rank, rank_cmp, rank_of, numbered, ranked, ranks_within, count_before, count_behind, is_kept_of}
+use Rattle.listeners.specs.Working.Reach.{kept_among}
 use Rattle.listeners.proofs.Counts.{filter-map, filter-filter, count-map}
 
 -- ---- the order of children is that of their ranks
@@ -109,13 +110,12 @@ module _ (query : Query) (cs : List Child) where
       ∙ and_assoc (is_within query c) _ _
 
   -- the indices of the items that lie inside
-  pub indices_kept : (items : List Item) (inside : Rank → Bool) → map item_seen items ≡ ranks_within query cs → ((r : Rank) → inside r ≡ is_kept_of query.limit_to_first query.limit_to_last (map item_seen items) r)
+  pub indices_kept : (items : List Item) (inside : Rank → Bool) → kept_among query (map item_seen items) ≡ kept_among query (ranks_within query cs) → ((r : Rank) → inside r ≡ is_kept_of query.limit_to_first query.limit_to_last (map item_seen items) r)
       → map (λ (it : Item). it.index) (filter (λ (it : Item). inside (rank_seen it)) items) ≡ indices_from (is_kept query cs) 0 cs
   indices_kept items inside same edge =
       sym (map-map-index (filter (λ (it : Item). inside (rank_seen it)) items))
       ∙ ap (map (λ (s : ℕ × Rank). s.0)) (sym (filter-map item_seen (λ s. inside s.1) items))
-      ∙ ap (λ rs. map (λ (s : ℕ × Rank). s.0) (filter (λ s. inside s.1) rs)) same
-      ∙ ap (map (λ (s : ℕ × Rank). s.0)) (filter_agree (λ s. inside s.1) (λ s. kept_rank s.1) (λ s. edge s.1 ∙ ap (λ rs. is_kept_of query.limit_to_first query.limit_to_last rs s.1) same) (ranks_within query cs))
+      ∙ ap (map (λ (s : ℕ × Rank). s.0)) (filter_agree (λ s. inside s.1) (λ s. is_kept_of query.limit_to_first query.limit_to_last (map item_seen items) s.1) (λ s. edge s.1) (map item_seen items) ∙ same)
       ∙ ap (map (λ (s : ℕ × Rank). s.0)) (filter-map (ranked query.order) (λ s. kept_rank s.1) numbered_within)
       ∙ map-map-ranked (filter (λ (e : ℕ × Child). kept_rank (rank_of query.order e.1)) numbered_within)
       ∙ ap (map (λ (e : ℕ × Child). e.0)) (filter-filter (λ (e : ℕ × Child). kept_rank (rank_of query.order e.1)) (λ (e : ℕ × Child). is_within query e.1) (numbered 0 cs)

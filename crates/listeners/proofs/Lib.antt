@@ -9,3 +9,9 @@ pub mod Listing
 pub mod Places
 pub mod Bounding
 pub mod Showing
+pub mod Searching
+pub mod Unnumbered
+pub mod Stretches
+pub mod Reaching
+pub mod Thinning
+pub mod Enough

@@ -5,3 +5,4 @@ pub mod Numbers
 pub mod Ranks
 pub mod Items
 pub mod Heard
+pub mod Reach

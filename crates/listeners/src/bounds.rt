@@ -77,6 +77,16 @@ fn beside(item: &Item<'_>, mark: &Mark<'_>) -> Ordering
     }
 }
 
+// The key of a bound by keys.
+pub(crate) fn key_bound(leaf: &Option<Leaf>) -> Option<&str>
+    ensures { option_map (λ key. key.now) result ≡ option_map key_in (option_map primitive_of leaf.now) }
+{
+    match leaf {
+        Some(leaf) => Some(key_in(leaf)),
+        None => None,
+    }
+}
+
 // The bound of a leaf, in this order.
 pub(crate) fn mark_in<'a>(order: &Option<Order>, leaf: &'a Option<Leaf>) -> Option<Mark<'a>>
     ensures { option_map mark_seen result ≡ option_map (mark_of (option_map order_seen order.now)) (option_map primitive_of leaf.now) }

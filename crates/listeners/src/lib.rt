@@ -3,6 +3,7 @@
 
 mod bounds;
 mod build;
+mod digits;
 mod edge;
 mod fault;
 mod item;
@@ -15,7 +16,9 @@ mod number;
 mod order;
 mod place;
 mod query;
+mod reach;
 mod said;
+mod search;
 mod selection;
 mod table;
 

@@ -1,18 +1,20 @@
 //! Queries: which children of a location are asked for, and in which order they are counted.
-ghost use Rattle.std.specs.Prelude.{◌≡◌, ◌↔◌, map, Some, None, option_map, slice_get, IfOk, IsErrOf};
+ghost use Rattle.std.specs.Prelude.{◌≡◌, ◌↔◌, true, map, Some, None, option_map, slice_get, IfOk, IsErrOf};
 ghost use Rattle.serde_json.specs.View.{view};
 ghost use Rattle.evaluator.specs.Asked.{asked_of};
 ghost use Rattle.arena_snapshot.specs.Working.Change.{entries_of};
 ghost use Rattle.listeners.specs.Working.Items.{item_seen, marks_seen, lies_inside};
 ghost use Rattle.listeners.specs.Working.Ranks.{Rank, marks_of, ranked, is_kept_of};
+ghost use Rattle.listeners.specs.Working.Reach.{is_of_keys, IsEnough};
 ghost use Rattle.listeners.specs.Query.{query_of, asked_by, IsLawfulQuery};
 
-use crate::bounds::{Bounds, mark_in};
+use crate::bounds::{Bounds, key_bound, mark_in};
 use crate::build::build;
 use crate::edge::Edge;
 use crate::fault::QueryFault;
 use crate::item::Item;
 use crate::order::{Limit, Order};
+use crate::reach::Reach;
 use crate::said::Said;
 use arena_snapshot::View;
 use bumpalo::Bump;
@@ -107,6 +109,30 @@ impl Query {
             end_at: mark_in(&self.order, &self.end_at),
             equal_to: mark_in(&self.order, &self.equal_to),
         }
+    }
+
+    // Which children of a view are looked at: all, but by keys those alone that the bounds and the limit may
+    // keep.
+    pub(crate) fn reach(&self, view: &View<'_>) -> Reach
+        ensures { IsEnough self.now (entries_of view.now) result }
+    {
+        match &self.order {
+            None | Some(Order::Key) => self.reach_by_keys(view),
+            Some(Order::Value | Order::Child(_)) => Reach::whole(view.width()),
+        }
+    }
+
+    fn reach_by_keys(&self, view: &View<'_>) -> Reach
+        requires { is_of_keys self.now.order ≡ true }
+        ensures { IsEnough self.now (entries_of view.now) result }
+    {
+        Reach::of_bounds(
+            view,
+            key_bound(&self.start_at),
+            key_bound(&self.end_at),
+            key_bound(&self.equal_to),
+        )
+        .limited(self.limit)
     }
 
     // The child at an index, in the order of the query.

@@ -1,11 +1,12 @@
 //! The part of a tree that a query selects.
-ghost use Rattle.std.specs.Prelude.{◌≡◌, map, filter, option_map, IfOk};
-ghost use Rattle.tree_model.specs.Tree.{non_null};
+ghost use Rattle.std.specs.Prelude.{◌≡◌, ◌≤◌, ◌++◌, length, map, filter, option_map, IfOk, OnOk};
+ghost use Rattle.tree_model.specs.Tree.{non_null, child_keys};
 ghost use Rattle.path_capture.specs.Write.{tree_or_null};
 ghost use Rattle.arena_snapshot.specs.Working.Change.{entries_of};
 ghost use Rattle.listeners.specs.Selection.{selection, selected};
 ghost use Rattle.listeners.specs.Working.Items.{item_seen, rank_seen, lies_inside};
 ghost use Rattle.listeners.specs.Working.Ranks.{ranks_within};
+ghost use Rattle.listeners.specs.Working.Reach.{ranks_between, kept_among};
 
 use crate::edge::Edge;
 use crate::item::Item;
@@ -15,12 +16,17 @@ use bumpalo::Bump;
 use json_tree::NoMemory;
 
 /// The part of a tree that a query selects, if it selects anything: without a query the tree itself, and
-/// of one primitive nothing. For w children each is looked at once, which takes log w steps, or d · log w
-/// where they are ordered by a path of d keys; those within the bounds are listed in the arena. Where a
-/// limit is not greater than their number and their order is not that in which they are stored, they are
-/// listed once more and sorted there, by w · log w comparisons. The indices of those that are kept are a
-/// list too, and the children are borrowed. Want of memory is the one error. (Guide "Work with Lists of
-/// Data", how query data is ordered and filtering data.)
+/// of one primitive nothing. By a value, or by a path of d keys, each of w children is looked at once, which
+/// takes log w or d · log w steps. By keys, six binary searches at most find which children are looked at, in
+/// log w steps each. Keys that begin with a digit, or with a minus and a digit, may be numbers, whose order is
+/// not that of bytes: without `equalTo` each of these may be looked at, but for those before a first bound that
+/// is no number. Of the other keys, which stand before, between and behind these, none but those within the
+/// bounds are, and with a limit of n at most n in each of these three stretches. With `limitToLast`, where a
+/// stretch has n within the bounds, nothing before its last n is looked at. Those within the bounds are listed
+/// in the arena. Where a limit is not greater than their number and their order is not that in which they are
+/// stored, they are listed once more and sorted there, by k · log k comparisons for k of them. The indices of
+/// those that are kept are a list too, and the children are borrowed. Want of memory is the one error. (Guide
+/// "Work with Lists of Data", how query data is ordered and filtering data.)
 pub fn select<'a>(
     arena: &'a Bump,
     view: Option<View<'a>>,
@@ -51,24 +57,46 @@ fn selected<'a>(
     kept(arena, view, &indices)
 }
 
-// The children within the bounds, in the order of their indices.
+// The children within the bounds, in the order of their indices, but for some that no limit keeps.
 fn within<'a>(
     arena: &'a Bump,
     view: &View<'a>,
     query: &Query,
 ) -> Result<Vec<Item<'a>, &'a Bump>, NoMemory>
-    ensures { IfOk result (λ items. map item_seen items.items ≡ ranks_within query.now (entries_of view.now)) }
+    ensures { IfOk result (λ items. kept_among query.now (map item_seen items.items) ≡ kept_among query.now (ranks_within query.now (entries_of view.now))) }
+{
+    let reach = query.reach(view);
+    let mut items = Vec::new(arena);
+    let mut from = 0;
+    while from < view.width() {
+        let part = reach.part(from, view.width());
+        add_within(&mut items, view, query, part.from, part.to)?;
+        from = part.end;
+    }
+    Ok(items)
+}
+
+// Adds the children within the bounds from one index on and up to another.
+fn add_within<'a>(
+    items: &mut Vec<Item<'a>, &'a Bump>,
+    view: &View<'a>,
+    query: &Query,
+    from: usize,
+    to: usize,
+) -> Result<(), NoMemory>
+    requires order { from ≤ to }
+    requires within { to ≤ length (child_keys view.now) }
+    ensures { OnOk result (map item_seen items.new.items ≡ map item_seen items.old.items ++ ranks_between query.now (entries_of view.now) from to) }
 {
     let bounds = query.bounds();
-    let mut items = Vec::new(arena);
-    for i in 0..view.width() {
+    for i in from..to {
         if let Some(item) = query.item(view, i) {
             if bounds.hold(&item) {
                 items.push(item)?;
             }
         }
     }
-    Ok(items)
+    Ok(())
 }
 
 // The indices of those that an edge keeps.

@@ -1,27 +1,25 @@
-use Rattle.std.proofs.Common.{◌<◌, length, map, option_map, sym, ap, ◌∙◌, arith}
+use Rattle.std.proofs.Common.{◌++◌, sym, ap, ◌∙◌, subst, arith}
 use Rattle.arena_snapshot.specs.Working.Change.{entries_of}
 use Rattle.arena_snapshot.proofs.Ranks.{width-entries}
-use Rattle.listeners.specs.Working.Items.{item_seen, marks_seen}
-use Rattle.listeners.proofs.Listing.{turn_kept, turn_left, turn_none, within_all}
-use Rattle.listeners.proofs.selection.within.Goals.{in-Some+then-hold+in_ok-push, in-Some+else-hold, in_default}
+use Rattle.listeners.specs.Working.Reach.{ranks_between, IsPart}
+use Rattle.listeners.proofs.Enough.{enough_kept}
+use Rattle.listeners.proofs.Listing.{looked_part}
 use Rattle.listeners.proofs.selection.within.Goals as goal
 
-pub loop-i-preserved : goal.loop-i-preserved
-loop-i-preserved c =
+pub loop-from-smaller : goal.loop-from-smaller
+loop-from-smaller c =
+    let wide = width-entries c.args.view.now in
+    omega (arith, c.part-part.ensures.further, c.part-part.ensures.within, c.loop-from-test.true, c.width.ensures, c.width-in-loop-from.ensures)
+
+pub loop-from-preserved : goal.loop-from-preserved
+loop-from-preserved c =
     let cs = entries_of c.args.view.now in
-    let query = c.args.query.now in
-    let i = c.loop-i.i in
-    let inside : i < length cs = omega (arith, c.loop-i-test.true, c.width-i-end.ensures, width-entries c.args.view.now) in
-    elim c.match-item.branch [
-      | in-Some+then-hold+in_ok-push w ↦
-          ap (map item_seen) (ap (λ v. v.items) w.items-is ∙ w.in_ok-push.ensures.items)
-          ∙ turn_kept query cs i c.loop-i.items.items (marks_seen c.bounds-bounds.result) inside c.loop-i.invariant c.bounds-bounds.ensures w.in-Some.item (ap (option_map item_seen) (sym w.in-Some.is) ∙ c.item.ensures) (sym w.hold.ensures ∙ w.if-hold.true)
-      | in-Some+else-hold w ↦
-          ap (λ v. map item_seen v.items) w.items-is
-          ∙ turn_left query cs i c.loop-i.items.items (marks_seen c.bounds-bounds.result) inside c.loop-i.invariant c.bounds-bounds.ensures w.in-Some.item (ap (option_map item_seen) (sym w.in-Some.is) ∙ c.item.ensures) (sym w.hold.ensures ∙ w.if-hold.false)
-      | in_default w ↦ absurd (turn_none query cs i c.loop-i.items.items (marks_seen c.bounds-bounds.result) inside c.loop-i.invariant c.bounds-bounds.ensures (ap (option_map item_seen) (sym w.in_default.is) ∙ c.item.ensures))
-    ]
+    let part = subst (λ wide. IsPart c.reach-reach.result c.loop-from.from wide c.part-part.result) (c.width-in-loop-from.ensures ∙ width-entries c.args.view.now) c.part-part.ensures in
+    c.in_ok-add_within.ensures
+    ∙ ap (λ rs. rs ++ ranks_between c.args.query.now cs c.part-part.result.from c.part-part.result.to) c.loop-from.invariant
+    ∙ sym (looked_part c.args.query.now cs c.reach-reach.result c.loop-from.from c.part-part.result part)
 
 pub returns : goal.returns
 returns c =
-    c.loop-i.invariant ∙ within_all c.args.query.now (entries_of c.args.view.now) c.loop-i.i (omega (arith, c.loop-i-test.false, c.width-i-end.ensures, width-entries c.args.view.now))
+    let wide = width-entries c.args.view.now in
+    enough_kept c.args.query.now (entries_of c.args.view.now) c.reach-reach.result c.loop-from.items.items c.loop-from.from c.reach-reach.ensures c.loop-from.invariant (omega arith)
