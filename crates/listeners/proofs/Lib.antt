@@ -15,3 +15,4 @@ pub mod Stretches
 pub mod Reaching
 pub mod Thinning
 pub mod Enough
+pub mod WorkedSelections

@@ -1,12 +1,12 @@
 -- Outside of the stretches of keys that begin with digits no key is a number.
-use Rattle.std.proofs.Common.{◌≡◌, ℕ, ◌<◌, ◌≤◌, Bool, true, false, not, ◌&&◌, nat_le, nat_lt, codes, get_or, List, Less, is_lt, ⊎_elim, ap, arith}
-use Rattle.std.proofs.lemmas.Bool.{and_left, and_right, and_from, and_parts, and_cases, not_from_false, not_from_true, not-true, lt-leb, le-leb, le-ltb, lt-ltb, ltb-false, leb-false, cases_lt}
+use Rattle.std.proofs.Common.{◌≡◌, ℕ, ◌≤◌, Bool, false, not, ◌&&◌, nat_le, nat_lt, codes, get_or, List, Less, is_lt, ⊎_elim, ap, arith}
+use Rattle.std.proofs.lemmas.Bool.{and_parts, and_cases, not-true, ltb-false, leb-false, cases_lt}
 use Rattle.tree_model.specs.Key.{Key, key_cmp}
 use Rattle.tree_model.proofs.Orders.{keys_total}
 use Rattle.listeners.specs.Selection.{Child}
 use Rattle.listeners.specs.declared.search.Side.TheVariants.{Before}
 use Rattle.listeners.specs.declared.digits.Digits.{Digits}
-use Rattle.listeners.specs.Working.Reach.{is_on, IsCount, is_text, AreDigits}
+use Rattle.listeners.specs.Working.Reach.{is_on, IsCount, AreDigits}
 use Rattle.listeners.proofs.Searching.{less_of, count_le}
 use Rattle.listeners.proofs.Unnumbered.{before_negatives, between_numbers, behind_naturals}
 

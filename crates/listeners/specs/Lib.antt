@@ -3,4 +3,5 @@ pub mod Order
 pub mod Selection
 pub mod Table
 pub mod Listener
+pub mod Worked
 pub mod Working

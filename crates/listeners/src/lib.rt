@@ -21,6 +21,7 @@ mod said;
 mod search;
 mod selection;
 mod table;
+mod worked;
 
 pub use fault::QueryFault;
 pub use laws::{
@@ -34,3 +35,7 @@ pub use listener_id::ListenerId;
 pub use query::Query;
 pub use selection::select;
 pub use table::{AddFault, Listener, NoListener, Table};
+pub use worked::{
+    what_queries_by_keys_select, what_queries_by_values_select, which_keys_come_first,
+    which_values_come_first,
+};

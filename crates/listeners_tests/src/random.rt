@@ -15,7 +15,7 @@ const TREES: u32 = 150;
 
 const QUERIES: u32 = 8;
 
-const KEYS: [&str; 16] = [
+const KEYS: [&str; 20] = [
     "-3",
     "-0",
     "0",
@@ -28,7 +28,11 @@ const KEYS: [&str; 16] = [
     "2147483648",
     "-2147483649",
     "-",
+    "-5x",
+    "-O",
     "+1",
+    "0a",
+    ":",
     "a",
     "aa",
     "b",
@@ -93,12 +97,14 @@ fn tree_text(alloc: Global, chance: &mut Chance) -> Result<String, AllocError> {
 type Bound = (&'static str, Rank<'static>);
 
 fn bound_by_key(chance: &mut Chance) -> Bound {
-    match chance.below(6) {
+    match chance.below(8) {
         0 => ("\"1\"", rank_of_key("1")),
         1 => ("\"01\"", rank_of_key("01")),
         2 => ("\"\"", rank_of_key("")),
         3 => ("\"a\"", rank_of_key("a")),
         4 => ("\"-3\"", rank_of_key("-3")),
+        5 => ("\"-O\"", rank_of_key("-O")),
+        6 => ("\"0a\"", rank_of_key("0a")),
         _ => ("\"2147483648\"", rank_of_key("2147483648")),
     }
 }
