@@ -3,3 +3,5 @@ pub mod Messages
 pub mod Headers
 pub mod Members
 pub mod Plain
+pub mod Reading
+pub mod Outlines

@@ -1,11 +1,10 @@
 -- The writes of an update, member by member.
-use Rattle.std.proofs.Common.{◌≡◌, ℕ, List, [], ◌∷◌, ◌++◌, Result, Ok, Err, refl, sym, ap, ◌∙◌, append_assoc, append-nil, inl, inr}
+use Rattle.std.proofs.Common.{◌≡◌, ℕ, List, [], ◌∷◌, ◌++◌, Result, Ok, Err, refl, sym, ap, ◌∙◌, append_assoc, append-nil}
 use Rattle.serde_json.specs.Data.{Data, Members, no_members, member}
 use Rattle.tree_model.specs.Path.{Path}
 use Rattle.tree_model.specs.Write.{Write}
 use Rattle.messages.specs.declared.message.MessageFault.{MessageFault}
-use Rattle.messages.specs.declared.message.MessageFault.TheVariants.{NoMemory}
-use Rattle.messages.specs.Message.{unless_fault, Tells, write_below, writes_below}
+use Rattle.messages.specs.Message.{unless_fault, write_below, writes_below}
 
 -- these writes before those of the members that are left
 abbrev pub with_rest : List Write → Result (List Write) MessageFault → Result (List Write) MessageFault

@@ -1,16 +1,20 @@
 -- What a message is, from what serde_json and the tree say of it.
-use Rattle.std.proofs.Common.{◌≡◌, ℕ, ◌≤◌, Bool, true, false, cond, List, length, refl, ap, sym, ◌∙◌, Option, Some, None, Ok, Err, arith, nat_le}
+use Rattle.std.proofs.Common.{◌≡◌, ℕ, ◌≤◌, ◌<◌, Bool, true, false, cond, List, length, refl, ap, sym, ◌∙◌, Option, Some, None, Ok, Err, arith, nat_le}
 use Rattle.std.specs.List.{list_all, list_any}
 use Rattle.std.specs.Str.{IsUtf8, is_utf8, bytes_eq}
 use Rattle.std.proofs.lemmas.Bool.Decides.{nat_tests}
 use Rattle.std.proofs.lemmas.Str.{IsUtf8-from_is_utf8, is_utf8-from_IsUtf8}
-use Rattle.serde_json.specs.Data.{Data, Members}
+use Rattle.serde_json.specs.Data.{Data, Members, string}
 use Rattle.serde_json.specs.Read.{read}
-use Rattle.tree_model.specs.declared.limits.TheConstants.{MAX_DEPTH}
+use Rattle.tree_model.specs.declared.limits.TheConstants.{MAX_DEPTH, MAX_TEXT_BYTES}
+use Rattle.tree_model.specs.Primitive.{words}
 use Rattle.tree_model.specs.PathMap.{depth}
-use Rattle.tree_model.specs.Tree.{Tree, non_null}
+use Rattle.tree_model.specs.Tree.{Tree, lone, non_null}
 use Rattle.tree_model.proofs.Existence.{by_null}
 use Rattle.json_tree.specs.Json.{is_lawful, of_json}
+use Rattle.json_tree.proofs.Heights.{depth-of_json}
+use Rattle.json_tree.proofs.Building.{some-lone}
+use Rattle.json_tree.proofs.Limits.{is_text_from, is_text-utf8}
 use Rattle.path_capture.specs.Write.{tree_or_null}
 use Rattle.messages.specs.declared.message.MessageFault.TheVariants.{BadJson, BadValue, TooDeep, TooLarge}
 use Rattle.tokens.specs.Tokens.{names_of}
@@ -49,3 +53,14 @@ told_by d lawful fits p q = (λ i. cond (p i) (cond (q i) (Ok (of_json d)) (Err 
 
 pub tree_told : (d : Data) (tree : Option Tree) → is_lawful d ≡ true → depth (of_json d) ≤ MAX_DEPTH → tree ≡ non_null (of_json d) → tree_of_value d ≡ Ok (tree_or_null tree)
 tree_told d tree lawful fits is = told_by d true true lawful (grind (arith, nat_tests)) ∙ ap (λ t. Ok t) (sym (tree_of_non_null (of_json d)) ∙ ap tree_or_null (sym is))
+
+-- ---- the tree of a text
+
+pub text_told : (s : List ℕ) → IsUtf8 s → length s ≤ MAX_TEXT_BYTES → tree_of_value (string s) ≡ Ok (lone (words s))
+text_told s u h = tree_told (string s) (Some (lone (words s))) (is_text_from s u h) (omega (arith, depth-of_json (string s))) (some-lone (words s) (string s) refl)
+
+is_long : (n : ℕ) → MAX_TEXT_BYTES < n → nat_le n MAX_TEXT_BYTES ≡ false
+is_long n h = grind (arith, nat_tests)
+
+pub long_text_told : (s : List ℕ) → IsUtf8 s → MAX_TEXT_BYTES < length s → tree_of_value (string s) ≡ Err BadValue
+long_text_told s u h = told_by (string s) false (nat_le (depth (of_json (string s))) MAX_DEPTH) (is_text-utf8 s u ∙ is_long (length s) h) refl

@@ -1,5 +1,5 @@
 -- What a message wants as an event deploys nothing.
-use Rattle.std.proofs.Common.{◌≡◌, ℕ, ◌++◌, Bool, true, false, cond, List, Result, Ok, Err, subst, sym}
+use Rattle.std.proofs.Common.{ℕ, ◌++◌, Bool, true, false, cond, List, Result, Ok, Err, subst, sym}
 use Rattle.std.specs.Prelude.{codes, option_and_then, ⊤}
 use Rattle.serde_json.specs.Data.{Data}
 use Rattle.serde_json.specs.Find.{get, as_object}

@@ -1,10 +1,10 @@
 -- What a message asks, or its first fault.
-use Rattle.std.specs.Prelude.{◌≡◌, ℕ, ◌+◌, ◌⊎◌, List, [], ◌∷◌, ◌++◌, length, Bool, nat_le, if◌then◌else◌, codes, Option, Some, None, option_map, option_and_then, Result, Ok, Err, ⊤, ◌≤◌}
-use Rattle.std.specs.List.{list_all, list_any}
+use Rattle.std.specs.Prelude.{◌≡◌, ℕ, ◌+◌, ◌⊎◌, List, [], ◌∷◌, ◌++◌, length, nat_le, if◌then◌else◌, codes, Option, Some, None, option_map, option_and_then, Result, Ok, Err, ⊤, ◌≤◌}
+use Rattle.std.specs.List.{list_all}
 use Rattle.std.specs.Option.{option_map_or}
 use Rattle.std.specs.Str.{is_utf8, bytes_eq}
-use Rattle.serde_json.specs.Data.{Data, null, boolean, number, string, array, object, Members, no_members, member}
-use Rattle.serde_json.specs.Find.{get, as_str, as_number, as_u64, as_object}
+use Rattle.serde_json.specs.Data.{Data, Members, no_members, member}
+use Rattle.serde_json.specs.Find.{get, as_number, as_u64, as_object}
 use Rattle.serde_json.specs.Read.{read}
 use Rattle.tree_model.specs.declared.limits.TheConstants.{MAX_DEPTH}
 use Rattle.tree_model.specs.Key.{is_key}
@@ -17,7 +17,7 @@ use Rattle.path_capture.specs.Path.{segments}
 use Rattle.listeners.specs.Query.{Query, query_of}
 use Rattle.evaluator.specs.declared.env.TheConstants.{MAX_MOMENT}
 use Rattle.messages.specs.declared.limits.TheConstants.{MAX_MESSAGE_BYTES}
-use Rattle.tokens.specs.Tokens.{names_of, has_only, text_at, Tokens, tokens_of}
+use Rattle.tokens.specs.Tokens.{has_only, text_at, Tokens, tokens_of}
 use Rattle.rtdb_core.specs.declared.event.Event.TheVariants.{Open, Close, SignOut, Get, Set, Remove, Update}
 use Rattle.messages.specs.declared.message.Form.{Form}
 use Rattle.messages.specs.declared.message.Form.TheVariants.{Script, Socket}

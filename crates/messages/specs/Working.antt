@@ -2,3 +2,4 @@
 pub mod Faults
 pub mod Opening
 pub mod Asking
+pub mod Outline

@@ -6,7 +6,8 @@ ghost use Rattle.messages.specs.Message.{IsWithin};
 ghost use Rattle.messages.specs.Working.Asking.{IsComing};
 ghost use Rattle.messages.specs.declared.ask.LineFault.TheVariants.{Message as of_message, Rules as of_rules};
 
-use crate::message::{Form, MessageFault, Stamp, Wanted, read_request};
+use crate::message::{Form, MessageFault, Stamp, Wanted};
+use crate::reader::MessageReader;
 use json_tree::NoMemory;
 use rtdb_core::{Event, MAX_MOMENT};
 use rules_reader::{RulesFault, compile};
@@ -47,9 +48,8 @@ impl From<RulesFault> for LineFault {
     }
 }
 
-/// What a message asks of the database where these are the tokens, or why it asks nothing. It costs what
-/// [`read_request`] does, and to sign in a look-up among the secrets and a copy of the identity, to
-/// deploy what [`compile`] does.
+/// What a message asks of the database where these are the tokens, or why it asks nothing. Whoever reads
+/// several keeps a [`MessageReader`], and has the same answers.
 pub fn read_asked(
     alloc: Global,
     tokens: &Tokens,
@@ -59,10 +59,27 @@ pub fn read_asked(
     ensures asked { IsAsked tokens.now form bytes.now result }
     ensures moment { IfOk result (λ asked. IsWithin form → asked.stamp.now ≤ MAX_MOMENT) }
 {
-    let request = read_request(alloc, bytes, form)?;
-    let stamp = request.stamp;
-    let event = event_of(alloc, tokens, request.wanted)?;
-    Ok(Asked { stamp, event })
+    MessageReader::new(alloc).read_asked(tokens, bytes, form)
+}
+
+impl MessageReader {
+    /// What a message asks of the database where these are the tokens, or why it asks nothing. It costs
+    /// what [`MessageReader::read_request`] does, and to sign in a look-up among the secrets and a copy of
+    /// the identity, to deploy what [`compile`] does.
+    pub fn read_asked(
+        &mut self,
+        tokens: &Tokens,
+        bytes: &[u8],
+        form: Form,
+    ) -> Result<Asked, LineFault>
+        ensures asked { IsAsked tokens.now form bytes.now result }
+        ensures moment { IfOk result (λ asked. IsWithin form → asked.stamp.now ≤ MAX_MOMENT) }
+    {
+        let request = self.read_request(bytes, form)?;
+        let stamp = request.stamp;
+        let event = event_of(self.alloc(), tokens, request.wanted)?;
+        Ok(Asked { stamp, event })
+    }
 }
 
 // The event that what is wanted comes to.

@@ -12,7 +12,8 @@ ghost use Rattle.messages.specs.Working.Opening.{OpensBy, header_seen};
 ghost use Rattle.serde_json.specs.Data.{Data as AnyData};
 ghost use Rattle.messages.specs.declared.header.HeaderFault.TheVariants.{Line as of_line, Rules as of_rules};
 
-use crate::message::{MessageFault, read_value, text_at, tree_of_value};
+use crate::message::{MessageFault, read_value, tree_of_value};
+use crate::source::Source;
 use json_tree::Node;
 use rtdb_core::Core;
 use rules_reader::{Rules, RulesFault, compile};
@@ -152,7 +153,7 @@ fn header_of(value: &Value) -> Option<Header<'_>>
     if !has_header_alone(value) {
         return None;
     }
-    let rules = text_at(value, "rules")?;
+    let rules = Source::Held(value).text_at("rules")?;
     Some(Header {
         rules,
         opening: value.get("data"),

@@ -11,6 +11,10 @@ mod code;
 mod header;
 mod limits;
 mod message;
+mod outline;
+mod reader;
+mod source;
+mod value;
 
 pub use answer::{
     write_accepted, write_bad_tokens, write_fault, write_line_fault, write_refusal, write_reply,
@@ -21,3 +25,4 @@ pub use code::Code;
 pub use header::{HeaderFault, Opened, read_header};
 pub use limits::{MAX_MESSAGE_BYTES, the_limit_of_messages};
 pub use message::{Form, MessageFault, Request, Stamp, Text, Verb, Wanted, read_request};
+pub use reader::MessageReader;

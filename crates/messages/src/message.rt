@@ -2,6 +2,7 @@
 ghost use Rattle.std.specs.Prelude.{◌≡◌, ◌≤◌, ◌++◌, ◌∷◌, [], Some, option_map, IfOk, IfSome, OnOk};
 ghost use Rattle.std.specs.List.{list_all, list_any};
 ghost use Rattle.std.specs.Str.{bytes_eq};
+ghost use Rattle.serde_json.specs.Data.{string};
 ghost use Rattle.serde_json.specs.View.{view, members_view};
 ghost use Rattle.path_capture.specs.Write.{tree_or_null};
 ghost use Rattle.tokens.specs.Tokens.{names_of, has_only, text_at};
@@ -9,9 +10,13 @@ ghost use Rattle.messages.specs.Message.{Tells, value_of, whole_at, verb_named, 
 ghost use Rattle.messages.specs.declared.message.MessageFault.TheVariants.{BadRequest};
 ghost use Rattle.messages.specs.declared.message.MessageFault.TheVariants.{NoMemory as no_memory};
 ghost use Rattle.messages.specs.Working.Faults.{fault_of_path};
+ghost use Rattle.messages.specs.Working.Outline.{part_data, source_data};
 
 use crate::limits::MAX_MESSAGE_BYTES;
-use json_tree::{NoMemory, Node, ValueFault, from_json};
+use crate::outline::{Member, Part};
+use crate::reader::MessageReader;
+use crate::source::Source;
+use json_tree::{Leaf, NoMemory, Node, ValueFault, from_json};
 use listeners::{Query, QueryFault};
 use path_capture::{Path, PathFault, Write};
 use rtdb_core::{Event, MAX_MOMENT, Writes};
@@ -19,6 +24,7 @@ use serde_json::{Map, Value};
 use std::alloc::Global;
 use std::marker::Model;
 use thiserror::Error;
+use tree_model::MAX_TEXT_BYTES;
 
 /// Who asks, and at which moment, in milliseconds since 1970.
 #[derive(Clone, Copy, Debug, PartialEq, Eq)]
@@ -137,15 +143,13 @@ impl From<NoMemory> for MessageFault {
     }
 }
 
-/// What a message asks, or its first fault: one pass over the bytes for the value, and one over
-/// what the value has.
-#[tactic(auto, unfolding(crate::specs::Message::asks))]
+/// What a message asks, or its first fault. Whoever reads several keeps a [`MessageReader`], and has the
+/// same answers.
 pub fn read_request(alloc: Global, bytes: &[u8], form: Form) -> Result<Request, MessageFault>
     ensures asked { Tells (λ request. request) result (asks form bytes.now) }
     ensures moment { IfOk result (λ request. IsWithin form → request.stamp.now ≤ MAX_MOMENT) }
 {
-    let value = read_value(alloc, bytes)?;
-    request_of(alloc, form, &value)
+    MessageReader::new(alloc).read_request(bytes, form)
 }
 
 /// The value of a message.
@@ -166,27 +170,32 @@ pub(crate) fn read_value(alloc: Global, bytes: &[u8]) -> Result<Value, MessageFa
     }
 }
 
-fn request_of(alloc: Global, form: Form, value: &Value) -> Result<Request, MessageFault>
-    ensures asked { Tells (λ request. request) result (request_of form (view value.now)) }
+/// What the members of a message ask.
+pub(crate) fn request_of(
+    alloc: Global,
+    form: Form,
+    source: Source<'_>,
+) -> Result<Request, MessageFault>
+    ensures asked { Tells (λ request. request) result (request_of form (source_data source.entry)) }
     ensures moment { IfOk result (λ request. IsWithin form → request.stamp.now ≤ MAX_MOMENT) }
 {
-    let Some(verb) = verb_in(form, value) else {
+    let Some(verb) = verb_in(form, source) else {
         return Err(MessageFault::BadRequest);
     };
-    if !has_only_members(form, verb, value) {
+    if !has_only_members(form, verb, source) {
         return Err(MessageFault::BadRequest);
     }
-    let Some(stamp) = stamp_of(form, value) else {
+    let Some(stamp) = stamp_of(form, source) else {
         return Err(MessageFault::BadRequest);
     };
-    let wanted = wanted_by(alloc, verb, value)?;
+    let wanted = wanted_by(alloc, verb, source)?;
     Ok(Request { stamp, wanted })
 }
 
-fn verb_in(form: Form, value: &Value) -> Option<Verb>
-    ensures { result ≡ verb_in form (view value.now) }
+fn verb_in(form: Form, source: Source<'_>) -> Option<Verb>
+    ensures { result ≡ verb_in form (source_data source.entry) }
 {
-    verb_of(form, text_at(value, "do")?)
+    verb_of(form, source.text_at("do")?)
 }
 
 fn verb_of(form: Form, name: &str) -> Option<Verb>
@@ -226,13 +235,24 @@ fn verb_named(name: &str) -> Option<Verb>
 }
 
 // Whether no member has a name that the verb has not in this form.
-fn has_only_members(form: Form, verb: Verb, value: &Value) -> bool
-    ensures { result ≡ has_only (form_members form ++ verb_members verb) (view value.now) }
+fn has_only_members(form: Form, verb: Verb, source: Source<'_>) -> bool
+    ensures { result ≡ has_only (form_members form ++ verb_members verb) (source_data source.entry) }
 {
-    match value.as_object() {
-        Some(members) => are_members(form, verb, members),
-        None => true,
+    match source {
+        Source::Outline(members) => are_outlined(form, verb, members),
+        Source::Held(value) => match value.as_object() {
+            Some(members) => are_members(form, verb, members),
+            None => true,
+        },
     }
+}
+
+fn are_outlined(form: Form, verb: Verb, members: &[Member<'_>]) -> bool
+    ensures { result ≡ list_all (λ member. list_any (bytes_eq member.name.now) (form_members form ++ verb_members verb)) members.now }
+{
+    members
+        .iter()
+        .all(|member| is_member(form, verb, member.name))
 }
 
 fn are_members(form: Form, verb: Verb, members: &Map<String, Value>) -> bool
@@ -265,14 +285,14 @@ fn is_member(form: Form, verb: Verb, name: &str) -> bool
         }
 }
 
-fn stamp_of(form: Form, value: &Value) -> Option<Stamp>
-    ensures stamp { result ≡ stamp_of form (view value.now) }
+fn stamp_of(form: Form, source: Source<'_>) -> Option<Stamp>
+    ensures stamp { result ≡ stamp_of form (source_data source.entry) }
     ensures moment { IfSome result (λ stamp. IsWithin form → stamp.now ≤ MAX_MOMENT) }
 {
     match form {
         Form::Script => {
-            let now = whole_at(value, "now")?;
-            let session = whole_at(value, "s")?;
+            let now = whole_at(source, "now")?;
+            let session = whole_at(source, "s")?;
             Some(Stamp { now, session })
         }
         Form::Socket(stamp) => Some(stamp),
@@ -280,11 +300,11 @@ fn stamp_of(form: Form, value: &Value) -> Option<Stamp>
 }
 
 // A member that is a whole number from 0 to 2^53 - 1.
-fn whole_at(value: &Value, name: &str) -> Option<u64>
-    ensures number { result ≡ whole_at name.now (view value.now) }
+fn whole_at(source: Source<'_>, name: &str) -> Option<u64>
+    ensures number { result ≡ whole_at name.now (source_data source.entry) }
     ensures within { IfSome result (λ number. number ≤ MAX_MOMENT) }
 {
-    let number = value.get(name).and_then(Value::as_u64)?;
+    let number = source.get(name)?.as_u64()?;
     if number <= MAX_MOMENT {
         Some(number)
     } else {
@@ -292,64 +312,57 @@ fn whole_at(value: &Value, name: &str) -> Option<u64>
     }
 }
 
-// A member that is a text.
-pub(crate) fn text_at<'a>(value: &'a Value, name: &str) -> Option<&'a str>
-    ensures { option_map (λ text. text.now) result ≡ text_at name.now (view value.now) }
-{
-    value.get(name).and_then(Value::as_str)
-}
-
-fn wanted_by(alloc: Global, verb: Verb, value: &Value) -> Result<Wanted, MessageFault>
-    ensures { Tells (λ wanted. wanted) result (wanted_by verb (view value.now)) }
+fn wanted_by(alloc: Global, verb: Verb, source: Source<'_>) -> Result<Wanted, MessageFault>
+    ensures { Tells (λ wanted. wanted) result (wanted_by verb (source_data source.entry)) }
 {
     match verb {
         Verb::Open => Ok(Wanted::Step(Event::Open)),
         Verb::Close => Ok(Wanted::Step(Event::Close)),
         Verb::SignIn => {
-            let secret = text_in(alloc, value, "token")?;
+            let secret = text_in(alloc, source, "token")?;
             Ok(Wanted::SignIn(secret))
         }
         Verb::SignOut => Ok(Wanted::Step(Event::SignOut)),
-        Verb::Get => get_of(alloc, value),
-        Verb::Set => set_of(alloc, value),
+        Verb::Get => get_of(alloc, source),
+        Verb::Set => set_of(alloc, source),
         Verb::Remove => {
-            let path = path_in(alloc, value)?;
+            let path = path_in(alloc, source)?;
             Ok(Wanted::Step(Event::Remove(path)))
         }
-        Verb::Update => update_of(alloc, value),
+        Verb::Update => update_of(alloc, source),
         Verb::Deploy => {
-            let rules = text_in(alloc, value, "rules")?;
+            let rules = text_in(alloc, source, "rules")?;
             Ok(Wanted::Deploy(rules))
         }
     }
 }
 
-fn text_in(alloc: Global, value: &Value, name: &str) -> Result<Text, MessageFault>
-    ensures { Tells (λ text. text) result (or_fault BadRequest (text_at name.now (view value.now))) }
+fn text_in(alloc: Global, source: Source<'_>, name: &str) -> Result<Text, MessageFault>
+    ensures { Tells (λ text. text) result (or_fault BadRequest (text_at name.now (source_data source.entry))) }
 {
-    let Some(text) = text_at(value, name) else {
+    let Some(text) = source.text_at(name) else {
         return Err(MessageFault::BadRequest);
     };
     let copy = Text::copy_of(alloc, text)?;
     Ok(copy)
 }
 
-fn path_in(alloc: Global, value: &Value) -> Result<Path, MessageFault>
-    ensures { Tells (λ path. path) result (path_in (view value.now)) }
+fn path_in(alloc: Global, source: Source<'_>) -> Result<Path, MessageFault>
+    ensures { Tells (λ path. path) result (path_in (source_data source.entry)) }
 {
-    let Some(text) = text_at(value, "path") else {
+    let Some(text) = source.text_at("path") else {
         return Err(MessageFault::BadRequest);
     };
     path_of(alloc, text)
 }
 
-fn get_of(alloc: Global, value: &Value) -> Result<Wanted, MessageFault>
-    ensures { Tells (λ wanted. wanted) result (wanted_by Verb.Get (view value.now)) }
+fn get_of(alloc: Global, source: Source<'_>) -> Result<Wanted, MessageFault>
+    ensures { Tells (λ wanted. wanted) result (wanted_by Verb.Get (source_data source.entry)) }
 {
-    let Some(text) = text_at(value, "path") else {
+    let Some(text) = source.text_at("path") else {
         return Err(MessageFault::BadRequest);
     };
-    let Some(said) = query_at(value) else {
+    let Some(said) = query_at(source) else {
         return Err(MessageFault::BadRequest);
     };
     let path = path_of(alloc, text)?;
@@ -358,15 +371,11 @@ fn get_of(alloc: Global, value: &Value) -> Result<Wanted, MessageFault>
 }
 
 // The member `query`, None inside where it is left out.
-fn query_at(value: &Value) -> Option<Option<&Value>>
-    ensures { option_map (λ said. option_map (λ query. view query.now) said) result ≡ query_at (view value.now) }
+fn query_at(source: Source<'_>) -> Option<Option<&Value>>
+    ensures { option_map (λ said. option_map (λ query. view query.now) said) result ≡ query_at (source_data source.entry) }
 {
-    match value.get("query") {
-        Some(said) => if said.is_object() {
-            Some(Some(said))
-        } else {
-            None
-        },
+    match source.get("query") {
+        Some(said) => Some(Some(said.object()?)),
         None => Some(None),
     }
 }
@@ -390,28 +399,28 @@ fn query_of(alloc: Global, value: &Value) -> Result<Option<Query>, MessageFault>
     }
 }
 
-fn set_of(alloc: Global, value: &Value) -> Result<Wanted, MessageFault>
-    ensures { Tells (λ wanted. wanted) result (wanted_by Verb.Set (view value.now)) }
+fn set_of(alloc: Global, source: Source<'_>) -> Result<Wanted, MessageFault>
+    ensures { Tells (λ wanted. wanted) result (wanted_by Verb.Set (source_data source.entry)) }
 {
-    let Some(text) = text_at(value, "path") else {
+    let Some(text) = source.text_at("path") else {
         return Err(MessageFault::BadRequest);
     };
-    let Some(written) = value.get("value") else {
+    let Some(written) = source.get("value") else {
         return Err(MessageFault::BadRequest);
     };
     let path = path_of(alloc, text)?;
-    let tree = tree_of_value(alloc, written)?;
+    let tree = tree_of(alloc, written)?;
     let write = write_at(path, tree)?;
     Ok(Wanted::Step(Event::Set(write)))
 }
 
-fn update_of(alloc: Global, value: &Value) -> Result<Wanted, MessageFault>
-    ensures { Tells (λ wanted. wanted) result (wanted_by Verb.Update (view value.now)) }
+fn update_of(alloc: Global, source: Source<'_>) -> Result<Wanted, MessageFault>
+    ensures { Tells (λ wanted. wanted) result (wanted_by Verb.Update (source_data source.entry)) }
 {
-    let Some(text) = text_at(value, "path") else {
+    let Some(text) = source.text_at("path") else {
         return Err(MessageFault::BadRequest);
     };
-    let Some(members) = value.get("values").and_then(Value::as_object) else {
+    let Some(members) = source.get("values").and_then(Part::as_object) else {
         return Err(MessageFault::BadRequest);
     };
     let path = path_of(alloc, text)?;
@@ -487,6 +496,31 @@ fn fault_of_path(fault: PathFault) -> MessageFault
     }
 }
 
+// The tree of a member.
+fn tree_of(alloc: Global, part: Part<'_>) -> Result<Option<Node>, MessageFault>
+    ensures { Tells tree_or_null result (tree_of_value (part_data part.entry)) }
+{
+    match part {
+        Part::Null => tree_of_value(alloc, &Value::Null),
+        Part::Truth(truth) => tree_of_value(alloc, &Value::Bool(truth)),
+        Part::Whole(whole) => tree_of_value(alloc, &Value::from(whole)),
+        Part::Words(text) => tree_of_text(alloc, text),
+        Part::Held(value) => tree_of_value(alloc, value),
+    }
+}
+
+fn tree_of_text(alloc: Global, text: &str) -> Result<Option<Node>, MessageFault>
+    ensures { Tells tree_or_null result (tree_of_value (string text.now)) }
+{
+    if text.len() > MAX_TEXT_BYTES {
+        return Err(MessageFault::BadValue);
+    }
+    let leaf = Leaf::words(alloc, text)?;
+    let node = Node::of_leaf(leaf)?;
+    Ok(Some(node))
+}
+
+/// The tree of a value.
 pub(crate) fn tree_of_value(alloc: Global, value: &Value) -> Result<Option<Node>, MessageFault>
     ensures { Tells tree_or_null result (tree_of_value (view value.now)) }
 {

@@ -8,11 +8,9 @@ use Rattle.messages.specs.declared.message.Form.TheVariants.{Script}
 use Rattle.messages.specs.declared.ask.Asked.{Asked}
 use Rattle.messages.specs.declared.ask.LineFault.{LineFault}
 use Rattle.messages.specs.declared.header.Opened.{Opened}
-use Rattle.rtdb_core.specs.declared.reply.Reply.{Reply}
 use Rattle.rtdb_core.specs.State.{State}
-use Rattle.rtdb_core.specs.Step.{Step}
 use Rattle.messages.specs.Ask.{IsAsked}
-use Rattle.messages.specs.AnswerText.{text, line_fault_text, accepted_text}
+use Rattle.messages.specs.AnswerText.{line_fault_text, accepted_text}
 use Rattle.messages.specs.Header.{Opens}
 use Rattle.sessions.specs.declared.respond.Answer.{Answer}
 use Rattle.sessions.specs.Said.{unopened, running, as_line, IsAnsweredBy}

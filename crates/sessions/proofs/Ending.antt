@@ -6,9 +6,8 @@ use Rattle.sessions.specs.declared.desk.Stop.{Stop}
 use Rattle.sessions.specs.declared.script.Script.{Script}
 use Rattle.sessions.specs.declared.script.ScriptEnd.{ScriptEnd}
 use Rattle.sessions.specs.declared.script.ScriptEnd.TheVariants as ends
-use Rattle.rtdb_core.specs.State.{State}
 use Rattle.sessions.specs.Lines.{cut, non_blank}
-use Rattle.sessions.specs.Said.{Phase, unopened, refused, running, IsWritten, Said}
+use Rattle.sessions.specs.Said.{Phase, unopened, refused, IsWritten, Said}
 use Rattle.sessions.specs.Working.Sent.{tells, Breaks}
 use Rattle.sessions.specs.Working.Follow.{HasAnswered, StopsAfter, Follows, IsFrontAnswered, AnswersFront, FallsShort, Halts, Sends}
 use Rattle.sessions.specs.Ends.{IsRest, SourceTells, Ends}

@@ -1,5 +1,5 @@
 -- Whatever lines come, they have an answer: want of memory, if no other.
-use Rattle.std.proofs.Common.{ℕ, List, [], ◌∷◌, ◌++◌, Err, refl, sym, subst, inl, inr, append_assoc}
+use Rattle.std.proofs.Common.{ℕ, List, [], ◌∷◌, ◌++◌, Err, refl, sym, subst, inl, append_assoc}
 use Rattle.std.proofs.lemmas.List.{append-nil}
 use Rattle.messages.specs.declared.header.HeaderFault.TheVariants.{Line}
 use Rattle.messages.specs.declared.message.MessageFault.TheVariants.{NoMemory}

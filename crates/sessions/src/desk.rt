@@ -12,6 +12,7 @@ use crate::respond::{Stage, respond};
 use crate::stream::{Broken, Sink};
 use bumpalo::Bump;
 use json_tree::NoMemory;
+use messages::MessageReader;
 use std::alloc::Global;
 
 /// Why a script stops before the end of its input.
@@ -45,6 +46,7 @@ impl From<Broken> for Stop {
 #[derive(Drop)]
 pub struct Desk {
     alloc: Global,
+    reader: MessageReader,
     stage: Stage,
     /// The answers that are not written yet.
     pub outgoing: Outgoing,
@@ -58,6 +60,7 @@ impl Desk {
         let outgoing = Outgoing::new(alloc)?;
         Ok(Desk {
             alloc,
+            reader: MessageReader::new(alloc),
             stage: Stage::Unopened,
             outgoing,
         })
@@ -106,7 +109,7 @@ impl Desk {
         ensures going { OnOk result (phase_of self.new.stage ≢ refused) }
         ensures sound { MatchResult result (λ _. W.failed sink.new ≡ W.failed sink.old) (λ stop. stop ≢ Stop.WriteFault → W.failed sink.new ≡ W.failed sink.old) }
     {
-        let answer = respond(self.alloc, &mut self.stage, arena, line)?;
+        let answer = respond(self.alloc, &mut self.reader, &mut self.stage, arena, line)?;
         self.outgoing.put(sink, answer.as_slice())?;
         match &self.stage {
             Stage::Refused => Err(Stop::BadHeader),

@@ -11,7 +11,7 @@ ghost use Rattle.messages.specs.declared.message.MessageFault.TheVariants as mes
 use bumpalo::Bump;
 use json_tree::NoMemory;
 use messages::{
-    Asked, Form, HeaderFault, LineFault, MessageFault, Opened, Stamp, read_asked, read_header,
+    Asked, Form, HeaderFault, LineFault, MessageFault, MessageReader, Opened, Stamp, read_header,
     write_accepted, write_bad_tokens, write_fault, write_line_fault, write_refusal, write_reply,
     write_rules_fault, write_value,
 };
@@ -60,6 +60,7 @@ impl Answer {
 /// error is want of memory for the answer's text, and the request may have been done.
 pub fn respond(
     alloc: Global,
+    reader: &mut MessageReader,
     stage: &mut Stage,
     arena: &mut Bump,
     line: &[u8],
@@ -75,19 +76,20 @@ pub fn respond(
             Ok(answer)
         }
         Stage::Refused => unreachable!(),
-        Stage::Running(opened) => answer_request(alloc, opened, arena, line),
+        Stage::Running(opened) => answer_request(alloc, reader, opened, arena, line),
     }
 }
 
 fn answer_request(
     alloc: Global,
+    reader: &mut MessageReader,
     opened: &mut Opened,
     arena: &mut Bump,
     line: &[u8],
 ) -> Result<Answer, NoMemory>
     ensures { IfOk result (λ answer. AnswersAt (running opened.old.tokens opened.old.core) line.now (running opened.new.tokens opened.new.core) (bytes_of answer)) }
 {
-    match read_asked(alloc, &opened.tokens, line, Form::Script) {
+    match reader.read_asked(&opened.tokens, line, Form::Script) {
         Ok(asked) => answer_asked(alloc, &mut opened.core, arena, asked),
         Err(fault) => say_line_fault(alloc, &fault),
     }

@@ -1,5 +1,5 @@
 -- What is opened by the parts of a header.
-use Rattle.std.specs.Prelude.{◌≡◌, ℕ, ◌≤◌, ◌<◌, ◌⊎◌, Option, Some, None, option_map, Result, Ok, Err}
+use Rattle.std.specs.Prelude.{◌≡◌, ◌≤◌, ◌<◌, ◌⊎◌, Option, Some, None, option_map, Result, Ok, Err}
 use Rattle.serde_json.specs.Data.{Data as AnyData}
 use Rattle.serde_json.specs.View.{view}
 use Rattle.tree_model.specs.Tree.{Tree, count}

@@ -1,4 +1,4 @@
-use Rattle.std.proofs.Common.{◌≡◌, ℕ, List, refl, subst}
+use Rattle.std.proofs.Common.{ℕ, List, refl, subst}
 use Rattle.rules_reader.specs.File.{States}
 use Rattle.messages.proofs.ask.deploy.Goals as goal
 

@@ -1,0 +1,145 @@
+//! The outline of a message: its members, read in one pass. Their names and texts are borrowed from the
+//! line, and only what nests takes memory.
+ghost use Rattle.std.specs.Prelude.{◌≡◌, ◌≤◌, Some, IfSome, length, option_map};
+ghost use Rattle.json.specs.Reads.{token_of};
+ghost use Rattle.serde_json.specs.Data.{no_members, object};
+ghost use Rattle.serde_json.specs.Find.{get_member};
+ghost use Rattle.serde_json.specs.Read.{read};
+ghost use Rattle.messages.specs.Working.Outline.{said_data, part_data, put_all, IsRead, Gives};
+
+use crate::value::{value_from, value_of_negative, whole_of};
+use arrayvec::ArrayVec;
+use json::{Reader, Scratch, Token};
+use serde_json::Value;
+use std::alloc::Global;
+
+// The most members of an outline: more than any lawful message has.
+const MAX_OUTLINE_MEMBERS: usize = 8;
+
+// How deep a member may nest: one level less than a message.
+const MAX_MEMBER_LEVELS: usize = 126;
+
+/// What a member of an outline is.
+#[derive(Default, Drop)]
+pub(crate) enum Said<'a> {
+    #[default]
+    Null,
+    Truth(bool),
+    /// A whole number from 0 to 2^64 - 1.
+    Whole(u64),
+    Words(&'a str),
+    /// Any other value.
+    Held(Value),
+}
+
+/// What a member of a message is, borrowed.
+#[derive(Clone, Copy)]
+pub(crate) enum Part<'a> {
+    Null,
+    Truth(bool),
+    /// A whole number from 0 to 2^64 - 1.
+    Whole(u64),
+    Words(&'a str),
+    /// Any value.
+    Held(&'a Value),
+}
+
+impl Said<'_> {
+    fn part(&self) -> Part<'_>
+        ensures { part_data result ≡ said_data self.now }
+    {
+        match self {
+            Said::Null => Part::Null,
+            Said::Truth(truth) => Part::Truth(*truth),
+            Said::Whole(whole) => Part::Whole(*whole),
+            Said::Words(text) => Part::Words(text),
+            Said::Held(value) => Part::Held(value),
+        }
+    }
+}
+
+/// A member of an outline.
+#[derive(Default, Drop)]
+pub(crate) struct Member<'a> {
+    pub name: &'a str,
+    said: Said<'a>,
+}
+
+/// The members of a message, in the order in which they stand.
+#[derive(Drop)]
+pub(crate) struct Outline<'a> {
+    members: ArrayVec<Member<'a>, MAX_OUTLINE_MEMBERS>,
+}
+
+impl<'a> Outline<'a> {
+    /// The outline of a text. None where it is no object, where it has more members than fit, and where
+    /// one of them is no value, has a number that is not a whole one of 64 bits, or wants memory.
+    pub fn read(alloc: Global, text: &'a str, scratch: &'a mut Scratch) -> Option<Outline<'a>>
+        ensures { IfSome result (λ outline. read text.now ≡ Some (object (put_all outline.members.items no_members))) }
+    {
+        let mut reader = Reader::new(text, scratch).ok()?;
+        let Some(Token::BeginObject) = reader.next() else {
+            return None;
+        };
+        let members = read_members(alloc, &mut reader)?;
+        if reader.next().is_some() {
+            return None;
+        }
+        Some(Outline { members })
+    }
+
+    /// The members.
+    pub fn members(&self) -> &[Member<'a>]
+        ensures { result.now ≡ self.now.members.items }
+    {
+        self.members.as_slice()
+    }
+}
+
+fn read_members<'a>(
+    alloc: Global,
+    reader: &mut Reader<'a>,
+) -> Option<ArrayVec<Member<'a>, MAX_OUTLINE_MEMBERS>>
+    ensures { IfSome result (λ members. Gives MAX_MEMBER_LEVELS reader.old (put_all members.items no_members) reader.new) }
+{
+    let mut members = ArrayVec::new();
+    'members: while let Some(name) = reader.next_key().ok()? {
+        let token = reader.next()?;
+        let said = said_from(alloc, reader, token)?;
+        members.try_push(Member { name, said }).ok()?;
+    }
+    Some(members)
+}
+
+// What begins with a token and goes on in the reader.
+fn said_from<'a>(alloc: Global, reader: &mut Reader<'a>, token: Token<'a>) -> Option<Said<'a>>
+    ensures value { IfSome result (λ said. IsRead MAX_MEMBER_LEVELS (token_of token.entry) reader.old (said_data said) reader.new) }
+    ensures shorter { IfSome result (λ said. length reader.new ≤ length reader.old) }
+{
+    match token {
+        Token::String(text) => Some(Said::Words(text)),
+        Token::Number(text) => match whole_of(text) {
+            Some(whole) => Some(Said::Whole(whole)),
+            None => Some(Said::Held(value_of_negative(text)?)),
+        },
+        Token::Bool(truth) => Some(Said::Truth(truth)),
+        Token::Null => Some(Said::Null),
+        _ => {
+            let value = value_from(alloc, reader, token, MAX_MEMBER_LEVELS)?;
+            Some(Said::Held(value))
+        }
+    }
+}
+
+/// What the last member of this name is: a look at each.
+pub(crate) fn part_at<'a>(members: &'a [Member<'a>], name: &str) -> Option<Part<'a>>
+    ensures { option_map part_data result ≡ get_member name.now (put_all members.now no_members) }
+{
+    let mut found = None;
+    for member in members {
+        if member.name == name {
+            found = Some(member.said.part());
+        }
+    }
+    found
+}
