@@ -45,22 +45,36 @@ def chosen_crates(names):
     return [it for it in crates if not names or it in names]
 
 
+def with_libraries(names):
+    """These crates, and all that they stand on."""
+    crates = libraries_by_crate()
+    needed = set(names)
+    for name in reversed(list(crates)):
+        if name in needed:
+            needed.update(crates[name])
+    return [it for it in crates if it in needed]
+
+
 def edits_in(folder):
     return sorted(folder.glob("*.edit"))
 
 
 @contextmanager
-def scratch_copy(keeps_libraries):
-    """A copy of the work tree that goes when the block ends: with the libraries that earlier checks built, or with nothing made."""
+def scratch_copy(keeps_libraries, names=None):
+    """A copy of the work tree, or of these crates and what they stand on, that goes when the block ends: with the libraries that earlier checks built, or with nothing made."""
     # (an end by a signal is an end like any other, so that the copy goes then too)
     signal.signal(signal.SIGTERM, lambda number, frame: sys.exit(128 + number))
     skipped = shutil.ignore_patterns(*([] if keeps_libraries else ["out"]), "incremental", ".git")
     with tempfile.TemporaryDirectory(prefix="rtdb-checks-") as room:
         copy = Path(room) / "rtdb"
         copy.mkdir()
-        shutil.copytree(ROOT / "crates", copy / "crates", ignore=skipped)
-        for name in ("crates.txt", "HANDLES"):
-            shutil.copyfile(ROOT / name, copy / name)
+        kept = libraries_by_crate() if names is None else with_libraries(names)
+        for name in kept:
+            shutil.copytree(ROOT / "crates" / name, copy / "crates" / name, ignore=skipped)
+        lines = (ROOT / "crates.txt").read_text(encoding="utf-8").splitlines()
+        listed = [it for it in lines if it.startswith("#") or it.split(":")[0].strip() in kept]
+        (copy / "crates.txt").write_text("\n".join(listed) + "\n", encoding="utf-8")
+        shutil.copyfile(ROOT / "HANDLES", copy / "HANDLES")
         try:
             yield copy
         finally:
