@@ -121,8 +121,8 @@ impl Table {
         }
     }
 
-    /// Whether one of them has this id.
-    pub(crate) fn has(&self, id: &ListenerId) -> bool
+    /// Whether one of them has this id. It takes no memory.
+    pub fn has(&self, id: &ListenerId) -> bool
         ensures { result ≡ has_id id.now self.now }
     {
         self.held.contains_key(id)

@@ -15,7 +15,7 @@ use Rattle.messages.specs.declared.message.Verb.TheVariants as verbs
 use Rattle.messages.specs.declared.message.Wanted.{Wanted}
 use Rattle.messages.specs.declared.message.Wanted.TheVariants.{Step, SignIn, Deploy}
 use Rattle.messages.specs.declared.ask.Asked.{Asked}
-use Rattle.messages.specs.Message.{or_fault, unless_fault, value_of, form_members, verb_members, stamp_of, path_of, query_at, query_said, path_in, tree_of_value, write_at, writes_below, wanted_by, verb_in, request_of, asks}
+use Rattle.messages.specs.Message.{or_fault, unless_fault, value_of, form_members, verb_members, stamp_of, path_of, query_at, query_said, id_at, path_in, tree_of_value, write_at, writes_below, wanted_by, verb_in, request_of, asks}
 use Rattle.messages.specs.Ask.{ComesTo, IsAsked}
 
 -- an event that is wanted deploys rules files alone
@@ -58,6 +58,15 @@ wanted_plain verbs.Update d =
     in_turn IsPlain (or_fault BadRequest (option_and_then as_object (get (codes "values") d))) _ (λ members.
     in_turn IsPlain (path_of text) _ (λ path.
     in_turn IsPlain (writes_below path members) _ (λ writes. tt))))
+wanted_plain verbs.Listen d =
+    in_turn IsPlain (or_fault BadRequest (id_at d)) _ (λ id.
+    in_turn IsPlain (or_fault BadRequest (text_at (codes "path") d)) _ (λ text.
+    in_turn IsPlain (or_fault BadRequest (query_at d)) _ (λ said.
+    in_turn IsPlain (path_of text) _ (λ path.
+    in_turn IsPlain (query_said said) _ (λ query. tt)))))
+wanted_plain verbs.Unlisten d = in_turn IsPlain (or_fault BadRequest (id_at d)) _ (λ id. tt)
+wanted_plain verbs.Poll d = tt
+wanted_plain verbs.Tick d = tt
 wanted_plain verbs.Deploy d = in_turn IsPlain (or_fault BadRequest (text_at (codes "rules") d)) _ (λ rules. tt)
 
 kept : (f : Wanted → Request) → ((w : Wanted) → IsPlain w → IsPlain (f w).wanted) → (said : Result Wanted MessageFault) → Gives IsPlain said → Gives (λ (r : Request). IsPlain r.wanted) (unless_fault said (λ w. Ok (f w)))

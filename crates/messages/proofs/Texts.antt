@@ -25,11 +25,14 @@ use Rattle.rules_reader.specs.Refusal.{left_out_name, Reason, no_json, bad_shape
 use Rattle.path_capture.specs.Path.{printed}
 use Rattle.judge.specs.declared.verdict.Named.{Named}
 use Rattle.rtdb_core.specs.declared.reply.Reply.{Reply}
-use Rattle.rtdb_core.specs.declared.reply.Reply.TheVariants.{Done, Value, Refused}
+use Rattle.rtdb_core.specs.declared.reply.Reply.TheVariants.{Done, Value, News, Refused}
+use Rattle.rtdb_core.specs.declared.news.Notice.{Notice}
+use Rattle.rtdb_core.specs.declared.news.What.{What}
+use Rattle.rtdb_core.specs.declared.news.What.TheVariants.{Gone, Now}
 use Rattle.rtdb_core.specs.declared.reply.Refusal.{Refusal}
 use Rattle.rtdb_core.specs.declared.reply.Refusal.TheVariants as refusals
 use Rattle.messages.specs.declared.code.Code.TheVariants as code
-use Rattle.messages.specs.AnswerText.{refusal_members, plain_data, placed_data, rules_fault_text, named_data, items_of, refusal_data, reply_data, rule_fault_data, rules_fault_data, text}
+use Rattle.messages.specs.AnswerText.{refusal_members, plain_data, placed_data, rules_fault_text, named_data, notice_data, items_of, refusal_data, reply_data, rule_fault_data, rules_fault_data, text}
 
 -- ---- no answer has a float
 
@@ -77,16 +80,31 @@ refusal_is_no_float refusals.NoSession = refl
 refusal_is_no_float refusals.NotAdmin = refl
 refusal_is_no_float refusals.EmptyUpdate = refl
 refusal_is_no_float refusals.Overlap = refl
+refusal_is_no_float refusals.DuplicateId = refl
+refusal_is_no_float refusals.TooManyListeners = refl
+refusal_is_no_float refusals.NoListener = refl
 refusal_is_no_float (refusals.ReadDenied named) = or_false _ false (named_is_no_float named) refl
 refusal_is_no_float (refusals.WriteDenied at named) = or_false _ false (named_is_no_float named) refl
 refusal_is_no_float (refusals.ValidateDenied at pattern why) = refl
 refusal_is_no_float refusals.TreeFull = refl
 refusal_is_no_float refusals.NoMemory = refl
 
+notice_is_no_float : (id : List ℕ) (what : What) → has_float (notice_data (record { id = id; what = what })) ≡ false
+notice_is_no_float id Gone = refl
+notice_is_no_float id (Now tree) = or_false _ false (tree_is_no_float (tree_or_null tree)) refl
+
+notices_are_no_float : (notices : List Notice) → items_have_float (items_of (map notice_data notices)) ≡ false
+notices_are_no_float [] = refl
+notices_are_no_float (notice ∷ notices) = or_false _ _ (notice_is_no_float notice.id notice.what) (notices_are_no_float notices)
+
 pub reply_is_no_float : (reply : Reply) → has_float (reply_data reply) ≡ false
 reply_is_no_float Done = refl
 reply_is_no_float (Value tree) = or_false _ false (tree_is_no_float (tree_or_null tree)) refl
+reply_is_no_float (News notices) = or_false _ false (notices_are_no_float notices) refl
 reply_is_no_float (Refused refusal) = refusal_is_no_float refusal
+
+pub news_is_no_float : (notices : List Notice) → has_float (reply_data (News notices)) ≡ false
+news_is_no_float notices = reply_is_no_float (News notices)
 
 rule_fault_is_no_float : (rule : RuleName) (fault : RuleFault) → has_float (rule_fault_data rule fault) ≡ false
 rule_fault_is_no_float rule (rule_faults.BadExpression byte) = refl

@@ -24,8 +24,11 @@ use Rattle.messages.specs.declared.ask.LineFault.TheVariants as line_faults
 use Rattle.judge.specs.declared.verdict.Named.{Named}
 use Rattle.judge.specs.declared.verdict.Why.{Why}
 use Rattle.judge.specs.declared.verdict.Why.TheVariants.{No, Erred}
+use Rattle.rtdb_core.specs.declared.news.Notice.{Notice}
+use Rattle.rtdb_core.specs.declared.news.What.{What}
+use Rattle.rtdb_core.specs.declared.news.What.TheVariants.{Gone, Now}
 use Rattle.rtdb_core.specs.declared.reply.Reply.{Reply}
-use Rattle.rtdb_core.specs.declared.reply.Reply.TheVariants.{Done, Value, Refused}
+use Rattle.rtdb_core.specs.declared.reply.Reply.TheVariants.{Done, Value, News, Refused}
 use Rattle.rtdb_core.specs.declared.reply.Refusal.{Refusal}
 use Rattle.rtdb_core.specs.declared.reply.Refusal.TheVariants as refusals
 
@@ -47,6 +50,9 @@ number_of code.SessionOpen = 203
 number_of code.TooManySessions = 204
 number_of code.NotAdmin = 205
 number_of code.BadTokens = 208
+number_of code.DuplicateId = 301
+number_of code.NoListener = 302
+number_of code.TooManyListeners = 303
 number_of code.BadRulesJson = 401
 number_of code.BadRulesShape = 402
 number_of code.BadExpression = 403
@@ -76,6 +82,9 @@ name_of code.SessionOpen = codes "SessionOpen"
 name_of code.TooManySessions = codes "TooManySessions"
 name_of code.NotAdmin = codes "NotAdmin"
 name_of code.BadTokens = codes "BadTokens"
+name_of code.DuplicateId = codes "DuplicateId"
+name_of code.NoListener = codes "NoListener"
+name_of code.TooManyListeners = codes "TooManyListeners"
 name_of code.BadRulesJson = codes "BadRulesJson"
 name_of code.BadRulesShape = codes "BadRulesShape"
 name_of code.BadExpression = codes "BadExpression"
@@ -137,15 +146,30 @@ refusal_data refusals.NoSession = plain_data code.NoSession
 refusal_data refusals.NotAdmin = plain_data code.NotAdmin
 refusal_data refusals.EmptyUpdate = plain_data code.EmptyUpdate
 refusal_data refusals.Overlap = plain_data code.Overlap
+refusal_data refusals.DuplicateId = plain_data code.DuplicateId
+refusal_data refusals.TooManyListeners = plain_data code.TooManyListeners
+refusal_data refusals.NoListener = plain_data code.NoListener
 refusal_data (refusals.ReadDenied named) = read_denied_data named
 refusal_data (refusals.WriteDenied at named) = write_denied_data at named
 refusal_data (refusals.ValidateDenied at pattern why) = validate_denied_data at pattern why
 refusal_data refusals.TreeFull = plain_data code.TreeFull
 refusal_data refusals.NoMemory = plain_data code.NoMemory
 
+-- what is told of a listener: that it is cancelled, or the value that it selects
+abbrev pub notice_data : Notice → Data
+notice_data notice = what_data_of notice.id notice.what
+  where
+    what_data_of : List ℕ → What → Data
+    what_data_of id Gone = object (member (codes "cancelled") (boolean true) (member (codes "id") (string id) no_members))
+    what_data_of id (Now tree) = object (member (codes "id") (string id) (member (codes "value") (value_of (tree_or_null tree)) no_members))
+
+abbrev pub notices_data : List Notice → Data
+notices_data notices = array (items_of (map notice_data notices))
+
 abbrev pub reply_data : Reply → Data
 reply_data Done = object (member (codes "ok") (boolean true) no_members)
 reply_data (Value tree) = object (member (codes "ok") (boolean true) (member (codes "value") (value_of (tree_or_null tree)) no_members))
+reply_data (News notices) = object (member (codes "news") (notices_data notices) (member (codes "ok") (boolean true) no_members))
 reply_data (Refused refusal) = refusal_data refusal
 
 -- the text of a reply

@@ -15,10 +15,11 @@ use Rattle.tree_model.specs.Write.{Write}
 use Rattle.json_tree.specs.Json.{is_lawful, of_json}
 use Rattle.path_capture.specs.Path.{segments}
 use Rattle.listeners.specs.Query.{Query, query_of}
+use Rattle.listeners.specs.Table.{is_id}
 use Rattle.evaluator.specs.declared.env.TheConstants.{MAX_MOMENT}
 use Rattle.messages.specs.declared.limits.TheConstants.{MAX_MESSAGE_BYTES}
 use Rattle.tokens.specs.Tokens.{has_only, text_at, Tokens, tokens_of}
-use Rattle.rtdb_core.specs.declared.event.Event.TheVariants.{Open, Close, SignOut, Get, Set, Remove, Update}
+use Rattle.rtdb_core.specs.declared.event.Event.TheVariants.{Open, Close, SignOut, Get, Set, Remove, Update, Listen, Unlisten, Poll, Tick}
 use Rattle.messages.specs.declared.message.Form.{Form}
 use Rattle.messages.specs.declared.message.Form.TheVariants.{Script, Socket}
 use Rattle.messages.specs.declared.message.Stamp.{Stamp}
@@ -66,14 +67,18 @@ verb_named name =
     else if bytes_eq name (codes "set") then Some verbs.Set
     else if bytes_eq name (codes "remove") then Some verbs.Remove
     else if bytes_eq name (codes "update") then Some verbs.Update
+    else if bytes_eq name (codes "listen") then Some verbs.Listen
+    else if bytes_eq name (codes "unlisten") then Some verbs.Unlisten
+    else if bytes_eq name (codes "poll") then Some verbs.Poll
     else if bytes_eq name (codes "deploy") then Some verbs.Deploy
     else None
 
--- the verb of a name; a socket opens and closes no session
+-- the verb of a name; a socket opens and closes no session, and lets no time pass
 abbrev pub verb_of : Form → List ℕ → Option Verb
 verb_of Script name =
     if bytes_eq name (codes "open") then Some verbs.Open
     else if bytes_eq name (codes "close") then Some verbs.Close
+    else if bytes_eq name (codes "tick") then Some verbs.Tick
     else verb_named name
 verb_of (Socket stamp) name = verb_named name
 
@@ -92,6 +97,10 @@ verb_members verbs.Get = codes "path" ∷ codes "query" ∷ []
 verb_members verbs.Set = codes "path" ∷ codes "value" ∷ []
 verb_members verbs.Remove = codes "path" ∷ []
 verb_members verbs.Update = codes "path" ∷ codes "values" ∷ []
+verb_members verbs.Listen = codes "id" ∷ codes "path" ∷ codes "query" ∷ []
+verb_members verbs.Unlisten = codes "id" ∷ []
+verb_members verbs.Poll = []
+verb_members verbs.Tick = []
 verb_members verbs.Deploy = codes "rules" ∷ []
 
 -- the moment and the session: a line of a script says both, and of a socket both are known
@@ -146,6 +155,10 @@ abbrev pub query_said : Option Data → Result (Option Query) MessageFault
 query_said None = Ok None
 query_said (Some said) = or_fault BadQuery (option_map (λ query. Some query) (query_of said))
 
+-- the name of a listener, which the member `id` is: a text of 1 to 64 bytes
+abbrev pub id_at : Data → Option (List ℕ)
+id_at d = option_and_then (λ text. if is_id text then Some text else None) (text_at (codes "id") d)
+
 -- what is wanted by a verb: first the members, then the path, the value, the write, and the query; of an update these of each member in turn
 abbrev pub wanted_by : Verb → Data → Result Wanted MessageFault
 wanted_by verbs.Open d = Ok (Step Open)
@@ -169,6 +182,15 @@ wanted_by verbs.Update d =
     unless_fault (or_fault BadRequest (option_and_then as_object (get (codes "values") d))) (λ members.
     unless_fault (path_of text) (λ path.
     unless_fault (writes_below path members) (λ writes. Ok (Step (Update writes))))))
+wanted_by verbs.Listen d =
+    unless_fault (or_fault BadRequest (id_at d)) (λ id.
+    unless_fault (or_fault BadRequest (text_at (codes "path") d)) (λ text.
+    unless_fault (or_fault BadRequest (query_at d)) (λ said.
+    unless_fault (path_of text) (λ path.
+    unless_fault (query_said said) (λ query. Ok (Step (Listen id path query)))))))
+wanted_by verbs.Unlisten d = unless_fault (or_fault BadRequest (id_at d)) (λ id. Ok (Step (Unlisten id)))
+wanted_by verbs.Poll d = Ok (Step Poll)
+wanted_by verbs.Tick d = Ok (Step Tick)
 wanted_by verbs.Deploy d = unless_fault (or_fault BadRequest (text_at (codes "rules") d)) (λ rules. Ok (Deploy rules))
 
 -- the verb that `do` names

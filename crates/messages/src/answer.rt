@@ -3,14 +3,14 @@
 ghost use Rattle.std.specs.Prelude.{◌≡◌, ◌++◌, codes, option_map, IfOk};
 ghost use Rattle.serde_json.specs.Data.{string, object, member, no_members};
 ghost use Rattle.serde_json.specs.View.{view, members_view};
-ghost use Rattle.messages.specs.AnswerText.{text, fault_text, rules_fault_text, bad_tokens_text, unknown_token_text, line_fault_text, accepted_text, message_code, refusal_members, plain_data, placed_data, named_data, rules_data, read_denied_data, write_denied_data, validate_denied_data, why_text, accepted_data, refusal_data, rule_data, byte_data, what_data, rule_fault_data, rules_fault_data};
+ghost use Rattle.messages.specs.AnswerText.{text, fault_text, rules_fault_text, bad_tokens_text, unknown_token_text, line_fault_text, accepted_text, message_code, refusal_members, plain_data, placed_data, named_data, rules_data, notice_data, notices_data, reply_data, read_denied_data, write_denied_data, validate_denied_data, why_text, accepted_data, refusal_data, rule_data, byte_data, what_data, rule_fault_data, rules_fault_data};
 
 use crate::ask::LineFault;
 use crate::code::Code;
 use crate::message::MessageFault;
-use json_tree::{NoMemory, Node, write_json};
+use json_tree::{NoMemory, Node, to_json, write_json};
 use path_capture::{Path, Pattern};
-use rtdb_core::{Named, NamedRules, Refusal, Reply, Why};
+use rtdb_core::{Named, NamedRules, News, Notice, Refusal, Reply, What, Why};
 use rules_reader::{RuleFault, RuleName, RulesFault};
 use serde_json::{Map, Value, json};
 use std::alloc::Global;
@@ -22,6 +22,7 @@ pub fn write_reply(alloc: Global, reply: &Reply) -> Result<Vec<u8>, NoMemory>
     match reply {
         Reply::Done => done(alloc),
         Reply::Value(tree) => write_value(alloc, tree.as_ref()),
+        Reply::News(news) => write_news(alloc, news),
         Reply::Refused(refusal) => write_refusal(alloc, refusal),
     }
 }
@@ -120,6 +121,45 @@ pub fn write_value(alloc: Global, tree: Option<&Node>) -> Result<Vec<u8>, NoMemo
     Ok(bytes)
 }
 
+// The text of news.
+#[tactic(auto, unfolding(crate::specs::AnswerText::text), using(crate::proofs::Texts::text_of_view, crate::proofs::Texts::news_is_no_float))]
+fn write_news(alloc: Global, news: &News) -> Result<Vec<u8>, NoMemory>
+    ensures { IfOk result (λ bytes. bytes.items ≡ text (Reply.News news.now)) }
+{
+    let value = value_of_news(alloc, news)?;
+    Ok(value.to_vec(alloc)?)
+}
+
+fn value_of_news(alloc: Global, news: &News) -> Result<Value, NoMemory>
+    ensures { IfOk result (λ value. view value ≡ reply_data (Reply.News news.now)) }
+{
+    let notices = values_of_notices(alloc, news.as_slice())?;
+    Ok(json!(in alloc; {"news": notices, "ok": true})?)
+}
+
+fn values_of_notices(alloc: Global, notices: &[Notice]) -> Result<Value, NoMemory>
+    ensures { IfOk result (λ value. view value ≡ notices_data notices.now) }
+{
+    let mut values = Vec::with_capacity(alloc, notices.len())?;
+    for notice in notices {
+        values.push(value_of_notice(alloc, notice)?)?;
+    }
+    Ok(Value::Array(values))
+}
+
+fn value_of_notice(alloc: Global, notice: &Notice) -> Result<Value, NoMemory>
+    ensures { IfOk result (λ value. view value ≡ notice_data notice.now) }
+{
+    let id = notice.id.text();
+    match &notice.what {
+        What::Gone => Ok(json!(in alloc; {"cancelled": true, "id": id})?),
+        What::Now(tree) => {
+            let value = to_json(alloc, tree.as_ref())?;
+            Ok(json!(in alloc; {"id": id, "value": value})?)
+        }
+    }
+}
+
 /// The text of a refusal.
 #[tactic(auto, unfolding(crate::specs::AnswerText::text), using(crate::proofs::Texts::text_of_view, crate::proofs::Texts::refusal_is_no_float))]
 pub fn write_refusal(alloc: Global, refusal: &Refusal) -> Result<Vec<u8>, NoMemory>
@@ -137,6 +177,9 @@ fn value_of_refusal(alloc: Global, refusal: &Refusal) -> Result<Value, NoMemory>
         Refusal::TooManySessions => plain(alloc, Code::TooManySessions),
         Refusal::NoSession => plain(alloc, Code::NoSession),
         Refusal::NotAdmin => plain(alloc, Code::NotAdmin),
+        Refusal::DuplicateId => plain(alloc, Code::DuplicateId),
+        Refusal::TooManyListeners => plain(alloc, Code::TooManyListeners),
+        Refusal::NoListener => plain(alloc, Code::NoListener),
         Refusal::EmptyUpdate => plain(alloc, Code::EmptyUpdate),
         Refusal::Overlap => plain(alloc, Code::Overlap),
         Refusal::ReadDenied(named) => read_denied(alloc, named),

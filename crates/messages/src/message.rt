@@ -6,7 +6,7 @@ ghost use Rattle.serde_json.specs.Data.{string};
 ghost use Rattle.serde_json.specs.View.{view, members_view};
 ghost use Rattle.path_capture.specs.Write.{tree_or_null};
 ghost use Rattle.tokens.specs.Tokens.{names_of, has_only, text_at};
-ghost use Rattle.messages.specs.Message.{Tells, value_of, whole_at, verb_named, verb_of, verb_in, form_members, verb_members, stamp_of, IsWithin, path_of, path_in, path_below, query_at, query_said, tree_of_value, write_at, write_below, writes_below, wanted_by, request_of, asks, or_fault};
+ghost use Rattle.messages.specs.Message.{Tells, value_of, whole_at, verb_named, verb_of, verb_in, form_members, verb_members, stamp_of, IsWithin, path_of, path_in, path_below, query_at, query_said, id_at, tree_of_value, write_at, write_below, writes_below, wanted_by, request_of, asks, or_fault};
 ghost use Rattle.messages.specs.declared.message.MessageFault.TheVariants.{BadRequest};
 ghost use Rattle.messages.specs.declared.message.MessageFault.TheVariants.{NoMemory as no_memory};
 ghost use Rattle.messages.specs.Working.Faults.{fault_of_path};
@@ -17,7 +17,7 @@ use crate::outline::{Member, Part};
 use crate::reader::MessageReader;
 use crate::source::Source;
 use json_tree::{Leaf, NoMemory, Node, ValueFault, from_json};
-use listeners::{Query, QueryFault};
+use listeners::{ListenerId, Query, QueryFault};
 use path_capture::{Path, PathFault, Write};
 use rtdb_core::{Event, MAX_MOMENT, Writes};
 use serde_json::{Map, Value};
@@ -53,6 +53,10 @@ pub enum Verb {
     Set,
     Remove,
     Update,
+    Listen,
+    Unlisten,
+    Poll,
+    Tick,
     Deploy,
 }
 
@@ -206,6 +210,8 @@ fn verb_of(form: Form, name: &str) -> Option<Verb>
             return Some(Verb::Open);
         } else if name == "close" {
             return Some(Verb::Close);
+        } else if name == "tick" {
+            return Some(Verb::Tick);
         },
         Form::Socket(_) => {}
     }
@@ -227,6 +233,12 @@ fn verb_named(name: &str) -> Option<Verb>
         Some(Verb::Remove)
     } else if name == "update" {
         Some(Verb::Update)
+    } else if name == "listen" {
+        Some(Verb::Listen)
+    } else if name == "unlisten" {
+        Some(Verb::Unlisten)
+    } else if name == "poll" {
+        Some(Verb::Poll)
     } else if name == "deploy" {
         Some(Verb::Deploy)
     } else {
@@ -275,12 +287,14 @@ fn is_member(form: Form, verb: Verb, name: &str) -> bool
     };
     of_form
         || match verb {
-            Verb::Open | Verb::Close | Verb::SignOut => false,
+            Verb::Open | Verb::Close | Verb::SignOut | Verb::Poll | Verb::Tick => false,
             Verb::SignIn => name == "token",
             Verb::Get => name == "path" || name == "query",
             Verb::Remove => name == "path",
             Verb::Set => name == "path" || name == "value",
             Verb::Update => name == "path" || name == "values",
+            Verb::Listen => name == "id" || name == "path" || name == "query",
+            Verb::Unlisten => name == "id",
             Verb::Deploy => name == "rules",
         }
 }
@@ -330,6 +344,15 @@ fn wanted_by(alloc: Global, verb: Verb, source: Source<'_>) -> Result<Wanted, Me
             Ok(Wanted::Step(Event::Remove(path)))
         }
         Verb::Update => update_of(alloc, source),
+        Verb::Listen => listen_of(alloc, source),
+        Verb::Unlisten => {
+            let Some(id) = id_at(source) else {
+                return Err(MessageFault::BadRequest);
+            };
+            Ok(Wanted::Step(Event::Unlisten(id)))
+        }
+        Verb::Poll => Ok(Wanted::Step(Event::Poll)),
+        Verb::Tick => Ok(Wanted::Step(Event::Tick)),
         Verb::Deploy => {
             let rules = text_in(alloc, source, "rules")?;
             Ok(Wanted::Deploy(rules))
@@ -368,6 +391,30 @@ fn get_of(alloc: Global, source: Source<'_>) -> Result<Wanted, MessageFault>
     let path = path_of(alloc, text)?;
     let query = query_said(alloc, said)?;
     Ok(Wanted::Step(Event::Get(path, query)))
+}
+
+fn listen_of(alloc: Global, source: Source<'_>) -> Result<Wanted, MessageFault>
+    ensures { Tells (λ wanted. wanted) result (wanted_by Verb.Listen (source_data source.entry)) }
+{
+    let Some(id) = id_at(source) else {
+        return Err(MessageFault::BadRequest);
+    };
+    let Some(text) = source.text_at("path") else {
+        return Err(MessageFault::BadRequest);
+    };
+    let Some(said) = query_at(source) else {
+        return Err(MessageFault::BadRequest);
+    };
+    let path = path_of(alloc, text)?;
+    let query = query_said(alloc, said)?;
+    Ok(Wanted::Step(Event::Listen(id, path, query)))
+}
+
+// The name of a listener that the member `id` is.
+fn id_at(source: Source<'_>) -> Option<ListenerId>
+    ensures { result ≡ id_at (source_data source.entry) }
+{
+    ListenerId::new(source.text_at("id")?)
 }
 
 // The member `query`, None inside where it is left out.

@@ -16,6 +16,7 @@ use Rattle.rtdb_core.specs.declared.event.Event.TheVariants.{Update}
 use Rattle.rtdb_core.specs.declared.reply.Refusal.TheVariants.{NoSession, EmptyUpdate, Overlap}
 use Rattle.rtdb_core.specs.declared.reply.Reply.TheVariants.{Done}
 use Rattle.rtdb_core.specs.State.{State, is_open, scene_at}
+use Rattle.rtdb_core.specs.Rejudged.{all_rejudged}
 use Rattle.rtdb_core.specs.Step.{Outcome, refused, unless_refused, denial, or_full, tree_with, write_refusal, written_to, makes, updates, takes_no_memory}
 
 verdict_same : (scene : Scene) (t : Tree) (ls ms : List Path) → HasOneCapture scene.book → IsPermutation ls ms → write_verdict scene t ls ≡ write_verdict scene t ms
@@ -27,7 +28,7 @@ unfolding write_refusal
 makes_same old now session ws xs one p apart =
     let tree = proposed-permutation old.tree ws xs p apart in
     let verdict = verdict_same (scene_at old now session) (tree_with old ws) (map location ws) (map location xs) one (IsPermutation-map location ws xs p) ∙ ap (λ (t : Tree). write_verdict (scene_at old now session) t (map location xs)) tree in
-    λ i. unless_refused old (or_full (denial (verdict i)) (tree i)) (record { reply = Done; after = record old { tree = tree i } })
+    λ i. unless_refused old (or_full (denial (verdict i)) (tree i)) (record { reply = Done; after = all_rejudged old.tree now (record old { tree = tree i }) })
 
 overlap_same : (ws xs : List Write) → IsPermutation ws xs → overlaps ws ≡ overlaps xs
 overlap_same ws xs p = by_one (overlaps ws) (overlaps xs) refl refl

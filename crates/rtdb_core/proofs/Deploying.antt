@@ -8,9 +8,9 @@ use Rattle.rtdb_core.specs.State.{State, is_open, identity_of, is_admin}
 use Rattle.rtdb_core.specs.Step.{Outcome, refused, deployed, deploys}
 use Rattle.rtdb_core.specs.Headline.{IsDeployJudged}
 
-module _ (old : State) (session : ℕ) (rules : Book) where
+module _ (old : State) (now session : ℕ) (rules : Book) where
   abbrev pub DeployJudged : Outcome → Type 0
-  DeployJudged o = IsDeployJudged old session rules o.reply o.after
+  DeployJudged o = IsDeployJudged old now session rules o.reply o.after
 
   pub deploy_for_memory : DeployJudged (refused old NoMemory)
   deploy_for_memory = record {
@@ -36,7 +36,7 @@ module _ (old : State) (session : ℕ) (rules : Book) where
     refused = λ e. (opened, none);
   }
 
-  deploy_done : is_open old session ≡ true → is_admin (identity_of old session) ≡ true → DeployJudged (record { reply = Done; after = deployed old rules })
+  deploy_done : is_open old session ≡ true → is_admin (identity_of old session) ≡ true → DeployJudged (record { reply = Done; after = deployed old now rules })
   deploy_done opened admin = record {
     accepts = λ _ _ _. (refl, refl);
     refuses = λ _ _ none. absurd (false≢true (sym none ∙ admin));
@@ -44,11 +44,11 @@ module _ (old : State) (session : ℕ) (rules : Book) where
     refused = λ e. cc;
   }
 
-  pub deploy_judged : DeployJudged (deploys old session rules)
+  pub deploy_judged : DeployJudged (deploys old now session rules)
   deploy_judged = by_session (is_open old session) refl
     where
       done : Outcome
-      done = record { reply = Done; after = deployed old rules }
+      done = record { reply = Done; after = deployed old now rules }
 
       by_admin : is_open old session ≡ true → (b : Bool) → is_admin (identity_of old session) ≡ b → DeployJudged (cond (not b) (refused old NotAdmin) done)
       by_admin e true f = deploy_done e f

@@ -2,6 +2,7 @@
 use Rattle.std.proofs.Common.{◌≡◌, ◌≢◌, ◌==◌, ◌&&◌, ◌∙◌, ℕ, Bool, true, false, cond, not, List, [], ◌∷◌, length, Option, Some, None, option_and_then, refl, sym, ap}
 use Rattle.std.specs.Prelude.{nat_le}
 use Rattle.std.specs.FinMap as map_of
+use Rattle.std.proofs.lemmas.Bool.{eqb-true}
 use Rattle.std.specs.Ordering.{nat_cmp, eq_by_cmp}
 use Rattle.std.specs.Cmp.{nat_cmp_total, unsigned_tied}
 use Rattle.tree_model.specs.Path.{Path}
@@ -13,18 +14,21 @@ use Rattle.judge.specs.declared.verdict.Verdict.TheVariants as verdicts
 use Rattle.judge.specs.Tests.{read_verdict}
 use Rattle.evaluator.specs.Identity.{Identity}
 use Rattle.rules_reader.specs.Book.{Book}
+use Rattle.listeners.specs.declared.limits.TheConstants.{MAX_LISTENERS}
 use Rattle.listeners.specs.Query.{Query}
-use Rattle.listeners.specs.Selection.{selection}
+use Rattle.listeners.specs.Table.{Listener, has_id, without_id, taken}
 use Rattle.rtdb_core.specs.Headline.{is_done, rules_by, identity_by}
 use Rattle.rtdb_core.specs.declared.limits.TheConstants.{MAX_SESSIONS, MAX_LOCATIONS}
 use Rattle.rtdb_core.specs.declared.event.Event.{Event}
-use Rattle.rtdb_core.specs.declared.event.Event.TheVariants.{Open, Close, SignIn, SignOut, Get, Set, Remove, Update, Deploy}
+use Rattle.rtdb_core.specs.declared.event.Event.TheVariants.{Open, Close, SignIn, SignOut, Get, Set, Remove, Update, Listen, Unlisten, Poll, Tick, Deploy}
 use Rattle.rtdb_core.specs.declared.reply.Refusal.{Refusal}
-use Rattle.rtdb_core.specs.declared.reply.Refusal.TheVariants.{SessionOpen, TooManySessions, NoSession, NotAdmin, EmptyUpdate, Overlap, TreeFull, NoMemory}
+use Rattle.rtdb_core.specs.declared.reply.Refusal.TheVariants.{SessionOpen, TooManySessions, NoSession, NotAdmin, EmptyUpdate, Overlap, DuplicateId, TooManyListeners, NoListener, TreeFull, NoMemory}
 use Rattle.rtdb_core.specs.declared.reply.Reply.{Reply}
-use Rattle.rtdb_core.specs.declared.reply.Reply.TheVariants.{Done, Value, Refused}
+use Rattle.rtdb_core.specs.declared.reply.Reply.TheVariants.{Done, Value, News, Refused}
 use Rattle.rtdb_core.specs.State.{Session, Sessions, State, fresh, is_open, identity_of, listeners_of, is_admin, scene_at}
-use Rattle.rtdb_core.specs.Step.{asked_for, Outcome, refused, unless_refused, denial, full, or_full, tree_with, verdict_on, write_refusal, read_refusal, opened, opens, closed, closes, signed, signs, deployed, deploys, value_at, gets, written_to, makes, sets, removal, updates, outcome}
+use Rattle.rtdb_core.specs.Rejudged.{asked_for, selected_at, all_rejudged}
+use Rattle.rtdb_core.specs.Step.{Outcome, refused, unless_refused, denial, full, or_full, tree_with, verdict_on, write_refusal, read_refusal, opened, opens, closed, closes, with_session, own_again, signed, signs, deploys, value_at, gets, written_to, makes, sets, removal, updates, listening, listens, unlistens, news_of, polls, ticks, outcome}
+use Rattle.rtdb_core.proofs.Slots.{identity-with, identity-again}
 
 -- who is signed in on each session after an event of one that was answered so
 abbrev SignsOnly : State → ℕ → Event → Outcome → Type 0
@@ -46,11 +50,17 @@ fine_done old session event new same signs = record { stays = λ refusal e. absu
     never : (refusal : Refusal) → Done ≡ Refused refusal → ⊥
     never refusal e = cc
 
+-- an answer that is neither done nor a refusal
+fine_answer : (old : State) (session : ℕ) (event : Event) (o : Outcome) → ((refusal : Refusal) → o.reply ≡ Refused refusal → ⊥) → is_done o.reply ≡ false → o.after.rules ≡ old.rules → ((other : ℕ) → identity_of o.after other ≡ identity_of old other) → IsFine old session event o
+fine_answer old session event o never none same signs = record {
+  stays = λ refusal e. absurd (never refusal e);
+  answers = λ e. never NoMemory e;
+  rules = same ∙ ap (λ (b : Bool). cond b (rules_by event old.rules) old.rules) (sym none);
+  identities = λ other. signs other ∙ ap (λ (b : Bool). cond (b && other == session) (identity_by event (identity_of old other)) (identity_of old other)) (sym none);
+}
+
 fine_value : (old : State) (session : ℕ) (event : Event) (tree : Option Tree) → IsFine old session event (record { reply = Value tree; after = old })
-fine_value old session event tree = record { stays = λ refusal e. absurd (never refusal e); answers = λ e. never NoMemory e; rules = refl; identities = λ _. refl }
-  where
-    never : (refusal : Refusal) → Value tree ≡ Refused refusal → ⊥
-    never refusal e = cc
+fine_value old session event tree = fine_answer old session event (record { reply = Value tree; after = old }) (λ refusal e. cc) refl refl (λ _. refl)
 
 either : (old : State) (session : ℕ) (event : Event) (b : Bool) (o other : Outcome) → IsFine old session event o → IsFine old session event other → IsFine old session event (cond b o other)
 either old session event true o other h g = h
@@ -123,23 +133,29 @@ module _ (old : State) (session : ℕ) where
       either old session Close (not (is_open old session)) _ _ (closed_refused Close)
       (fine_done old session Close (closed old session) refl (λ other. at_session old session other (closed old session).sessions None (map_of.get-remove nat_cmp_total old.sessions session other)))
 
-  fine_sign : (event : Event) (who : Option Identity) → rules_by event old.rules ≡ old.rules → ((before : Option Identity) → identity_by event before ≡ who) → IsFine old session event (signs old session who)
-  fine_sign event who keeps leaves =
+  fine_sign : (now : ℕ) (event : Event) (who : Option Identity) → rules_by event old.rules ≡ old.rules → ((before : Option Identity) → identity_by event before ≡ who) → IsFine old session event (signs old now session who)
+  fine_sign now event who keeps leaves =
       either old session event (not (is_open old session)) _ _ (closed_refused event)
-      (fine_done old session event (signed old session who) (sym keeps) (λ other. at_session old session other (signed old session who).sessions (Some after) (map_of.get-insert nat_cmp_total old.sessions session after other) ∙ ap (λ (o : Option Identity). cond (other == session) o (identity_of old other)) (sym (leaves (identity_of old other)))))
-    where
-      after : Session
-      after = record { identity = who; listeners = listeners_of old session }
+      (fine_done old session event (signed old now session who) (sym keeps) (λ other. identity-with old session who (own_again old now session who) other ∙ ap (λ (o : Option Identity). cond (other == session) o (identity_of old other)) (sym (leaves (identity_of old other)))))
 
   fine_get : (now : ℕ) (path : Path) (query : Option Query) → IsFine old session (Get path query) (gets old now session path query)
   fine_get now path query =
       either old session (Get path query) (not (is_open old session)) _ _ (closed_refused (Get path query))
-      (unless old session (Get path query) (read_refusal old now session path query) (value_at old path query) (read_wants_none old now session path query) (fine_value old session (Get path query) (non_null (selection (sub old.tree path) query))))
+      (unless old session (Get path query) (read_refusal old now session path query) (value_at old path query) (read_wants_none old now session path query) (fine_value old session (Get path query) (non_null (selected_at old.tree path query))))
+
+  -- all listeners are judged again in this state
+  fine_all : (now : ℕ) (event : Event) (mid : State) → mid.sessions ≡ old.sessions → mid.rules ≡ rules_by event old.rules → ((before : Option Identity) → identity_by event before ≡ before) → IsFine old session event (record { reply = Done; after = all_rejudged old.tree now mid })
+  fine_all now event mid same keeps leaves =
+      fine_done old session event (all_rejudged old.tree now mid) keeps (λ other.
+      identity-again old.tree now mid other
+      ∙ ap (λ (m : Sessions). identity_of (record { tree = mid.tree; rules = mid.rules; sessions = m }) other) same
+      ∙ signs_nobody (other == session) (identity_of old other)
+      ∙ ap (λ (o : Option Identity). cond (other == session) o (identity_of old other)) (sym (leaves (identity_of old other))))
 
   fine_makes : (now : ℕ) (event : Event) (writes : List Write) → rules_by event old.rules ≡ old.rules → ((before : Option Identity) → identity_by event before ≡ before) → IsFine old session event (makes old now session writes)
   fine_makes now event writes keeps leaves =
-      unless old session event (write_refusal old now session writes) (record { reply = Done; after = written_to old writes }) (write_wants_none old now session writes)
-      (fine_done old session event (written_to old writes) (sym keeps) (λ other. signs_nobody (other == session) (identity_of old other) ∙ ap (λ (o : Option Identity). cond (other == session) o (identity_of old other)) (sym (leaves (identity_of old other)))))
+      unless old session event (write_refusal old now session writes) (record { reply = Done; after = written_to old now writes }) (write_wants_none old now session writes)
+      (fine_all now event (record { tree = tree_with old writes; rules = old.rules; sessions = old.sessions }) refl (sym keeps) leaves)
 
   fine_set : (now : ℕ) (event : Event) (write : Write) → rules_by event old.rules ≡ old.rules → ((before : Option Identity) → identity_by event before ≡ before) → IsFine old session event (sets old now session write)
   fine_set now event write keeps leaves =
@@ -151,19 +167,64 @@ module _ (old : State) (session : ℕ) where
       (either old session (Update writes) (length writes == 0) _ _ (fine_refusal old session (Update writes) EmptyUpdate (λ e. cc))
       (either old session (Update writes) (overlaps writes) _ _ (fine_refusal old session (Update writes) Overlap (λ e. cc)) (fine_makes now (Update writes) writes refl (λ _. refl))))
 
-  fine_deploy : (rules : Book) → IsFine old session (Deploy rules) (deploys old session rules)
-  fine_deploy rules =
+  fine_deploy : (now : ℕ) (rules : Book) → IsFine old session (Deploy rules) (deploys old now session rules)
+  fine_deploy now rules =
       either old session (Deploy rules) (not (is_open old session)) _ _ (closed_refused (Deploy rules))
       (either old session (Deploy rules) (not (is_admin (identity_of old session))) _ _ (fine_refusal old session (Deploy rules) NotAdmin (λ e. cc))
-      (fine_done old session (Deploy rules) (deployed old rules) refl (λ other. signs_nobody (other == session) (identity_of old other))))
+      (fine_all now (Deploy rules) (record { tree = old.tree; rules = rules; sessions = old.sessions }) refl refl (λ _. refl)))
+
+  -- what a session listens to changes, and not who is signed in on it
+  fine_own : (event : Event) (reply : Reply) (mine : List Listener) → ((refusal : Refusal) → reply ≡ Refused refusal → ⊥) → rules_by event old.rules ≡ old.rules → ((before : Option Identity) → identity_by event before ≡ before) → IsFine old session event (record { reply = reply; after = with_session old session (identity_of old session) mine })
+  fine_own event reply mine never keeps leaves = record {
+    stays = λ refusal e. absurd (never refusal e);
+    answers = λ e. never NoMemory e;
+    rules = rules_are (is_done reply);
+    identities = λ other. identity-with old session (identity_of old session) mine other ∙ as_before other (other == session) refl ∙ by_done (is_done reply && other == session) other;
+  }
+    where
+      rules_are : (b : Bool) → old.rules ≡ cond b (rules_by event old.rules) old.rules
+      rules_are true = sym keeps
+      rules_are false = refl
+
+      as_before : (other : ℕ) (b : Bool) → other == session ≡ b → cond b (identity_of old session) (identity_of old other) ≡ identity_of old other
+      as_before other true e = ap (identity_of old) (sym (eqb-true other session e))
+      as_before other false e = refl
+
+      by_done : (b : Bool) (other : ℕ) → identity_of old other ≡ cond b (identity_by event (identity_of old other)) (identity_of old other)
+      by_done true other = sym (leaves (identity_of old other))
+      by_done false other = refl
+
+  fine_listen : (now : ℕ) (id : List ℕ) (path : Path) (query : Option Query) → IsFine old session (Listen id path query) (listens old now session id path query)
+  fine_listen now id path query =
+      let event = Listen id path query in
+      either old session event (not (is_open old session)) _ _ (closed_refused event)
+      (either old session event (has_id id (listeners_of old session)) _ _ (fine_refusal old session event DuplicateId (λ e. cc))
+      (either old session event (nat_le MAX_LISTENERS (length (listeners_of old session))) _ _ (fine_refusal old session event TooManyListeners (λ e. cc))
+      (unless old session event (read_refusal old now session path query) _ (read_wants_none old now session path query)
+      (fine_own event (Value (non_null (selected_at old.tree path query))) _ (λ refusal e. cc) refl (λ _. refl)))))
+
+  fine_unlisten : (id : List ℕ) → IsFine old session (Unlisten id) (unlistens old session id)
+  fine_unlisten id =
+      either old session (Unlisten id) (not (is_open old session)) _ _ (closed_refused (Unlisten id))
+      (either old session (Unlisten id) (not (has_id id (listeners_of old session))) _ _ (fine_refusal old session (Unlisten id) NoListener (λ e. cc))
+      (fine_own (Unlisten id) Done (without_id id (listeners_of old session)) (λ refusal e. cc) refl (λ _. refl)))
+
+  fine_poll : (now : ℕ) → IsFine old session Poll (polls old now session)
+  fine_poll now =
+      either old session Poll (not (is_open old session)) _ _ (closed_refused Poll)
+      (fine_own Poll (News (news_of old.tree (own_again old now session (identity_of old session)))) _ (λ refusal e. cc) refl (λ _. refl))
 
 pub fine : (old : State) (now session : ℕ) (event : Event) → IsFine old session event (outcome old now session event)
 fine old now session Open = fine_open old session
 fine old now session Close = fine_close old session
-fine old now session (SignIn who) = fine_sign old session (SignIn who) (Some who) refl (λ _. refl)
-fine old now session SignOut = fine_sign old session SignOut None refl (λ _. refl)
+fine old now session (SignIn who) = fine_sign old session now (SignIn who) (Some who) refl (λ _. refl)
+fine old now session SignOut = fine_sign old session now SignOut None refl (λ _. refl)
 fine old now session (Get path query) = fine_get old session now path query
 fine old now session (Set write) = fine_set old session now (Set write) write refl (λ _. refl)
 fine old now session (Remove path) = fine_set old session now (Remove path) (removal path) refl (λ _. refl)
 fine old now session (Update writes) = fine_update old session now writes
-fine old now session (Deploy rules) = fine_deploy old session rules
+fine old now session (Listen id path query) = fine_listen old session now id path query
+fine old now session (Unlisten id) = fine_unlisten old session id
+fine old now session Poll = fine_poll old session now
+fine old now session Tick = fine_all old session now Tick old refl refl (λ _. refl)
+fine old now session (Deploy rules) = fine_deploy old session now rules

@@ -15,7 +15,8 @@ use Rattle.listeners.specs.Selection.{selection}
 use Rattle.rtdb_core.specs.declared.reply.Refusal.TheVariants.{NoSession, ReadDenied, NoMemory}
 use Rattle.rtdb_core.specs.declared.reply.Reply.TheVariants.{Value, Refused}
 use Rattle.rtdb_core.specs.State.{State, is_open, scene_at}
-use Rattle.rtdb_core.specs.Step.{asked_for, Outcome, refused, unless_refused, denial, read_refusal, value_at, gets}
+use Rattle.rtdb_core.specs.Rejudged.{asked_for}
+use Rattle.rtdb_core.specs.Step.{Outcome, refused, unless_refused, denial, read_refusal, value_at, gets}
 use Rattle.rtdb_core.specs.Headline.{GrantsRead, named_for_read, IsReadJudged}
 
 module _ (old : State) (now session : ℕ) (path : Path) (query : Option Query) where

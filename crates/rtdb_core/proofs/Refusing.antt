@@ -17,7 +17,8 @@ use Rattle.judge.proofs.Verdicts.{reads_decided, one_verdict}
 use Rattle.listeners.specs.Query.{Query}
 use Rattle.rtdb_core.specs.declared.reply.Refusal.{Refusal}
 use Rattle.rtdb_core.specs.State.{State, scene_at}
-use Rattle.rtdb_core.specs.Step.{asked_for, denial, full, or_full, tree_with, verdict_on, read_refusal, write_refusal}
+use Rattle.rtdb_core.specs.Rejudged.{asked_for}
+use Rattle.rtdb_core.specs.Step.{denial, full, or_full, tree_with, verdict_on, read_refusal, write_refusal}
 
 -- ---- reads
 

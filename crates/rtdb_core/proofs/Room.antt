@@ -46,3 +46,11 @@ room_of None tree h = by_room (nat_le (count tree) MAX_LOCATIONS) refl h
 pub has_room : (old : State) (now session : ℕ) (writes : List Write) → write_refusal old now session writes ≡ None → count (tree_with old writes) ≤ MAX_LOCATIONS
 unfolding write_refusal
 has_room old now session writes h = room_of (denial (verdict_on old now session writes)) (tree_with old writes) h
+
+-- a bound that is not reached
+pub has_more : (a b : ℕ) → b < a → nat_le a b ≡ false
+has_more a b lt = by_test (nat_le a b) refl
+  where
+    by_test : (t : Bool) → nat_le a b ≡ t → t ≡ false
+    by_test false e = refl
+    by_test true e = let le = leb-true a b e in absurd (omega (arith, le, lt))

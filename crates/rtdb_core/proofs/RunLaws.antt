@@ -4,7 +4,7 @@ use Rattle.evaluator.specs.Identity.{Identity}
 use Rattle.rules_reader.specs.Book.{Book}
 use Rattle.rules_reader.specs.Place.{HasOneCapture}
 use Rattle.rtdb_core.specs.declared.event.Event.{Event}
-use Rattle.rtdb_core.specs.declared.event.Event.TheVariants.{Open, Close, SignIn, SignOut, Get, Set, Remove, Update, Deploy}
+use Rattle.rtdb_core.specs.declared.event.Event.TheVariants.{Open, Close, SignIn, SignOut, Get, Set, Remove, Update, Listen, Unlisten, Poll, Tick, Deploy}
 use Rattle.rtdb_core.specs.declared.reply.Reply.{Reply}
 use Rattle.rtdb_core.specs.State.{State, identity_of}
 use Rattle.rtdb_core.specs.Step.{Step, Call, Run}
@@ -38,6 +38,10 @@ one_by (Get path query) rules h one = one
 one_by (Set write) rules h one = one
 one_by (Remove path) rules h one = one
 one_by (Update writes) rules h one = one
+one_by (Listen id path query) rules h one = one
+one_by (Unlisten id) rules h one = one
+one_by Poll rules h one = one
+one_by Tick rules h one = one
 one_by (Deploy deployed) rules h one = h
 
 one_where : (b : Bool) (event : Event) (rules : Book) → DeploysFile event → HasOneCapture rules → HasOneCapture (cond b (rules_by event rules) rules)

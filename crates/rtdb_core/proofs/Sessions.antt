@@ -1,5 +1,5 @@
 -- The map of the sessions that are open, and the ordered entries that it is kept in.
-use Rattle.std.proofs.Common.{◌≡◌, ℕ, Bool, true, false, cond, T, List, [], ◌∷◌, length, Option, Some, None, is_some, refl, sym, ap, subst, ◌∙◌}
+use Rattle.std.proofs.Common.{◌≡◌, ℕ, Bool, true, false, cond, T, List, [], ◌∷◌, length, Option, Some, None, is_some, Result, Ok, Err, IfOk, OnOk, OnErr, refl, sym, ap, subst, ◌∙◌}
 use Rattle.std.specs.Prelude.{◌&&◌, option_and_then}
 use Rattle.std.specs.FinMap as map_of
 use Rattle.std.specs.FinMap.{find, is_sorted}
@@ -15,8 +15,11 @@ use Rattle.std.specs.Cmp.{nat_cmp_total, unsigned_ties}
 use Rattle.std.proofs.lemmas.Bool.{false≢true, eqb-true}
 use Rattle.std.proofs.lemmas.Cmp.{eq_by_cmp_equiv}
 use Rattle.evaluator.specs.Identity.{Identity}
-use Rattle.rtdb_core.specs.State.{Session, Sessions, State, is_open, listeners_in}
-use Rattle.rtdb_core.specs.Step.{closed}
+use Rattle.tree_model.specs.Tree.{Tree}
+use Rattle.rules_reader.specs.Book.{Book}
+use Rattle.listeners.specs.Table.{Listener}
+use Rattle.rtdb_core.specs.State.{Session, Sessions, State, is_open, identity_of, listeners_in, listeners_of}
+use Rattle.rtdb_core.specs.Step.{closed, with_session}
 
 -- the sessions of these entries
 abbrev pub sessions_of : List (ℕ × Session) → Sessions
@@ -51,13 +54,16 @@ entries_kept es h =
     ap map_of.entries (map_of.same_map nat_cmp_total map_of.nat_cmp-IsAntisymmetric (sessions_of es) (map_of.from_sorted {R = nat_cmp} es) (λ q. map_of.get-from_entries nat_cmp_total es q ∙ sym (map_of.get-from_sorted nat_cmp es q h)))
     ∙ map_of.entries-from_sorted nat_cmp es h
 
+pub entries_are : (es : List (ℕ × Session)) → IsStrictlySortedBy nat_cmp (keys_of es) → map_of.entries (sessions_of es) ≡ es
+entries_are es h = entries_kept es (subst T (sym (ordered_is es h)) tt)
+
 pub count_of : (es : List (ℕ × Session)) → IsStrictlySortedBy nat_cmp (keys_of es) → length es ≡ map_of.len (sessions_of es)
 count_of es h = ap length (sym (entries_kept es (subst T (sym (ordered_is es h)) tt))) ∙ sym (map_of.len-entries (sessions_of es))
 
 -- ---- entries of which one is put, changed or taken out
 
 -- what is found where there is this at k, and all else is as before
-abbrev IsChanged : List (ℕ × Session) → List (ℕ × Session) → ℕ → Option Session → Type 0
+abbrev pub IsChanged : List (ℕ × Session) → List (ℕ × Session) → ℕ → Option Session → Type 0
 IsChanged es fs k v = (q : ℕ) → lookup (is_at (nat_cmp q)) fs ≡ cond (is_at (nat_cmp k) q) v (lookup (is_at (nat_cmp q)) es)
 
 same_by : (es fs : List (ℕ × Session)) (k : ℕ) (v : Option Session) (m : Sessions) → IsChanged es fs k v → ((q : ℕ) → map_of.get m q ≡ cond (eq_by_cmp nat_cmp q k) v (map_of.get (sessions_of es) q)) → sessions_of fs ≡ m
@@ -92,3 +98,47 @@ none_gone old session h =
 
 pub listeners_at : (es : List (ℕ × Session)) (q : ℕ) (one : Session) → Some one ≡ lookup (is_at (nat_cmp q)) es → one.listeners ≡ listeners_in (map_of.get (sessions_of es) q)
 listeners_at es q one is = ap listeners_in (is ∙ sym (at es q))
+
+-- a session that was found, and is changed in its place
+module _ (tree : Tree) (rules : Book) (es fs : List (ℕ × Session)) (state : State) (n : ℕ) (was one : Session) where
+  abbrev kept : List (ℕ × Session) → State
+  kept gs = record { tree = tree; rules = rules; sessions = sessions_of gs }
+
+  abbrev Found : Type 0
+  Found = Some was ≡ lookup (is_at (nat_cmp n)) es
+
+  pub identity_is : kept es ≡ state → Found → was.identity ≡ identity_of state n
+  identity_is is found = identity_at es n (Some was) found ∙ ap (λ (s : State). identity_of s n) is
+
+  pub listeners_are : kept es ≡ state → Found → was.listeners ≡ listeners_of state n
+  listeners_are is found = listeners_at es n was found ∙ ap (λ (s : State). listeners_of s n) is
+
+  pub put_is : kept es ≡ state → IsChanged es fs n (Some one) → (who : Option Identity) (ls : List Listener) → one ≡ record { identity = who; listeners = ls } → kept fs ≡ with_session state n who ls
+  put_is is changed who ls so =
+      ap (λ (m : Sessions). record { tree = tree; rules = rules; sessions = m }) (with_one es fs n one changed ∙ ap (map_of.insert (sessions_of es) n) so)
+      ∙ ap (λ (s : State). with_session s n who ls) is
+
+  -- one that stays as it was leaves all as it was
+  pub stays_is : kept es ≡ state → Found → IsChanged es fs n (Some one) → one ≡ was → kept fs ≡ state
+  stays_is is found changed same =
+      ap (λ (m : Sessions). record { tree = tree; rules = rules; sessions = m })
+      (map_of.same_map nat_cmp_total map_of.nat_cmp-IsAntisymmetric (sessions_of fs) (sessions_of es) (λ q. at fs q ∙ changed q ∙ by_test q (is_at (nat_cmp n) q) refl ∙ sym (at es q)))
+      ∙ is
+    where
+      by_test : (q : ℕ) (b : Bool) → is_at (nat_cmp n) q ≡ b → cond b (Some one) (lookup (is_at (nat_cmp q)) es) ≡ lookup (is_at (nat_cmp q)) es
+      by_test q false e = refl
+      by_test q true e = ap Some same ∙ found ∙ ap (λ (k : ℕ). lookup (is_at (nat_cmp k)) es) (eqb-true n q (unsigned_ties n q ∙ e))
+
+-- ---- what holds of a result
+
+pub on_ok : {E P Q : Type 0} (r : Result (Unit {0}) E) → OnOk r P → (P → Q) → OnOk r Q
+on_ok (Ok _) h f = f h
+on_ok (Err _) h f = tt
+
+pub on_err : {E P Q : Type 0} (r : Result (Unit {0}) E) → OnErr r P → (P → Q) → OnErr r Q
+on_err (Ok _) h f = tt
+on_err (Err _) h f = f h
+
+pub if_both : {T E : Type 0} {P Q R : T → Type 0} (r : Result T E) → IfOk r P → IfOk r Q → ((x : T) → P x → Q x → R x) → IfOk r R
+if_both (Ok x) h g f = f x h g
+if_both (Err _) h g f = tt

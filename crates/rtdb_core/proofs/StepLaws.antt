@@ -6,15 +6,16 @@ use Rattle.rules_reader.specs.Book.{Book}
 use Rattle.rules_reader.specs.Place.{HasOneCapture}
 use Rattle.listeners.specs.Query.{Query}
 use Rattle.rtdb_core.specs.declared.event.Event.{Event}
-use Rattle.rtdb_core.specs.declared.event.Event.TheVariants.{Open, Close, SignIn, SignOut, Get, Set, Remove, Update, Deploy}
+use Rattle.rtdb_core.specs.declared.event.Event.TheVariants.{Open, Close, SignIn, SignOut, Get, Set, Remove, Update, Listen, Unlisten, Poll, Tick, Deploy}
 use Rattle.rtdb_core.specs.declared.reply.Refusal.{Refusal}
 use Rattle.rtdb_core.specs.declared.reply.Refusal.TheVariants.{NoMemory}
 use Rattle.rtdb_core.specs.declared.reply.Reply.{Reply}
 use Rattle.rtdb_core.specs.declared.reply.Reply.TheVariants.{Refused}
 use Rattle.rtdb_core.specs.State.{State, identity_of}
 use Rattle.rtdb_core.specs.Step.{Outcome, refused, removal, outcome, Step, Call}
-use Rattle.rtdb_core.specs.Headline.{AsksFor, IsReadJudged, IsWriteJudged, IsDeployJudged, is_done, rules_by, identity_by, IsJudged}
+use Rattle.rtdb_core.specs.Headline.{AsksFor, IsReadJudged, IsListenJudged, IsPollJudged, IsWriteJudged, IsDeployJudged, is_done, rules_by, identity_by, IsJudged}
 use Rattle.rtdb_core.proofs.Deploying.{DeployJudged, deploy_for_memory, deploy_judged}
+use Rattle.rtdb_core.proofs.ListenJudging.{ListenJudged, listen_for_memory, listen_judged, poll_for_memory, poll_judged}
 use Rattle.rtdb_core.proofs.Outcomes.{fine}
 use Rattle.rtdb_core.proofs.ReadJudging.{ReadJudged, read_for_memory, read_judged}
 use Rattle.rtdb_core.proofs.WriteJudging.{WriteJudged, write_for_memory, set_judged, update_judged}
@@ -66,16 +67,26 @@ unfolding Step
 read_by old new now session path query reply (inl h) = subst (ReadJudged old now session path query) h (read_judged old now session path query)
 read_by old new now session path query reply (inr h) = subst (ReadJudged old now session path query) (for_memory old new reply h.0 h.1) (read_for_memory old now session path query)
 
+listened_by : (old new : State) (now session : ℕ) (id : List ℕ) (path : Path) (query : Option Query) (reply : Reply) → Step old now session (Listen id path query) reply new → IsListenJudged old now session id path query reply new
+unfolding Step
+listened_by old new now session id path query reply (inl h) = subst (ListenJudged old now session id path query) h (listen_judged old now session id path query)
+listened_by old new now session id path query reply (inr h) = subst (ListenJudged old now session id path query) (for_memory old new reply h.0 h.1) (listen_for_memory old now session id path query)
+
+polled_by : (old new : State) (now session : ℕ) (reply : Reply) → Step old now session Poll reply new → IsPollJudged old now session reply
+unfolding Step
+polled_by old new now session reply (inl h) = subst (λ (o : Outcome). IsPollJudged old now session o.reply) h (poll_judged old now session)
+polled_by old new now session reply (inr h) = subst (IsPollJudged old now session) (sym h.0) (poll_for_memory old now session)
+
 -- where the outcome of an event is that its writes are judged, so is its step
 step_judged : (old new : State) (now session : ℕ) (event : Event) (all : List Write) (reply : Reply) → WriteJudged old now session all (outcome old now session event) → Step old now session event reply new → IsWriteJudged old now session all reply new
 unfolding Step
 step_judged old new now session event all reply judged (inl h) = subst (WriteJudged old now session all) h judged
 step_judged old new now session event all reply judged (inr h) = subst (WriteJudged old now session all) (for_memory old new reply h.0 h.1) (write_for_memory old now session all)
 
-deployed_by : (old new : State) (now session : ℕ) (rules : Book) (reply : Reply) → Step old now session (Deploy rules) reply new → IsDeployJudged old session rules reply new
+deployed_by : (old new : State) (now session : ℕ) (rules : Book) (reply : Reply) → Step old now session (Deploy rules) reply new → IsDeployJudged old now session rules reply new
 unfolding Step
-deployed_by old new now session rules reply (inl h) = subst (DeployJudged old session rules) h (deploy_judged old session rules)
-deployed_by old new now session rules reply (inr h) = subst (DeployJudged old session rules) (for_memory old new reply h.0 h.1) (deploy_for_memory old session rules)
+deployed_by old new now session rules reply (inl h) = subst (DeployJudged old now session rules) h (deploy_judged old now session rules)
+deployed_by old new now session rules reply (inr h) = subst (DeployJudged old now session rules) (for_memory old new reply h.0 h.1) (deploy_for_memory old now session rules)
 
 -- the writes that an event asks for are judged together
 write_judged : (old : State) (now session : ℕ) (event : Event) (all : List Write) → HasOneCapture old.rules → AsksFor event all → WriteJudged old now session all (outcome old now session event)
@@ -83,6 +94,10 @@ write_judged old now session Open all one asks = absurd asks
 write_judged old now session Close all one asks = absurd asks
 write_judged old now session (SignIn who) all one asks = absurd asks
 write_judged old now session SignOut all one asks = absurd asks
+write_judged old now session (Listen id path query) all one asks = absurd asks
+write_judged old now session (Unlisten id) all one asks = absurd asks
+write_judged old now session Poll all one asks = absurd asks
+write_judged old now session Tick all one asks = absurd asks
 write_judged old now session (Deploy rules) all one asks = absurd asks
 write_judged old now session (Get path query) all one asks = absurd asks
 write_judged old now session (Set write) all one asks = subst (λ (ws : List Write). WriteJudged old now session ws (outcome old now session (Set write))) (sym asks) (set_judged old now session write one)
@@ -97,6 +112,8 @@ pub judged : (old new : State) (call : Call) (reply : Reply) → HasOneCapture o
 judged old new call reply one s = record {
   step = s;
   read = λ path query is. read_by old new call.now call.session path query reply (at_event old new call reply s _ is);
+  listen = λ id path query is. listened_by old new call.now call.session id path query reply (at_event old new call reply s _ is);
+  poll = λ is. polled_by old new call.now call.session reply (at_event old new call reply s _ is);
   write = λ all asks. step_judged old new call.now call.session call.event all reply (write_judged old call.now call.session call.event all one asks) s;
   deploy = λ rules is. deployed_by old new call.now call.session rules reply (at_event old new call reply s _ is);
   refused = λ refusal told. refused_stays old new call.now call.session call.event refusal (subst (λ (r : Reply). Step old call.now call.session call.event r new) told s);

@@ -21,7 +21,7 @@ use Rattle.rtdb_core.specs.declared.reply.Refusal.{Refusal}
 use Rattle.rtdb_core.specs.declared.reply.Refusal.TheVariants as refusals
 use Rattle.rtdb_core.specs.declared.reply.Refusal.TheVariants.{NoSession, EmptyUpdate, Overlap, WriteDenied, ValidateDenied, TreeFull, NoMemory}
 use Rattle.rtdb_core.specs.declared.reply.Reply.{Reply}
-use Rattle.rtdb_core.specs.declared.reply.Reply.TheVariants.{Done, Value, Refused}
+use Rattle.rtdb_core.specs.declared.reply.Reply.TheVariants.{Done, Value, News, Refused}
 use Rattle.rtdb_core.specs.State.{State, is_open, scene_at}
 use Rattle.rtdb_core.specs.Step.{Outcome, refused, unless_refused, denial, full, or_full, tree_with, verdict_on, write_refusal, written_to, makes, sets, updates}
 use Rattle.rtdb_core.specs.Headline.{AreJudged, GrantsAll, Validates, IsLeastDenied, named_for_write, FailsFirst, Fits, Overflows, IsWriteJudged}
@@ -30,12 +30,16 @@ use Rattle.rtdb_core.specs.Headline.{AreJudged, GrantsAll, Validates, IsLeastDen
 abbrev is_judgement : Reply → Bool
 is_judgement Done = true
 is_judgement (Value tree) = false
+is_judgement (News notices) = false
 is_judgement (Refused refusals.SessionOpen) = false
 is_judgement (Refused refusals.TooManySessions) = false
 is_judgement (Refused refusals.NoSession) = false
 is_judgement (Refused refusals.NotAdmin) = false
 is_judgement (Refused refusals.EmptyUpdate) = false
 is_judgement (Refused refusals.Overlap) = false
+is_judgement (Refused refusals.DuplicateId) = false
+is_judgement (Refused refusals.TooManyListeners) = false
+is_judgement (Refused refusals.NoListener) = false
 is_judgement (Refused (refusals.ReadDenied named)) = false
 is_judgement (Refused (refusals.WriteDenied at named)) = true
 is_judgement (Refused (refusals.ValidateDenied at pattern why)) = true
@@ -50,7 +54,7 @@ module _ (old : State) (now session : ℕ) (all : List Write) where
   IsVerdict v = IsWriteVerdict (scene_at old now session) (tree_with old all) (map location all) v
 
   abbrev done : Outcome
-  done = record { reply = Done; after = written_to old all }
+  done = record { reply = Done; after = written_to old now all }
 
   -- ---- not judged
 

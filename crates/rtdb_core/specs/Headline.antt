@@ -1,5 +1,5 @@
 -- What is promised of each call of a run.
-use Rattle.std.specs.Prelude.{◌≡◌, ◌≢◌, ℕ, ◌≤◌, ◌<◌, List, [], ◌∷◌, ◌++◌, map, Option, Some, None, Bool, true, false, ◌==◌, ◌&&◌, if◌then◌else◌, ⊤}
+use Rattle.std.specs.Prelude.{◌≡◌, ◌≢◌, ℕ, ◌≤◌, ◌<◌, ◌⊎◌, List, [], ◌∷◌, ◌++◌, length, map, Option, Some, None, Bool, true, false, ◌==◌, ◌&&◌, if◌then◌else◌, ⊤}
 use Rattle.tree_model.specs.Path.{Path}
 use Rattle.tree_model.specs.PathMap.{sub}
 use Rattle.tree_model.specs.Tree.{Tree, non_null, count}
@@ -8,8 +8,10 @@ use Rattle.path_capture.specs.Pattern as parts
 use Rattle.path_capture.specs.Pattern.{part_of_text}
 use Rattle.rules_reader.specs.Part.{Pattern, texts}
 use Rattle.rules_reader.specs.declared.kind.Kind.TheVariants.{Read as read_rules, Write as write_rules}
+use Rattle.listeners.specs.declared.limits.TheConstants.{MAX_LISTENERS}
 use Rattle.listeners.specs.Query.{Query}
 use Rattle.listeners.specs.Selection.{selection}
+use Rattle.listeners.specs.Table.{Listener, has_id}
 use Rattle.evaluator.specs.Identity.{Identity}
 use Rattle.rules_reader.specs.Book.{Book}
 use Rattle.rules_reader.specs.Place.{HasOneCapture}
@@ -21,13 +23,16 @@ use Rattle.judge.specs.declared.verdict.Named.{Named}
 use Rattle.judge.specs.declared.verdict.Why.{Why}
 use Rattle.rtdb_core.specs.declared.limits.TheConstants.{MAX_LOCATIONS}
 use Rattle.rtdb_core.specs.declared.event.Event.{Event}
-use Rattle.rtdb_core.specs.declared.event.Event.TheVariants.{Open, Close, SignIn, SignOut, Get, Set, Remove, Update, Deploy}
+use Rattle.rtdb_core.specs.declared.event.Event.TheVariants.{Open, Close, SignIn, SignOut, Get, Set, Remove, Update, Listen, Unlisten, Poll, Tick, Deploy}
+use Rattle.rtdb_core.specs.declared.news.Notice.{Notice}
 use Rattle.rtdb_core.specs.declared.reply.Refusal.{Refusal}
 use Rattle.rtdb_core.specs.declared.reply.Refusal.TheVariants.{NotAdmin, ReadDenied, WriteDenied, ValidateDenied, TreeFull, NoMemory}
 use Rattle.rtdb_core.specs.declared.reply.Reply.{Reply}
-use Rattle.rtdb_core.specs.declared.reply.Reply.TheVariants.{Done, Value, Refused}
-use Rattle.rtdb_core.specs.State.{State, is_open, identity_of, is_admin, scene_at}
-use Rattle.rtdb_core.specs.Step.{Step, asked_for, Call, Run, removal, tree_with, written_to, deployed}
+use Rattle.rtdb_core.specs.declared.reply.Reply.TheVariants.{Done, Value, News, Refused}
+use Rattle.rtdb_core.specs.State.{State, is_open, identity_of, listeners_of, is_admin, scene_at}
+use Rattle.rtdb_core.specs.News.{gone, selected_now}
+use Rattle.rtdb_core.specs.Rejudged.{asked_for}
+use Rattle.rtdb_core.specs.Step.{Step, Call, Run, removal, tree_with, written_to, listening, deployed}
 
 -- ---- reads
 
@@ -47,6 +52,34 @@ pub record IsReadJudged (before : State) (now session : ℕ) (path : Path) (quer
   pub denied : (named : List Named) → reply ≡ Refused (ReadDenied named) → (is_open before session ≡ true) × ¬ (GrantsRead before now session path query) × (named ≡ named_for_read before now session path query)
   pub stays : after ≡ before
 
+-- ---- listeners
+
+-- the session is open, does not listen under the id yet, and may listen to more: no other refusal stops a listen
+pub record MayListen (before : State) (session : ℕ) (id : List ℕ) : Type 0 where
+  pub opened : is_open before session ≡ true
+  pub new : has_id id (listeners_of before session) ≡ false
+  pub room : length (listeners_of before session) < MAX_LISTENERS
+
+-- A listen that no other refusal stops is judged as a read, and answered as one; where it is granted, the session has one listener more, live and without news, and nothing else changes; but for want of memory, and never the other way. (Guide "Read and Write Data", listeners; guide "Core syntax", `.read` and `.write` rules cascade.)
+pub record IsListenJudged (before : State) (now session : ℕ) (id : List ℕ) (path : Path) (query : Option Query) (reply : Reply) (after : State) : Type 0 where
+  pub grants : reply ≢ Refused NoMemory → MayListen before session id → GrantsRead before now session path query → (reply ≡ Value (non_null (selection (sub before.tree path) query))) × (after ≡ listening before session id path query)
+  pub denies : reply ≢ Refused NoMemory → MayListen before session id → ¬ (GrantsRead before now session path query) → reply ≡ Refused (ReadDenied (named_for_read before now session path query))
+  pub granted : (tree : Option Tree) → reply ≡ Value tree → MayListen before session id × GrantsRead before now session path query × (tree ≡ non_null (selection (sub before.tree path) query)) × (after ≡ listening before session id path query)
+  pub denied : (named : List Named) → reply ≡ Refused (ReadDenied named) → MayListen before session id × ¬ (GrantsRead before now session path query) × (named ≡ named_for_read before now session path query)
+
+-- These are the notices for these listeners, in their order: what it selects now for one that is live, whose read is granted at this moment and for which there is news; that it is gone for one that is not live or not granted; and nothing for any other. (Guide "Read and Write Data", listeners; marks are this project's profile.)
+abbrev pub AreTold : State → ℕ → ℕ → List Listener → List Notice → Type 0
+AreTold before now session [] notices = notices ≡ []
+AreTold before now session (l ∷ ls) notices =
+    ((l.live ≡ true) × GrantsRead before now session l.path l.query × (l.marked ≡ true) × (rest : List Notice) × (notices ≡ selected_now l.id (non_null (selection (sub before.tree l.path) l.query)) ∷ rest) × AreTold before now session ls rest)
+    ⊎ (((l.live ≡ true) × GrantsRead before now session l.path l.query × (l.marked ≡ false) × AreTold before now session ls notices)
+    ⊎ (¬ ((l.live ≡ true) × GrantsRead before now session l.path l.query) × (rest : List Notice) × (notices ≡ gone l.id ∷ rest) × AreTold before now session ls rest))
+
+-- A poll of an open session is answered by the news of its listeners, each judged at this poll; but for want of memory. (This project's profile.)
+pub record IsPollJudged (before : State) (now session : ℕ) (reply : Reply) : Type 0 where
+  pub tells : reply ≢ Refused NoMemory → is_open before session ≡ true → (notices : List Notice) × (reply ≡ News notices)
+  pub told : (notices : List Notice) → reply ≡ News notices → (is_open before session ≡ true) × AreTold before now session (listeners_of before session) notices
+
 -- ---- writes
 
 -- the event asks for these writes, together
@@ -59,6 +92,10 @@ AsksFor (Get path query) writes = ⊥
 AsksFor (Set write) writes = writes ≡ write ∷ []
 AsksFor (Remove path) writes = writes ≡ removal path ∷ []
 AsksFor (Update all) writes = writes ≡ all
+AsksFor (Listen id path query) writes = ⊥
+AsksFor (Unlisten id) writes = ⊥
+AsksFor Poll writes = ⊥
+AsksFor Tick writes = ⊥
 AsksFor (Deploy rules) writes = ⊥
 
 -- the session is open, there is a write, and none overlaps another: no other refusal stops them
@@ -94,32 +131,33 @@ Fits before writes = count (tree_with before writes) ≤ MAX_LOCATIONS
 abbrev pub Overflows : State → List Write → Type 0
 Overflows before writes = MAX_LOCATIONS < count (tree_with before writes)
 
--- Writes that no other refusal stops are made, and change nothing else, where all are granted and valid, and the tree has room; they are denied with the least location that is not granted and the names of its rules, else with the first failing place, its pattern and the reason, else for the room; but for want of memory, and never the other way. (Guide "Core syntax"; the names, the order and the room are this project's profile.)
+-- Writes that no other refusal stops are made, all listeners are judged again, and nothing else changes, where all are granted and valid, and the tree has room; they are denied with the least location that is not granted and the names of its rules, else with the first failing place, its pattern and the reason, else for the room; but for want of memory, and never the other way. (Guide "Core syntax"; the names, the order and the room are this project's profile.)
 pub record IsWriteJudged (before : State) (now session : ℕ) (writes : List Write) (reply : Reply) (after : State) : Type 0 where
-  pub makes : reply ≢ Refused NoMemory → AreJudged before session writes → GrantsAll before now session writes → Validates before now session writes → Fits before writes → (reply ≡ Done) × (after ≡ written_to before writes)
+  pub makes : reply ≢ Refused NoMemory → AreJudged before session writes → GrantsAll before now session writes → Validates before now session writes → Fits before writes → (reply ≡ Done) × (after ≡ written_to before now writes)
   pub denies : reply ≢ Refused NoMemory → AreJudged before session writes → (at : Path) → IsLeastDenied before now session writes at → reply ≡ Refused (WriteDenied at (named_for_write before now session writes at))
   pub fails : reply ≢ Refused NoMemory → AreJudged before session writes → GrantsAll before now session writes → (at : Path) (pattern : Pattern) (why : Why) → FailsFirst before now session writes at pattern why → reply ≡ Refused (ValidateDenied at (map part_of_text pattern) why)
   pub overflows : reply ≢ Refused NoMemory → AreJudged before session writes → GrantsAll before now session writes → Validates before now session writes → Overflows before writes → reply ≡ Refused TreeFull
-  pub made : reply ≡ Done → AreJudged before session writes × GrantsAll before now session writes × Validates before now session writes × Fits before writes × (after ≡ written_to before writes)
+  pub made : reply ≡ Done → AreJudged before session writes × GrantsAll before now session writes × Validates before now session writes × Fits before writes × (after ≡ written_to before now writes)
   pub denied : (at : Path) (named : List Named) → reply ≡ Refused (WriteDenied at named) → AreJudged before session writes × IsLeastDenied before now session writes at × (named ≡ named_for_write before now session writes at)
   pub failed : (at : Path) (pattern : parts.Pattern) (why : Why) → reply ≡ Refused (ValidateDenied at pattern why) → AreJudged before session writes × GrantsAll before now session writes × FailsFirst before now session writes at (texts pattern) why
   pub overflowed : reply ≡ Refused TreeFull → AreJudged before session writes × GrantsAll before now session writes × Validates before now session writes × Overflows before writes
 
 -- ---- deployments
 
--- Rules that an administrator deploys on an open session are in force from then on, and nothing else changes; by anybody else they are refused; but for want of memory, and never the other way. (This project's profile.)
-pub record IsDeployJudged (before : State) (session : ℕ) (rules : Book) (reply : Reply) (after : State) : Type 0 where
-  pub accepts : reply ≢ Refused NoMemory → is_open before session ≡ true → is_admin (identity_of before session) ≡ true → (reply ≡ Done) × (after ≡ deployed before rules)
+-- Rules that an administrator deploys on an open session are in force from then on, all listeners are judged again by them, and nothing else changes; by anybody else they are refused; but for want of memory, and never the other way. (This project's profile.)
+pub record IsDeployJudged (before : State) (now session : ℕ) (rules : Book) (reply : Reply) (after : State) : Type 0 where
+  pub accepts : reply ≢ Refused NoMemory → is_open before session ≡ true → is_admin (identity_of before session) ≡ true → (reply ≡ Done) × (after ≡ deployed before now rules)
   pub refuses : reply ≢ Refused NoMemory → is_open before session ≡ true → is_admin (identity_of before session) ≡ false → reply ≡ Refused NotAdmin
-  pub accepted : reply ≡ Done → (is_open before session ≡ true) × (is_admin (identity_of before session) ≡ true) × (after ≡ deployed before rules)
+  pub accepted : reply ≡ Done → (is_open before session ≡ true) × (is_admin (identity_of before session) ≡ true) × (after ≡ deployed before now rules)
   pub refused : reply ≡ Refused NotAdmin → (is_open before session ≡ true) × (is_admin (identity_of before session) ≡ false)
 
 -- ---- what is in force, by what was asked and answered before
 
--- the event was done, and not answered by a value or a refusal
+-- the event was done, and not answered by a value, by news or by a refusal
 abbrev pub is_done : Reply → Bool
 is_done Done = true
 is_done (Value tree) = false
+is_done (News notices) = false
 is_done (Refused refusal) = false
 
 -- the rules after an event that was done: those that it deploys, else those before it
@@ -132,6 +170,10 @@ rules_by (Get path query) rules = rules
 rules_by (Set write) rules = rules
 rules_by (Remove path) rules = rules
 rules_by (Update writes) rules = rules
+rules_by (Listen id path query) rules = rules
+rules_by (Unlisten id) rules = rules
+rules_by Poll rules = rules
+rules_by Tick rules = rules
 rules_by (Deploy deployed) rules = deployed
 
 -- who is signed in on a session after an event of it that was done: nobody where it opens, closes or signs out, whoever signs in, else who was before it
@@ -144,6 +186,10 @@ identity_by (Get path query) who = who
 identity_by (Set write) who = who
 identity_by (Remove path) who = who
 identity_by (Update writes) who = who
+identity_by (Listen id path query) who = who
+identity_by (Unlisten id) who = who
+identity_by Poll who = who
+identity_by Tick who = who
 identity_by (Deploy rules) who = who
 
 -- the rules in force after these calls with these replies: those of the last deployment that was done, else those before them all
@@ -168,6 +214,10 @@ DeploysFile (Get path query) = ⊤
 DeploysFile (Set write) = ⊤
 DeploysFile (Remove path) = ⊤
 DeploysFile (Update writes) = ⊤
+DeploysFile (Listen id path query) = ⊤
+DeploysFile (Unlisten id) = ⊤
+DeploysFile Poll = ⊤
+DeploysFile Tick = ⊤
 DeploysFile (Deploy rules) = HasOneCapture rules
 
 -- these calls deploy rules as rules files have them
@@ -177,12 +227,14 @@ DeployFiles (call ∷ calls) = DeploysFile call.event × DeployFiles calls
 
 -- ---- calls
 
--- What a call is answered, by the rules in force before it: it is a step; reads, writes and deployments are judged; a refused call changes nothing.
+-- What a call is answered, by the rules in force before it: it is a step; reads, listens, the news of polls, writes and deployments are judged; a refused call changes nothing.
 pub record IsJudged (before : State) (call : Call) (reply : Reply) (after : State) : Type 0 where
   pub step : Step before call.now call.session call.event reply after
   pub read : (path : Path) (query : Option Query) → call.event ≡ Get path query → IsReadJudged before call.now call.session path query reply after
+  pub listen : (id : List ℕ) (path : Path) (query : Option Query) → call.event ≡ Listen id path query → IsListenJudged before call.now call.session id path query reply after
+  pub poll : call.event ≡ Poll → IsPollJudged before call.now call.session reply
   pub write : (writes : List Write) → AsksFor call.event writes → IsWriteJudged before call.now call.session writes reply after
-  pub deploy : (rules : Book) → call.event ≡ Deploy rules → IsDeployJudged before call.session rules reply after
+  pub deploy : (rules : Book) → call.event ≡ Deploy rules → IsDeployJudged before call.now call.session rules reply after
   pub refused : (refusal : Refusal) → reply ≡ Refused refusal → after ≡ before
 
 -- A call between others of a run: its own reply among the replies, the states that the calls before it and it leave, that the rules in force at it are those of the last deployment that was done before it, that who is signed in on its session is whom the calls of the session left there, and that it is judged.

@@ -1,3 +1,9 @@
 pub mod State
+pub mod Rejudged
+pub mod News
 pub mod Step
 pub mod Headline
+pub mod Marks
+pub mod Ends
+pub mod Fates
+pub mod Passages

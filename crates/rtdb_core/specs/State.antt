@@ -1,20 +1,13 @@
 -- The state of a database.
-use Rattle.std.specs.Prelude.{ℕ, List, [], Bool, false, Option, None, Some, option_and_then, refl}
+use Rattle.std.specs.Prelude.{ℕ, List, [], map, Bool, false, Option, None, Some, option_and_then, refl}
 use Rattle.std.specs.FinMap as map_of
 use Rattle.std.specs.Ordering.{nat_cmp}
-use Rattle.std.specs.Coded.{Coded, code_by, coded×, coded_ℕ, coded_bool, coded_list, coded_option}
-use Rattle.tree_model.specs.Path.{Path}
+use Rattle.std.specs.Coded.{Coded, code_by, coded×, coded_ℕ, coded_list, coded_option}
 use Rattle.tree_model.specs.Tree.{Tree, tree_code}
+use Rattle.listeners.specs.Table.{Listener, listener_code}
 use Rattle.evaluator.specs.Identity.{Identity, identity_code}
 use Rattle.rules_reader.specs.Book.{Book, book_code}
 use Rattle.judge.specs.Question.{Scene}
-
--- a listener of a session: the name that the session gave it, the path that it listens to, whether its read is still granted, and whether there is news for it. (This project's profile.)
-pub record Listener : Type 0 where
-  pub id : List ℕ
-  pub path : Path
-  pub live : Bool
-  pub marked : Bool
 
 -- a session that is open: who is signed in on it, if anybody is, and its listeners in the order in which they began
 pub record Session : Type 0 where
@@ -50,23 +43,28 @@ abbrev pub listeners_in : Option Session → List Listener
 listeners_in None = []
 listeners_in (Some one) = one.listeners
 
--- what the session listens to
+-- what the session listens to, in the order in which it began
 abbrev pub listeners_of : State → ℕ → List Listener
 listeners_of state session = listeners_in (map_of.get state.sessions session)
+
+-- each session changed so
+abbrev pub each_session : (Session → Session) → Sessions → Sessions
+each_session change sessions = map_of.from_entries (map (λ e. (e.0, change e.1)) (map_of.entries sessions))
 
 -- somebody is signed in who is an administrator. (This project's profile.)
 abbrev pub is_admin : Option Identity → Bool
 is_admin None = false
 is_admin (Some who) = who.admin
 
--- what an event of this session is judged by, at this moment: the rules in force, who is signed in on the session, and the tree before it. (Reference, variables.)
+-- what a read is judged by, at this moment: the rules in force, who is signed in, and the tree. (Reference, variables.)
+abbrev pub scene_for : State → ℕ → Option Identity → Scene
+scene_for state now who = record { book = state.rules; who = who; moment = now; old = state.tree }
+
+-- the same of an event of this session, for who is signed in on it
 abbrev pub scene_at : State → ℕ → ℕ → Scene
-scene_at state now session = record { book = state.rules; who = identity_of state session; moment = now; old = state.tree }
+scene_at state now session = scene_for state now (identity_of state session)
 
 -- ---- as data: what tells two states apart
-
-abbrev pub listener_code : Coded Listener
-listener_code = code_by ((List ℕ × Path) × (Bool × Bool)) (coded× (coded× (coded_list coded_ℕ) (coded_list (coded_list coded_ℕ))) (coded× coded_bool coded_bool)) (λ l. ((l.id, l.path), (l.live, l.marked))) (λ t. record { id = t.0.0; path = t.0.1; live = t.1.0; marked = t.1.1 }) (λ _. refl)
 
 abbrev pub session_code : Coded Session
 session_code = code_by (Option Identity × List Listener) (coded× (coded_option identity_code) (coded_list listener_code)) (λ s. (s.identity, s.listeners)) (λ t. record { identity = t.0; listeners = t.1 }) (λ _. refl)

@@ -1,26 +1,30 @@
 -- One step of a database: what an event is answered, and the state after it.
-use Rattle.std.specs.Prelude.{◌≡◌, ◌==◌, ℕ, ◌⊎◌, ◌||◌, List, length, [], ◌∷◌, map, Bool, true, false, not, if◌then◌else◌, nat_le, Option, Some, None}
+use Rattle.std.specs.Prelude.{◌≡◌, ◌==◌, ℕ, ◌⊎◌, ◌||◌, ◌++◌, List, length, [], ◌∷◌, map, filter_map, Bool, true, false, not, if◌then◌else◌, nat_le, Option, Some, None}
 use Rattle.std.specs.FinMap as map_of
 use Rattle.tree_model.specs.Path.{Path}
 use Rattle.tree_model.specs.PathMap.{sub}
 use Rattle.tree_model.specs.Tree.{Tree, null, non_null, count}
 use Rattle.tree_model.specs.Write.{Write, location, overlaps, proposed}
-use Rattle.evaluator.specs.Asked.{Asked, no_query}
 use Rattle.evaluator.specs.Identity.{Identity}
-use Rattle.listeners.specs.Query.{Query, asked_by}
+use Rattle.listeners.specs.declared.limits.TheConstants.{MAX_LISTENERS}
+use Rattle.listeners.specs.Query.{Query}
 use Rattle.listeners.specs.Selection.{selection}
+use Rattle.listeners.specs.Table.{Listener, begun, has_id, without_id, taken}
 use Rattle.rules_reader.specs.Book.{Book}
 use Rattle.judge.specs.declared.verdict.Verdict.{Verdict}
 use Rattle.judge.specs.declared.verdict.Verdict.TheVariants as verdicts
 use Rattle.judge.specs.Tests.{read_verdict, write_verdict}
 use Rattle.rtdb_core.specs.declared.limits.TheConstants.{MAX_SESSIONS, MAX_LOCATIONS}
 use Rattle.rtdb_core.specs.declared.event.Event.{Event}
-use Rattle.rtdb_core.specs.declared.event.Event.TheVariants.{Open, Close, SignIn, SignOut, Get, Set, Remove, Update, Deploy}
+use Rattle.rtdb_core.specs.declared.event.Event.TheVariants.{Open, Close, SignIn, SignOut, Get, Set, Remove, Update, Listen, Unlisten, Poll, Tick, Deploy}
 use Rattle.rtdb_core.specs.declared.reply.Reply.{Reply}
-use Rattle.rtdb_core.specs.declared.reply.Reply.TheVariants.{Done, Value, Refused}
+use Rattle.rtdb_core.specs.declared.reply.Reply.TheVariants.{Done, Value, News, Refused}
 use Rattle.rtdb_core.specs.declared.reply.Refusal.{Refusal}
-use Rattle.rtdb_core.specs.declared.reply.Refusal.TheVariants.{SessionOpen, TooManySessions, NoSession, NotAdmin, EmptyUpdate, Overlap, ReadDenied, WriteDenied, ValidateDenied, TreeFull, NoMemory}
+use Rattle.rtdb_core.specs.declared.reply.Refusal.TheVariants.{SessionOpen, TooManySessions, NoSession, NotAdmin, EmptyUpdate, Overlap, DuplicateId, TooManyListeners, NoListener, ReadDenied, WriteDenied, ValidateDenied, TreeFull, NoMemory}
+use Rattle.rtdb_core.specs.declared.news.Notice.{Notice}
+use Rattle.rtdb_core.specs.News.{gone, selected_now}
 use Rattle.rtdb_core.specs.State.{State, fresh, is_open, identity_of, listeners_of, is_admin, scene_at}
+use Rattle.rtdb_core.specs.Rejudged.{asked_for, selected_at, judged_again, all_rejudged}
 
 -- what an event is answered, and the state after it
 pub record Outcome : Type 0 where
@@ -66,11 +70,6 @@ or_full None tree = full tree
 unfoldable pub write_refusal : State → ℕ → ℕ → List Write → Option Refusal
 write_refusal old now session writes = or_full (denial (verdict_on old now session writes)) (tree_with old writes)
 
--- what a rule sees of the query of a read, if it has one
-abbrev pub asked_for : Option Query → Asked
-asked_for None = no_query
-asked_for (Some query) = asked_by query
-
 -- why a read is refused, if it is
 unfoldable pub read_refusal : State → ℕ → ℕ → Path → Option Query → Option Refusal
 read_refusal old now session path query = denial (read_verdict (scene_at old now session) (asked_for query) path)
@@ -96,31 +95,39 @@ closes old session =
     if not (is_open old session) then refused old NoSession
     else record { reply = Done; after = closed old session }
 
--- this is who is signed in on the session, or nobody is; its listeners stay
-abbrev pub signed : State → ℕ → Option Identity → State
-signed old session who = record old { sessions = map_of.insert old.sessions session (record { identity = who; listeners = listeners_of old session }) }
+-- this is who is signed in on the session, and this is what it listens to
+abbrev pub with_session : State → ℕ → Option Identity → List Listener → State
+with_session old session who listeners = record old { sessions = map_of.insert old.sessions session (record { identity = who; listeners = listeners }) }
 
-abbrev pub signs : State → ℕ → Option Identity → Outcome
-signs old session who =
+-- what the session listens to, judged again for whoever is signed in
+abbrev pub own_again : State → ℕ → ℕ → Option Identity → List Listener
+own_again old now session who = map (judged_again old.tree old now who) (listeners_of old session)
+
+-- this is who is signed in on the session, or nobody is, and its listeners are judged again
+abbrev pub signed : State → ℕ → ℕ → Option Identity → State
+signed old now session who = with_session old session who (own_again old now session who)
+
+abbrev pub signs : State → ℕ → ℕ → Option Identity → Outcome
+signs old now session who =
     if not (is_open old session) then refused old NoSession
-    else record { reply = Done; after = signed old session who }
+    else record { reply = Done; after = signed old now session who }
 
 -- what the query selects of what stands at the path; without a query all of it
 abbrev pub value_at : State → Path → Option Query → Outcome
-value_at old path query = record { reply = Value (non_null (selection (sub old.tree path) query)); after = old }
+value_at old path query = record { reply = Value (non_null (selected_at old.tree path query)); after = old }
 
 abbrev pub gets : State → ℕ → ℕ → Path → Option Query → Outcome
 gets old now session path query =
     if not (is_open old session) then refused old NoSession
     else unless_refused old (read_refusal old now session path query) (value_at old path query)
 
--- the tree that the writes propose is the tree
-abbrev pub written_to : State → List Write → State
-written_to old writes = record old { tree = tree_with old writes }
+-- the tree that the writes propose is the tree, and all listeners are judged again
+abbrev pub written_to : State → ℕ → List Write → State
+written_to old now writes = all_rejudged old.tree now (record old { tree = tree_with old writes })
 
 -- writes that are made together, or not at all
 abbrev pub makes : State → ℕ → ℕ → List Write → Outcome
-makes old now session writes = unless_refused old (write_refusal old now session writes) (record { reply = Done; after = written_to old writes })
+makes old now session writes = unless_refused old (write_refusal old now session writes) (record { reply = Done; after = written_to old now writes })
 
 abbrev pub sets : State → ℕ → ℕ → Write → Outcome
 sets old now session write =
@@ -138,30 +145,75 @@ updates old now session writes =
     else if overlaps writes then refused old Overlap
     else makes old now session writes
 
--- these rules are in force
-abbrev pub deployed : State → Book → State
-deployed old rules = record old { rules = rules }
+-- there is one listener more, live and without news
+abbrev pub listening : State → ℕ → List ℕ → Path → Option Query → State
+listening old session id path query = with_session old session (identity_of old session) (listeners_of old session ++ begun id path query ∷ [])
+
+-- a listen is judged as a read, and answered as one
+abbrev pub listens : State → ℕ → ℕ → List ℕ → Path → Option Query → Outcome
+listens old now session id path query =
+    if not (is_open old session) then refused old NoSession
+    else if has_id id (listeners_of old session) then refused old DuplicateId
+    else if nat_le MAX_LISTENERS (length (listeners_of old session)) then refused old TooManyListeners
+    else unless_refused old (read_refusal old now session path query) (record { reply = Value (non_null (selected_at old.tree path query)); after = listening old session id path query })
+
+abbrev pub unlistens : State → ℕ → List ℕ → Outcome
+unlistens old session id =
+    if not (is_open old session) then refused old NoSession
+    else if not (has_id id (listeners_of old session)) then refused old NoListener
+    else record { reply = Done; after = with_session old session (identity_of old session) (without_id id (listeners_of old session)) }
+
+-- what is told of a listener: where it is cancelled that it is gone, where there is news for it what it selects now
+abbrev pub told : Tree → Listener → Option Notice
+told tree l =
+    if not l.live then Some (gone l.id)
+    else if l.marked then Some (selected_now l.id (non_null (selected_at tree l.path l.query)))
+    else None
+
+abbrev pub news_of : Tree → List Listener → List Notice
+news_of tree listeners = filter_map (told tree) listeners
+
+-- the session's listeners are judged again, and then their news is told: the cancelled go, and no other is marked
+abbrev pub polls : State → ℕ → ℕ → Outcome
+polls old now session =
+    if not (is_open old session) then refused old NoSession
+    else record {
+      reply = News (news_of old.tree (own_again old now session (identity_of old session)));
+      after = with_session old session (identity_of old session) (taken (own_again old now session (identity_of old session)));
+    }
+
+-- time has passed, and all listeners are judged again
+abbrev pub ticks : State → ℕ → Outcome
+ticks old now = record { reply = Done; after = all_rejudged old.tree now old }
+
+-- these rules are in force, and all listeners are judged again, by them
+abbrev pub deployed : State → ℕ → Book → State
+deployed old now rules = all_rejudged old.tree now (record old { rules = rules })
 
 -- who is no administrator deploys nothing
-abbrev pub deploys : State → ℕ → Book → Outcome
-deploys old session rules =
+abbrev pub deploys : State → ℕ → ℕ → Book → Outcome
+deploys old now session rules =
     if not (is_open old session) then refused old NoSession
     else if not (is_admin (identity_of old session)) then refused old NotAdmin
-    else record { reply = Done; after = deployed old rules }
+    else record { reply = Done; after = deployed old now rules }
 
 -- what an event of this session is answered at this moment where memory suffices
 abbrev pub outcome : State → ℕ → ℕ → Event → Outcome
 outcome old now session Open = opens old session
 outcome old now session Close = closes old session
-outcome old now session (SignIn who) = signs old session (Some who)
-outcome old now session SignOut = signs old session None
+outcome old now session (SignIn who) = signs old now session (Some who)
+outcome old now session SignOut = signs old now session None
 outcome old now session (Get path query) = gets old now session path query
 outcome old now session (Set write) = sets old now session write
 outcome old now session (Remove path) = sets old now session (removal path)
 outcome old now session (Update writes) = updates old now session writes
-outcome old now session (Deploy rules) = deploys old session rules
+outcome old now session (Listen id path query) = listens old now session id path query
+outcome old now session (Unlisten id) = unlistens old session id
+outcome old now session Poll = polls old now session
+outcome old now session Tick = ticks old now
+outcome old now session (Deploy rules) = deploys old now session rules
 
--- the event is answered without memory: it is refused before anything is judged, or it closes a session
+-- the event is answered without memory: it is refused before anything is judged, or it closes a session, or ends a listener
 abbrev pub takes_no_memory : State → ℕ → Event → Bool
 takes_no_memory old session Open = is_open old session || nat_le MAX_SESSIONS (map_of.len old.sessions)
 takes_no_memory old session Close = true
@@ -171,6 +223,10 @@ takes_no_memory old session (Get path query) = not (is_open old session)
 takes_no_memory old session (Set write) = not (is_open old session)
 takes_no_memory old session (Remove path) = not (is_open old session)
 takes_no_memory old session (Update writes) = not (is_open old session) || length writes == 0 || overlaps writes
+takes_no_memory old session (Listen id path query) = not (is_open old session) || has_id id (listeners_of old session) || nat_le MAX_LISTENERS (length (listeners_of old session))
+takes_no_memory old session (Unlisten id) = true
+takes_no_memory old session Poll = not (is_open old session)
+takes_no_memory old session Tick = false
 takes_no_memory old session (Deploy rules) = not (is_open old session) || not (is_admin (identity_of old session))
 
 -- From old, at this moment, the event of this session may be answered so, and new is the state after it: as above, or for want of memory with the state as it was.

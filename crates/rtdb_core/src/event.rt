@@ -2,7 +2,7 @@
 ghost use Rattle.std.specs.Prelude.{◌≡◌};
 
 use evaluator::Identity;
-use listeners::Query;
+use listeners::{ListenerId, Query};
 use path_capture::{Path, Write};
 use rules_reader::Rules;
 use std::marker::Model;
@@ -26,6 +26,14 @@ pub enum Event {
     Remove(Path),
     /// Makes several writes, all of them or none.
     Update(Writes),
+    /// Listens, under a name, to a path, or to what a query selects of it.
+    Listen(ListenerId, Path, Option<Query>),
+    /// Listens no longer under a name.
+    Unlisten(ListenerId),
+    /// Asks for the news of the session's listeners.
+    Poll,
+    /// Lets all listeners be judged by the time that it is. The session is not looked at.
+    Tick,
     /// Puts rules in force.
     Deploy(Rules),
 }

@@ -6,21 +6,33 @@
 #![tactic(auto)]
 
 mod event;
+mod fates;
+mod judged;
 mod limits;
+mod listener_laws;
 mod machine;
+mod news;
+mod passage;
 mod refusals;
+mod rejudging;
 mod reply;
 mod run_laws;
 mod selected;
 mod session;
 mod step_laws;
+mod telling;
 mod trees;
 
 pub use evaluator::MAX_MOMENT;
 pub use event::{Event, Writes};
 pub use judge::{Named, NamedRules, Why};
 pub use limits::{MAX_LOCATIONS, MAX_SESSIONS, the_limits};
+pub use listener_laws::{
+    a_failed_grant_is_the_end, a_poll_hands_out_what_was_marked, marks_are_history,
+    what_a_grant_hangs_on_changes_where_it_is_judged,
+};
 pub use machine::{Core, TooLarge};
+pub use news::{News, Notice, What};
 pub use reply::{Refusal, Reply};
 pub use run_laws::{
     a_run_changes_identities_by_their_sessions, a_run_changes_the_rules_by_deployments,

@@ -1,30 +1,39 @@
 //! The state machine: one event in, one reply out.
-ghost use Rattle.std.specs.Prelude.{◌≡◌, true, ◌↔◌, ℕ, ◌≤◌, ◌<◌, ◌∷◌, [], length, None, Some, Option, false, IsErr, IfOk, IfErr, OnOk, OnErr, option_map};
+ghost use Rattle.std.specs.Prelude.{◌≡◌, true, ◌↔◌, ◌^◌, map, ℕ, ◌≤◌, ◌<◌, ◌∷◌, [], length, None, Some, Option, false, IsErr, IfOk, IfErr, OnOk, OnErr, option_map};
 ghost use Rattle.std.specs.FinMap as map_of;
 ghost use Rattle.tree_model.specs.PathMap.{sub};
 ghost use Rattle.tree_model.specs.Tree.{non_null, count};
-ghost use Rattle.listeners.specs.Selection.{selection};
 ghost use Rattle.tree_model.specs.Write.{overlaps};
 ghost use Rattle.path_capture.specs.Write.{tree_or_null};
 ghost use Rattle.rules_reader.specs.Place.{HasOneCapture};
 ghost use Rattle.judge.specs.Question.{scene_of};
 ghost use Rattle.evaluator.specs.Identity.{Identity};
-ghost use Rattle.rtdb_core.specs.State.{opening, is_open, identity_of, is_admin, scene_at};
-ghost use Rattle.rtdb_core.specs.Step.{opened, closed, closes, signed, signs, deploys, tree_with, written_to, makes, read_refusal, write_refusal, outcome, takes_no_memory, Step};
+ghost use Rattle.listeners.specs.Table.{has_id, without_id, taken};
+ghost use Rattle.rtdb_core.specs.State.{opening, is_open, identity_of, listeners_of, is_admin, scene_at};
+ghost use Rattle.rtdb_core.specs.Rejudged.{selected_at};
+ghost use Rattle.rtdb_core.specs.Step.{opened, closed, closes, with_session, signs, tree_with, makes, read_refusal, write_refusal, listening, unlistens, polls, news_of, ticks, deployed, deploys, outcome, takes_no_memory, Step};
+ghost use Rattle.rtdb_core.specs.Fates.{sparse, settled, fate_of, fates_of, all_sessions, with_settled, with_tree, with_rules, IsJudgedWrite, listen_refusal};
+ghost use Rattle.rtdb_core.specs.Passages.{IsPassage, tree_before, tree_after, who_of};
 
 use crate::event::{Event, Writes};
+use crate::fates::{Decision, Decisions, Docket};
+use crate::judged::Judged;
 use crate::limits::{MAX_LOCATIONS, MAX_SESSIONS};
+use crate::news::News;
+use crate::passage::{Passage, shared};
 use crate::refusals::{denial, full, reset};
+use crate::rejudging::{decide_all, decide_own, settle_all};
 use crate::reply::{Refusal, Reply};
-use crate::selected::{asked_for, selected};
+use crate::selected::{asked_for, selected_in};
 use crate::session::Session;
+use crate::telling::news_of;
 use crate::trees::{count_in, count_of, node_at, removal, sort};
 use arena_snapshot::{View, overlaps, overlay};
 use bumpalo::Bump;
 use evaluator::{Identity, MAX_MOMENT, Moment};
 use json_tree::{Key, NoMemory, Node};
 use judge::{Scene, judge_read, judge_write};
-use listeners::Query;
+use listeners::{ListenerId, MAX_LISTENERS, Query};
 use path_capture::{Path, Write, make_all};
 use rules_reader::Rules;
 use std::alloc::Global;
@@ -86,12 +95,14 @@ impl Core {
     }
 
     /// Answers one event of a session, at a moment in milliseconds since 1970. A read costs one step
-    /// for each key of its path, log w of w children each, the rules on the way, and the answer; a write
-    /// the same for each of its locations, and what is written. Nothing grows with what is stored beside
-    /// them. Closing, signing in and out cost a look-up among the sessions, a deployment what the rules
-    /// that were in force take to be dropped. The arena is for what one event needs: it is reset before
-    /// anything is placed in it, once no refusal is left but those of the rules, of room and of memory;
-    /// closing leaves it as it is.
+    /// for each key of its path, log w of w children each, the rules on the way, and the answer, and a
+    /// listen the same; a write the same for each of its locations, and what is written. Nothing grows
+    /// with what is stored beside them. Opening, closing and unlistening cost a look-up among the
+    /// sessions, a deployment what the rules that were in force take to be dropped. A step that judges
+    /// listeners again costs a read of each that is live; what a query selects is looked at only where
+    /// the step has written at, above or below the listener's path, and has changed something there. The
+    /// arena is for what one event needs: it is reset before anything is placed in it, once no refusal
+    /// is left but those of the rules, of room and of memory; closing and unlistening leave it as it is.
     #[tactic(auto, unfolding(crate::specs::Step::Step))]
     pub fn step(&mut self, arena: &mut Bump, now: u64, session: u64, event: Event) -> Reply
         requires { now ≤ MAX_MOMENT }
@@ -143,13 +154,17 @@ impl Core {
         match event {
             Event::Open => self.open(arena, now, session),
             Event::Close => Ok(self.close(session)),
-            Event::SignIn(who) => self.sign(arena, session, Some(who)),
-            Event::SignOut => self.sign(arena, session, None),
+            Event::SignIn(who) => self.sign(arena, now, session, Some(who)),
+            Event::SignOut => self.sign(arena, now, session, None),
             Event::Get(path, query) => self.get(arena, now, session, &path, query.as_ref()),
             Event::Set(write) => self.set(arena, now, session, write),
             Event::Remove(path) => self.set(arena, now, session, removal(path)),
             Event::Update(writes) => self.update(arena, now, session, writes),
-            Event::Deploy(rules) => self.deploy(arena, session, rules),
+            Event::Listen(id, path, query) => self.listen(arena, now, session, id, path, query),
+            Event::Unlisten(id) => Ok(self.unlisten(session, &id)),
+            Event::Poll => self.poll(arena, now, session),
+            Event::Tick => self.tick(arena, now),
+            Event::Deploy(rules) => self.deploy(arena, now, session, rules),
         }
     }
 
@@ -228,10 +243,12 @@ impl Core {
     fn sign(
         &mut self,
         arena: &mut Bump,
+        now: u64,
         session: u64,
         who: Option<Identity>,
     ) -> Result<Reply, NoMemory>
-        ensures ok { IfOk result (λ reply. signs self.old session who ≡ record { reply = reply; after = self.new }) }
+        requires { now ≤ MAX_MOMENT }
+        ensures ok { IfOk result (λ reply. signs self.old now session who ≡ record { reply = reply; after = self.new }) }
         ensures err { OnErr result (self.new ≡ self.old) }
         ensures later { OnErr result (is_open self.old session ≡ true) }
     {
@@ -239,23 +256,193 @@ impl Core {
             return Ok(Reply::Refused(Refusal::NoSession));
         }
         reset(arena)?;
-        self.put_identity(session, who);
+        let decisions = self.decide_own(&*arena, now, session, who.as_ref())?;
+        self.put_identity(session, who, &decisions.made);
         Ok(Reply::Done)
     }
 
-    // Signs in whoever this is on an open session, or signs out.
-    fn put_identity(&mut self, session: u64, who: Option<Identity>)
+    // What becomes of what an open session listens to, where this is who is signed in on it.
+    fn decide_own<'a>(
+        &self,
+        arena: &'a Bump,
+        now: u64,
+        session: u64,
+        who: Option<&Identity>,
+    ) -> Result<Decisions<'a>, NoMemory>
+        requires moment { now ≤ MAX_MOMENT }
+        requires open { is_open self.now session ≡ true }
+        ensures made { IfOk result (λ decisions. decisions.made.items ≡ sparse 0 (map (fate_of self.now.tree self.now.rules self.now.tree now (who_of who.entry)) (listeners_of self.now session))) }
+        ensures fits { IfOk result (λ decisions. length (listeners_of self.now session) < 2 ^ 64) }
+    {
+        let passage = Passage::staying(&self.rules, self.tree.as_ref(), now);
+        match self.sessions.get(&session) {
+            Some(open) => decide_own(self.alloc, arena, &passage, who, open.listeners()),
+            None => unreachable!(),
+        }
+    }
+
+    // Signs in whoever this is on an open session, or signs out, and makes what was decided.
+    fn put_identity(&mut self, session: u64, who: Option<Identity>, decisions: &[Decision])
         requires { is_open self.old session ≡ true }
-        ensures { self.new ≡ signed self.old session who }
+        ensures { self.new ≡ with_session self.old session who (settled 0 decisions.now (listeners_of self.old session)) }
     {
         let Some(open) = self.sessions.get_mut(&session) else {
             unreachable!()
         };
         open.sign(who);
+        open.settle(Docket::new(decisions));
     }
 
-    fn deploy(&mut self, arena: &mut Bump, session: u64, rules: Rules) -> Result<Reply, NoMemory>
-        ensures ok { IfOk result (λ reply. deploys self.old session rules ≡ record { reply = reply; after = self.new }) }
+    fn listen(
+        &mut self,
+        arena: &mut Bump,
+        now: u64,
+        session: u64,
+        id: ListenerId,
+        path: Path,
+        query: Option<Query>,
+    ) -> Result<Reply, NoMemory>
+        requires { now ≤ MAX_MOMENT }
+        ensures ok { IfOk result (λ reply. outcome self.old now session (Event.Listen id path query) ≡ record { reply = reply; after = self.new }) }
+        ensures err { OnErr result (self.new ≡ self.old) }
+        ensures later { OnErr result (takes_no_memory self.old session (Event.Listen id path query) ≡ false) }
+    {
+        if let Some(refusal) = self.listen_refusal(session, &id) {
+            return Ok(Reply::Refused(refusal));
+        }
+        reset(arena)?;
+        if let Some(refusal) = self.read_refusal(arena, now, session, &path, query.as_ref())? {
+            return Ok(Reply::Refused(refusal));
+        }
+        let tree = self.selected_at(arena, path.keys(), query.as_ref())?;
+        self.begin(session, id, path, query)?;
+        Ok(Reply::Value(tree))
+    }
+
+    // Why a session can't listen under this name, whatever the rules say.
+    fn listen_refusal(&self, session: u64, id: &ListenerId) -> Option<Refusal>
+        ensures { result ≡ listen_refusal self.now session id.now }
+    {
+        let Some(open) = self.sessions.get(&session) else {
+            return Some(Refusal::NoSession);
+        };
+        if open.listeners().has(id) {
+            return Some(Refusal::DuplicateId);
+        }
+        if open.listeners().len() >= MAX_LISTENERS {
+            return Some(Refusal::TooManyListeners);
+        }
+        None
+    }
+
+    // Lets an open session listen to one thing more.
+    fn begin(
+        &mut self,
+        session: u64,
+        id: ListenerId,
+        path: Path,
+        query: Option<Query>,
+    ) -> Result<(), NoMemory>
+        requires { is_open self.old session ≡ true }
+        ensures ok { OnOk result (self.new ≡ listening self.old session id path query) }
+        ensures err { OnErr result (self.new ≡ self.old) }
+    {
+        let Some(open) = self.sessions.get_mut(&session) else {
+            unreachable!()
+        };
+        open.listen(id, path, query)
+    }
+
+    fn unlisten(&mut self, session: u64, id: &ListenerId) -> Reply
+        ensures { unlistens self.old session id.now ≡ record { reply = result; after = self.new } }
+    {
+        if !self.is_open(session) {
+            return Reply::Refused(Refusal::NoSession);
+        }
+        if self.end(session, id) {
+            Reply::Done
+        } else {
+            Reply::Refused(Refusal::NoListener)
+        }
+    }
+
+    // Lets an open session listen no longer under this name, and says whether it did.
+    fn end(&mut self, session: u64, id: &ListenerId) -> bool
+        requires { is_open self.old session ≡ true }
+        ensures had { result ≡ has_id id.now (listeners_of self.old session) }
+        ensures gone { self.new ≡ with_session self.old session (identity_of self.old session) (without_id id.now (listeners_of self.old session)) }
+    {
+        let Some(open) = self.sessions.get_mut(&session) else {
+            unreachable!()
+        };
+        open.unlisten(id)
+    }
+
+    fn poll(&mut self, arena: &mut Bump, now: u64, session: u64) -> Result<Reply, NoMemory>
+        requires { now ≤ MAX_MOMENT }
+        ensures ok { IfOk result (λ reply. polls self.old now session ≡ record { reply = reply; after = self.new }) }
+        ensures err { OnErr result (self.new ≡ self.old) }
+        ensures later { OnErr result (is_open self.old session ≡ true) }
+    {
+        if !self.is_open(session) {
+            return Ok(Reply::Refused(Refusal::NoSession));
+        }
+        reset(arena)?;
+        let decisions = self.decide_own(&*arena, now, session, self.identity_of(session))?;
+        let news = self.news_of(arena, session, &decisions.made)?;
+        self.hand_out(session, &decisions.made);
+        Ok(Reply::News(news))
+    }
+
+    // The news of an open session, once this is made that was decided.
+    fn news_of(&self, arena: &Bump, session: u64, decisions: &[Decision]) -> Result<News, NoMemory>
+        requires { is_open self.now session ≡ true }
+        ensures { IfOk result (λ news. news ≡ news_of self.now.tree (settled 0 decisions.now (listeners_of self.now session))) }
+    {
+        match self.sessions.get(&session) {
+            Some(open) => news_of(
+                self.alloc,
+                arena,
+                self.tree.as_ref(),
+                open.listeners(),
+                decisions,
+            ),
+            None => unreachable!(),
+        }
+    }
+
+    // Makes what was decided of an open session's listeners, whose news was told.
+    fn hand_out(&mut self, session: u64, decisions: &[Decision])
+        requires { is_open self.old session ≡ true }
+        ensures { self.new ≡ with_session self.old session (identity_of self.old session) (taken (settled 0 decisions.now (listeners_of self.old session))) }
+    {
+        let Some(open) = self.sessions.get_mut(&session) else {
+            unreachable!()
+        };
+        open.settle(Docket::new(decisions));
+        open.take_marked();
+    }
+
+    fn tick(&mut self, arena: &mut Bump, now: u64) -> Result<Reply, NoMemory>
+        requires { now ≤ MAX_MOMENT }
+        ensures ok { IfOk result (λ reply. ticks self.old now ≡ record { reply = reply; after = self.new }) }
+        ensures err { OnErr result (self.new ≡ self.old) }
+    {
+        reset(arena)?;
+        let decisions = self.decide_by(&*arena, &self.rules, now)?;
+        self.settle_all(&decisions.made);
+        Ok(Reply::Done)
+    }
+
+    fn deploy(
+        &mut self,
+        arena: &mut Bump,
+        now: u64,
+        session: u64,
+        rules: Rules,
+    ) -> Result<Reply, NoMemory>
+        requires { now ≤ MAX_MOMENT }
+        ensures ok { IfOk result (λ reply. deploys self.old now session rules ≡ record { reply = reply; after = self.new }) }
         ensures err { OnErr result (self.new ≡ self.old) }
         ensures later { OnErr result ((is_open self.old session ≡ true) × (is_admin (identity_of self.old session) ≡ true)) }
     {
@@ -266,8 +453,31 @@ impl Core {
             return Ok(Reply::Refused(Refusal::NotAdmin));
         }
         reset(arena)?;
-        self.rules = rules;
+        let decisions = self.decide_by(&*arena, &rules, now)?;
+        self.put_rules(rules, &decisions.made);
         Ok(Reply::Done)
+    }
+
+    // What becomes of all listeners by these rules, where the tree stays.
+    fn decide_by<'a>(
+        &self,
+        arena: &'a Bump,
+        rules: &Rules,
+        now: u64,
+    ) -> Result<Decisions<'a>, NoMemory>
+        requires { now ≤ MAX_MOMENT }
+        ensures { IfOk result (λ decisions. with_settled (with_rules self.now rules.now) decisions.made.items ≡ deployed self.now now rules.now) }
+    {
+        let passage = Passage::staying(rules, self.tree.as_ref(), now);
+        self.decide_all(arena, &passage)
+    }
+
+    // Puts rules in force, and makes what was decided of all listeners.
+    fn put_rules(&mut self, rules: Rules, decisions: &[Decision])
+        ensures { self.new ≡ with_settled (with_rules self.old rules) decisions.now }
+    {
+        self.rules = rules;
+        self.settle_all(decisions);
     }
 
     // Who is signed in on a session, if it is open and anybody is.
@@ -294,7 +504,7 @@ impl Core {
         ensures ok { OnOk result (self.new ≡ opened self.old session) }
         ensures err { OnErr result (self.new ≡ self.old) }
     {
-        let Ok(_) = self.sessions.insert(session, Session::new()) else {
+        let Ok(_) = self.sessions.insert(session, Session::new(self.alloc)) else {
             return Err(NoMemory);
         };
         Ok(())
@@ -340,11 +550,14 @@ impl Core {
             return Ok(Reply::Refused(Refusal::NoSession));
         }
         reset(arena)?;
-        if let Some(refusal) = self.write_refusal(arena, now, session, slice::from_ref(&write))? {
-            return Ok(Reply::Refused(refusal));
+        match self.judge_write(&*arena, now, session, slice::from_ref(&write))? {
+            Judged::Refused(refusal) => Ok(Reply::Refused(refusal)),
+            Judged::Granted(decisions) => {
+                self.make(write)?;
+                self.settle_all(&decisions.made);
+                Ok(Reply::Done)
+            }
         }
-        self.make(write)?;
-        Ok(Reply::Done)
     }
 
     fn update(
@@ -389,11 +602,14 @@ impl Core {
         ensures err { OnErr result (self.new ≡ self.old) }
     {
         reset(arena)?;
-        if let Some(refusal) = self.write_refusal(arena, now, session, &writes)? {
-            return Ok(Reply::Refused(refusal));
+        match self.judge_write(&*arena, now, session, &writes)? {
+            Judged::Refused(refusal) => Ok(Reply::Refused(refusal)),
+            Judged::Granted(decisions) => {
+                self.make_all(writes)?;
+                self.settle_all(&decisions.made);
+                Ok(Reply::Done)
+            }
         }
-        self.make_all(writes)?;
-        Ok(Reply::Done)
     }
 
     // What the rules and the trees are judged by.
@@ -432,7 +648,34 @@ impl Core {
         Ok(denial(verdict))
     }
 
-    // Why writes are refused, if they are.
+    // Why writes are refused, or what becomes of all listeners where they are made.
+    fn judge_write<'a>(
+        &self,
+        arena: &'a Bump,
+        now: u64,
+        session: u64,
+        writes: &[Write],
+    ) -> Result<Judged<'a>, NoMemory>
+        requires moment { now ≤ MAX_MOMENT }
+        requires apart { overlaps writes.now ≡ false }
+        ensures { IfOk result (IsJudgedWrite self.now now session writes.now) }
+    {
+        let coming = overlay(arena, self.tree.as_ref(), writes)?;
+        if let Some(refusal) = self.write_refusal(arena, now, session, writes, &coming)? {
+            return Ok(Judged::Refused(refusal));
+        }
+        let passage = Passage {
+            rules: &self.rules,
+            base: self.tree.as_ref(),
+            writes,
+            coming,
+            moment: now,
+        };
+        let decisions = self.decide_all(arena, &passage)?;
+        Ok(Judged::Granted(decisions))
+    }
+
+    // Why writes that propose this tree are refused, if they are.
     #[tactic(auto, unfolding(crate::specs::Step::write_refusal))]
     fn write_refusal(
         &self,
@@ -440,16 +683,17 @@ impl Core {
         now: u64,
         session: u64,
         writes: &[Write],
+        coming: &Option<View<'_>>,
     ) -> Result<Option<Refusal>, NoMemory>
         requires moment { now ≤ MAX_MOMENT }
         requires apart { overlaps writes.now ≡ false }
+        requires proposes { tree_or_null coming.now ≡ tree_with self.now writes.now }
         ensures { IfOk result (λ refusal. refusal ≡ write_refusal self.now now session writes.now) }
     {
         self.rules();
-        let coming = overlay(arena, self.tree.as_ref(), writes)?;
-        let count = count_in(&coming);
+        let count = count_in(coming);
         let scene = self.scene(now, session);
-        let verdict = judge_write(self.alloc, arena, &scene, coming, writes)?;
+        let verdict = judge_write(self.alloc, arena, &scene, shared(coming), writes)?;
         let Some(denial) = denial(verdict) else {
             return Ok(full(count));
         };
@@ -459,7 +703,7 @@ impl Core {
     // Makes a write in the tree.
     fn make(&mut self, write: Write) -> Result<(), NoMemory>
         requires { count (tree_with self.old (write ∷ [])) ≤ MAX_LOCATIONS }
-        ensures ok { OnOk result (self.new ≡ written_to self.old (write ∷ [])) }
+        ensures ok { OnOk result (self.new ≡ with_tree self.old (write ∷ [])) }
         ensures err { OnErr result (self.new ≡ self.old) }
     {
         write.make(self.alloc, &mut self.tree)
@@ -469,10 +713,30 @@ impl Core {
     fn make_all(&mut self, writes: Vec<Write>) -> Result<(), NoMemory>
         requires apart { overlaps writes.items ≡ false }
         requires room { count (tree_with self.old writes.items) ≤ MAX_LOCATIONS }
-        ensures ok { OnOk result (self.new ≡ written_to self.old writes.items) }
+        ensures ok { OnOk result (self.new ≡ with_tree self.old writes.items) }
         ensures err { OnErr result (self.new ≡ self.old) }
     {
         make_all(self.alloc, &mut self.tree, writes)
+    }
+
+    // What becomes of all listeners in a step.
+    fn decide_all<'a>(
+        &self,
+        arena: &'a Bump,
+        passage: &Passage<'_>,
+    ) -> Result<Decisions<'a>, NoMemory>
+        requires { IsPassage passage.now }
+        ensures made { IfOk result (λ decisions. decisions.made.items ≡ sparse 0 (fates_of (tree_before passage.now) passage.now.rules.now (tree_after passage.now) passage.now.moment (all_sessions self.now.sessions))) }
+        ensures fits { IfOk result (λ decisions. length (fates_of (tree_before passage.now) passage.now.rules.now (tree_after passage.now) passage.now.moment (all_sessions self.now.sessions)) < 2 ^ 64) }
+    {
+        decide_all(self.alloc, arena, passage, &self.sessions)
+    }
+
+    // Makes what was decided of all listeners.
+    fn settle_all(&mut self, decisions: &[Decision])
+        ensures { self.new ≡ with_settled self.old decisions.now }
+    {
+        settle_all(&mut self.sessions, decisions);
     }
 
     // What stands at a path, None where nothing exists.
@@ -492,21 +756,8 @@ impl Core {
         path: &[Key],
         query: Option<&Query>,
     ) -> Result<Option<Node>, NoMemory>
-        ensures { IfOk result (λ tree. tree ≡ non_null (selection (sub self.now.tree path.now) (option_map (λ query. query.now) query.entry))) }
+        ensures { IfOk result (λ tree. tree ≡ non_null (selected_at self.now.tree path.now (option_map (λ query. query.now) query.entry))) }
     {
-        match query {
-            Some(query) => selected(self.alloc, arena, self.value_at(path), query),
-            None => self.copy_at(path),
-        }
-    }
-
-    // A copy of it.
-    fn copy_at(&self, path: &[Key]) -> Result<Option<Node>, NoMemory>
-        ensures { IfOk result (λ tree. tree ≡ non_null (sub self.now.tree path.now)) }
-    {
-        match self.value_at(path) {
-            Some(node) => Ok(Some(node.copy(self.alloc)?)),
-            None => Ok(None),
-        }
+        selected_in(self.alloc, arena, self.tree.as_ref(), path, query)
     }
 }

@@ -2,6 +2,7 @@
 ghost use Rattle.std.specs.Prelude.{◌≡◌};
 ghost use Rattle.rtdb_core.specs.declared.reply.Refusal.TheVariants.{NoMemory as no_memory};
 
+use crate::news::News;
 use json_tree::{NoMemory, Node};
 use judge::{NamedRules, Why};
 use path_capture::{Path, Pattern};
@@ -13,6 +14,8 @@ pub enum Reply {
     Done,
     /// The tree that was asked for, None where nothing exists.
     Value(Option<Node>),
+    /// The news of the session's listeners.
+    News(News),
     /// It was refused, and nothing has changed.
     Refused(Refusal),
 }
@@ -32,6 +35,12 @@ pub enum Refusal {
     EmptyUpdate,
     /// A location of the update is at or above that of another of its writes.
     Overlap,
+    /// The session listens under this name already.
+    DuplicateId,
+    /// The session has as many listeners as it may.
+    TooManyListeners,
+    /// The session doesn't listen under this name.
+    NoListener,
     /// No `.read` at the path or above it holds; these are all of them.
     ReadDenied(NamedRules),
     /// No `.write` at the location or above it holds; these are all of them. Of the locations that are

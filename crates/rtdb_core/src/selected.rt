@@ -2,14 +2,16 @@
 ghost use Rattle.std.specs.Prelude.{◌≡◌, option_map, Some, IfOk};
 ghost use Rattle.tree_model.specs.Tree.{non_null};
 ghost use Rattle.path_capture.specs.Write.{tree_or_null};
+ghost use Rattle.arena_snapshot.specs.View.{node_or_null};
 ghost use Rattle.evaluator.specs.Asked.{asked_of};
 ghost use Rattle.listeners.specs.Selection.{selection};
-ghost use Rattle.rtdb_core.specs.Step.{asked_for};
+ghost use Rattle.rtdb_core.specs.Rejudged.{asked_for, selected_at};
 
+use crate::trees::node_in;
 use arena_snapshot::{View, copy_out};
 use bumpalo::Bump;
 use evaluator::Asked;
-use json_tree::{NoMemory, Node};
+use json_tree::{Key, NoMemory, Node};
 use listeners::{Query, select};
 use std::alloc::Global;
 
@@ -23,8 +25,33 @@ pub(crate) fn asked_for(query: Option<&Query>) -> Asked<'_>
     }
 }
 
-// What a query selects of a stored tree, copied.
-pub(crate) fn selected(
+/// What a query selects of what stands at a path of a stored tree, without a query all of it, copied.
+pub(crate) fn selected_in(
+    alloc: Global,
+    arena: &Bump,
+    tree: Option<&Node>,
+    path: &[Key],
+    query: Option<&Query>,
+) -> Result<Option<Node>, NoMemory>
+    ensures { IfOk result (λ found. found ≡ non_null (selected_at (node_or_null tree.entry) path.now (option_map (λ query. query.now) query.entry))) }
+{
+    let node = node_in(tree, path);
+    match query {
+        Some(query) => selected(alloc, arena, node, query),
+        None => copied_node(alloc, node),
+    }
+}
+
+fn copied_node(alloc: Global, node: Option<&Node>) -> Result<Option<Node>, NoMemory>
+    ensures { IfOk result (λ copy. copy ≡ option_map (λ node. node.now) node.entry) }
+{
+    match node {
+        Some(node) => Ok(Some(node.copy(alloc)?)),
+        None => Ok(None),
+    }
+}
+
+fn selected(
     alloc: Global,
     arena: &Bump,
     node: Option<&Node>,
@@ -36,7 +63,7 @@ pub(crate) fn selected(
     copied(alloc, found)
 }
 
-fn stored(node: Option<&Node>) -> Option<View<'_>>
+pub(crate) fn stored(node: Option<&Node>) -> Option<View<'_>>
     ensures { result ≡ option_map (λ node. node.now) node.entry }
 {
     match node {

@@ -4,6 +4,7 @@ ghost use Rattle.std.specs.List.Sorted.{IsPermutation};
 ghost use Rattle.tree_model.specs.PathMap.{sub};
 ghost use Rattle.tree_model.specs.Tree.{non_null, count};
 ghost use Rattle.path_capture.specs.Write.{tree_or_null};
+ghost use Rattle.arena_snapshot.specs.View.{node_or_null};
 ghost use Rattle.rtdb_core.specs.Step.{removal};
 
 use arena_snapshot::View;
@@ -45,6 +46,16 @@ pub(crate) fn node_at<'a>(root: &'a Node, path: &[Key]) -> Option<&'a Node>
         node = next;
     }
     Some(node)
+}
+
+/// The node at a path of a stored tree, None where nothing exists.
+pub(crate) fn node_in<'a>(tree: Option<&'a Node>, path: &[Key]) -> Option<&'a Node>
+    ensures { option_map (λ node. node.now) result ≡ non_null (sub (node_or_null tree.entry) path.now) }
+{
+    match tree {
+        Some(root) => node_at(root, path),
+        None => None,
+    }
 }
 
 /// The write that removes what is at this location.

@@ -1,10 +1,10 @@
-use Rattle.std.proofs.Common.{◌≡◌, ◌∙◌, true, Some, IsSome, is_some, refl, sym, ap, subst}
-use Rattle.std.specs.FinMap as map_of
+use Rattle.std.proofs.Common.{◌≡◌, ◌∙◌, ◌++◌, ◌∷◌, [], true, Some, None, Option, List, IsSome, is_some, OnOk, OnErr, refl, sym, ap, subst}
 use Rattle.std.proofs.lemmas.Bool.{false≢true}
 use Rattle.path_capture.specs.Write.{tree_or_null}
-use Rattle.rtdb_core.specs.State.{State, Session, Sessions, Listener, is_open}
-use Rattle.rtdb_core.specs.Step.{signed}
-use Rattle.rtdb_core.proofs.Sessions.{sessions_of, has, with_one, listeners_at}
+use Rattle.listeners.specs.Table.{Listener, begun, has_id, without_id, taken}
+use Rattle.rtdb_core.specs.State.{State, Session, is_open, identity_of, listeners_of}
+use Rattle.rtdb_core.specs.Fates.{with_listeners, settled, left_of}
+use Rattle.rtdb_core.proofs.Sessions.{has, identity_is, listeners_are, put_is, stays_is}
 use Rattle.rtdb_core.proofs.machine.Core.put_identity.Goals as goal
 
 pub unreachable-requires : goal.unreachable-requires
@@ -14,9 +14,10 @@ unreachable-requires c =
 pub returns : goal.returns
 returns c =
     let es = c.self.inside.sessions.entries in
-    let written = c.get_mut.follows.holds c.sign.new.self in
+    let fs = (c.get_mut.follows.lender c.settle.new.self).entries in
+    let tree = tree_or_null c.self.inside.tree in
+    let written = c.get_mut.follows.holds c.settle.new.self in
     let changed = written.3 (subst (λ o. IsSome o) c.in-Some.ensures.value refl) in
-    let one = with_one es (c.get_mut.follows.lender c.sign.new.self).entries c.args.session c.sign.new.self changed.0
-    ∙ ap (map_of.insert (sessions_of es) c.args.session) c.sign.ensures
-    ∙ ap (λ listeners. map_of.insert (sessions_of es) c.args.session (record { identity = c.args.who; listeners = listeners })) (listeners_at es c.args.session c.in-Some.open.now c.in-Some.ensures.value) in
-    ap (λ (sessions : Sessions). record { tree = tree_or_null c.self.inside.tree; rules = c.self.inside.rules; sessions = sessions }) one ∙ ap (λ (state : State). signed state c.args.session c.args.who) c.self.view_is
+    let who = identity_is tree c.self.inside.rules es fs c.args.self.now c.args.session c.in-Some.open.now c.settle.new.self c.self.view_is c.in-Some.ensures.value in
+    let heard = listeners_are tree c.self.inside.rules es fs c.args.self.now c.args.session c.in-Some.open.now c.settle.new.self c.self.view_is c.in-Some.ensures.value in
+    put_is tree c.self.inside.rules es fs c.args.self.now c.args.session c.in-Some.open.now c.settle.new.self c.self.view_is changed.0 (c.args.who) (settled 0 c.args.decisions.now (listeners_of c.args.self.now c.args.session)) (c.settle.ensures.made ∙ (λ i. with_listeners (c.sign.ensures i) (settled (c.new.ensures.place i) (c.new.ensures.decisions i) (c.sign.ensures i).listeners)) ∙ (λ i. record { identity = c.args.who; listeners = settled 0 c.args.decisions.now (heard i) }))

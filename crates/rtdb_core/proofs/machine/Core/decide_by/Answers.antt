@@ -1,0 +1,21 @@
+use Rattle.std.proofs.Common.{◌≡◌, ◌∙◌, ◌<◌, ◌^◌, List, length, sym, ap, subst}
+use Rattle.arena_snapshot.specs.View.{node_or_null}
+use Rattle.rtdb_core.specs.State.{State}
+use Rattle.rtdb_core.specs.Fates.{sparse, fates_of, all_sessions, with_settled, with_rules}
+use Rattle.rtdb_core.specs.Passages.{tree_before, tree_after}
+use Rattle.rtdb_core.proofs.Fatings.{state_made}
+use Rattle.rtdb_core.proofs.Passing.{base_is}
+use Rattle.rtdb_core.proofs.Sessions.{if_both}
+use Rattle.rtdb_core.proofs.machine.Core.decide_by.Goals as goal
+
+pub returns : goal.returns
+returns c =
+    let s = c.args.self.now in
+    let p = c.staying-passage.result in
+    let base : node_or_null c.as_ref.result ≡ s.tree = base_is c.as_ref.result c.self.inside.tree c.as_ref.ensures.value ∙ ap (λ (state : State). state.tree) c.self.view_is in
+    let before : tree_before p ≡ s.tree = c.staying-passage.ensures.before ∙ base in
+    let after : tree_after p ≡ s.tree = c.staying-passage.ensures.after ∙ base in
+    let fates : fates_of (tree_before p) p.rules.now (tree_after p) p.moment (all_sessions s.sessions) ≡ fates_of s.tree c.args.rules.now s.tree c.args.now (all_sessions s.sessions) =
+    λ i. fates_of (before i) (c.staying-passage.ensures.rules i) (after i) (c.staying-passage.ensures.moment i) (all_sessions s.sessions) in
+    if_both c.decide_all.result c.decide_all.ensures.made c.decide_all.ensures.fits (λ decisions made fits.
+    state_made s.tree (with_rules s c.args.rules.now) c.args.now decisions.made.items (made ∙ ap (sparse 0) fates) (subst (λ fs. length fs < 2 ^ 64) fates fits))

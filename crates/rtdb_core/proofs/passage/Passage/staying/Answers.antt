@@ -1,0 +1,19 @@
+use Rattle.std.proofs.Common.{◌≡◌, ◌∙◌, Option, Some, None, [], option_map, sym, ap, refl}
+use Rattle.std.specs.Borrow.{Bor}
+use Rattle.tree_model.specs.Tree.{Tree, non_null}
+use Rattle.tree_model.specs.Write.{proposed}
+use Rattle.tree_model.proofs.Writes.{proposed-none}
+use Rattle.path_capture.specs.Write.{tree_or_null}
+use Rattle.arena_snapshot.specs.View.{node_or_null}
+use Rattle.rtdb_core.proofs.Passing.{stored_tree}
+use Rattle.rtdb_core.proofs.passage.Passage.staying.Goals as goal
+
+pub returns-clause-passage : goal.returns-clause-passage
+returns-clause-passage c = record {
+  moment = c.requires;
+  apart = refl;
+  coming = ap tree_or_null c.stored.ensures ∙ stored_tree c.args.base ∙ sym (proposed-none (node_or_null c.args.base));
+}
+
+pub returns-clause-after : goal.returns-clause-after
+returns-clause-after c = proposed-none (node_or_null c.args.base)

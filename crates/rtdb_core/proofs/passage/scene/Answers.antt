@@ -1,0 +1,12 @@
+use Rattle.std.proofs.Common.{◌≡◌, ◌∙◌, ℕ, Option, sym, ap}
+use Rattle.path_capture.specs.Write.{tree_or_null}
+use Rattle.tree_model.specs.Tree.{Tree, non_null}
+use Rattle.tree_model.specs.Write.{proposed}
+use Rattle.arena_snapshot.specs.View.{node_or_null}
+use Rattle.rtdb_core.specs.Passages.{tree_after, who_of}
+use Rattle.rtdb_core.proofs.passage.scene.Goals as goal
+
+pub returns : goal.returns
+returns c =
+    let tree : tree_or_null c.shared.result ≡ tree_after c.args.passage.now = ap tree_or_null c.shared.ensures ∙ c.requires.coming in
+    λ i. record { book = c.args.passage.now.rules.now; who = who_of c.args.who; moment = c.new.ensures i; old = tree i }

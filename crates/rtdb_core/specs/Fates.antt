@@ -1,0 +1,114 @@
+-- What becomes of listeners, as the code decides and makes it. No public clause stands on these words.
+use Rattle.std.specs.Prelude.{◌≡◌, ℕ, suc, ◌+◌, ◌-◌, ◌^◌, ◌==◌, List, [], ◌∷◌, ◌++◌, map, length, min, nat_le, Bool, true, false, not, if◌then◌else◌, Option, None, Some}
+use Rattle.std.specs.FinMap as map_of
+use Rattle.evaluator.specs.Identity.{Identity}
+use Rattle.tree_model.specs.Tree.{Tree}
+use Rattle.tree_model.specs.Write.{Write}
+use Rattle.rules_reader.specs.Book.{Book}
+use Rattle.judge.specs.Question.{Scene}
+use Rattle.listeners.specs.Table.{Listener, with_mark, cancelled, has_id}
+use Rattle.listeners.specs.declared.limits.TheConstants.{MAX_LISTENERS}
+use Rattle.rtdb_core.specs.State.{State, Session, Sessions, is_open, listeners_of}
+use Rattle.rtdb_core.specs.Rejudged.{hears, moves}
+use Rattle.rtdb_core.specs.Step.{tree_with, written_to, write_refusal}
+use Rattle.rtdb_core.specs.declared.judged.Judged.{Judged}
+use Rattle.rtdb_core.specs.declared.judged.Judged.TheVariants.{Refused, Granted}
+use Rattle.rtdb_core.specs.declared.reply.Refusal.{Refusal}
+use Rattle.rtdb_core.specs.declared.reply.Refusal.TheVariants.{NoSession, DuplicateId, TooManyListeners}
+use Rattle.rtdb_core.specs.declared.fates.Fate.{Fate}
+use Rattle.rtdb_core.specs.declared.fates.Fate.TheVariants.{Marked, Cancelled}
+use Rattle.rtdb_core.specs.declared.fates.Decision.{Decision}
+
+-- ---- one listener
+
+-- what becomes of a listener, None where it stays
+abbrev pub fate_by : (live granted moved : Bool) → Option Fate
+fate_by live granted moved =
+    if live then (if granted then (if moved then Some Marked else None) else Some Cancelled) else None
+
+-- the listener after it; what is cancelled stays
+abbrev pub fated_live : Fate → Listener → Listener
+fated_live Marked l = with_mark l
+fated_live Cancelled l = cancelled l
+
+abbrev pub fated : Option Fate → Listener → Listener
+fated None l = l
+fated (Some fate) l = if l.live then fated_live fate l else l
+
+-- what listeners are judged by, at this moment: the tree before the step, the rules after it, the tree after it, and who is signed in
+abbrev pub scene_by : Book → Tree → ℕ → Option Identity → Scene
+scene_by rules new now who = record { book = rules; who = who; moment = now; old = new }
+
+abbrev pub fate_of : Tree → Book → Tree → ℕ → Option Identity → Listener → Option Fate
+fate_of old rules new now who l = fate_by l.live (hears (scene_by rules new now who) l.path l.query) (moves old new l.path l.query)
+
+-- ---- all listeners: what is noted are those that don't stay, by their places
+
+abbrev pub sparse : ℕ → List (Option Fate) → List Decision
+sparse place [] = []
+sparse place (None ∷ fates) = sparse (suc place) fates
+sparse place (Some fate ∷ fates) = (record { place = place; fate = fate }) ∷ sparse (suc place) fates
+
+-- what is noted of this place
+abbrev pub front : ℕ → List Decision → Option Fate
+front place [] = None
+front place (d ∷ ds) = if d.place == place then Some d.fate else None
+
+abbrev pub behind : ℕ → List Decision → List Decision
+behind place [] = []
+behind place (d ∷ ds) = if d.place == place then ds else d ∷ ds
+
+abbrev pub next_place : ℕ → ℕ
+next_place place = min (place + 1) (2 ^ 64 - 1)
+
+abbrev pub settled : ℕ → List Decision → List Listener → List Listener
+settled place ds [] = []
+settled place ds (l ∷ ls) = fated (front place ds) l ∷ settled (next_place place) (behind place ds) ls
+
+abbrev pub left_of : ℕ → List Decision → List Listener → ℕ × List Decision
+left_of place ds [] = (place, ds)
+left_of place ds (l ∷ ls) = left_of (next_place place) (behind place ds) ls
+
+-- ---- all sessions
+
+abbrev pub with_listeners : Session → List Listener → Session
+with_listeners one listeners = record { identity = one.identity; listeners = listeners }
+
+abbrev pub settled_all : ℕ → List Decision → List (ℕ × Session) → List (ℕ × Session)
+settled_all place ds [] = []
+settled_all place ds (e ∷ es) =
+    let left : ℕ × List Decision = left_of place ds e.1.listeners in
+    (e.0, with_listeners e.1 (settled place ds e.1.listeners)) ∷ settled_all left.0 left.1 es
+
+-- what is decided of these sessions, one after another
+abbrev pub fates_of : Tree → Book → Tree → ℕ → List Session → List (Option Fate)
+fates_of old rules new now [] = []
+fates_of old rules new now (one ∷ others) = map (fate_of old rules new now one.identity) one.listeners ++ fates_of old rules new now others
+
+abbrev pub all_sessions : Sessions → List Session
+all_sessions sessions = map (λ e. e.1) (map_of.entries sessions)
+
+-- the state once this is made that was decided
+abbrev pub with_settled : State → List Decision → State
+with_settled state ds = record state { sessions = map_of.from_entries (settled_all 0 ds (map_of.entries state.sessions)) }
+
+-- the tree that the writes propose is the tree; nothing is judged again yet
+abbrev pub with_tree : State → List Write → State
+with_tree old writes = record old { tree = tree_with old writes }
+
+-- these rules are in force; nothing is judged again yet
+abbrev pub with_rules : State → Book → State
+with_rules old rules = record old { rules = rules }
+
+-- writes are refused for this, or this is decided of all listeners
+abbrev pub IsJudgedWrite : State → ℕ → ℕ → List Write → Judged → Type 0
+IsJudgedWrite old now session writes (Refused refusal) = write_refusal old now session writes ≡ Some refusal
+IsJudgedWrite old now session writes (Granted decisions) = (write_refusal old now session writes ≡ None) × (with_settled (with_tree old writes) decisions.made.items ≡ written_to old now writes)
+
+-- why a session can't listen under this id, whatever the rules say
+abbrev pub listen_refusal : State → ℕ → List ℕ → Option Refusal
+listen_refusal old session id =
+    if not (is_open old session) then Some NoSession
+    else if has_id id (listeners_of old session) then Some DuplicateId
+    else if nat_le MAX_LISTENERS (length (listeners_of old session)) then Some TooManyListeners
+    else None

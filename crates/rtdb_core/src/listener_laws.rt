@@ -1,0 +1,37 @@
+//! Laws of the listeners of a database.
+ghost use Rattle.std.specs.Prelude.{◌≡◌, ℕ, ◌&&◌, List, [], map, filter, All, true, false};
+ghost use Rattle.tree_model.specs.Tree.{Tree, non_null};
+ghost use Rattle.rules_reader.specs.Book.{Book};
+ghost use Rattle.rtdb_core.specs.declared.event.Event.{Event};
+ghost use Rattle.rtdb_core.specs.declared.news.Notice.{Notice};
+ghost use Rattle.rtdb_core.specs.declared.reply.Reply.{Reply};
+ghost use Rattle.rtdb_core.specs.State.{State, opening, scene_at, listeners_of};
+ghost use Rattle.rtdb_core.specs.Rejudged.{hears, selected_at};
+ghost use Rattle.rtdb_core.specs.Step.{Call, Step, Run};
+ghost use Rattle.rtdb_core.specs.Marks.{Taken, steps_after, judges, grants, IsHistory};
+ghost use Rattle.rtdb_core.specs.Ends.{IsStep, IsEnd, IsUntouched, handed_out};
+
+/// Whatever calls come from the opening on, each listener is what its history says: live exactly where
+/// it was granted at each step since its listen that judged it again, and marked exactly where it is
+/// live and what it selects has moved since its listen or its session's last poll.
+pub fn marks_are_history()
+    ensures { (rules : Book) (tree : Tree) (calls : List Call) (replies : List Reply) (new : State) (run : Run (opening rules tree) calls replies new) (session : ℕ) → All (λ l. IsHistory session l (steps_after [] (opening rules tree) calls replies new run)) (listeners_of new session) }
+{}
+
+/// A poll hands out what is selected by each listener that was marked before it and is granted at it, in
+/// the order in which they began, and nothing else.
+pub fn a_poll_hands_out_what_was_marked()
+    ensures { (rules : Book) (tree : Tree) (calls : List Call) (replies : List Reply) (old : State) → Run (opening rules tree) calls replies old → (now session : ℕ) (notices : List Notice) (new : State) → Step old now session Event.Poll (Reply.News notices) new → handed_out notices ≡ map (λ l. (l.id, non_null (selected_at old.tree l.path l.query))) (filter (λ l. l.marked && hears (scene_at old now session) l.path l.query) (listeners_of old session)) }
+{}
+
+/// A listener whose grant fails in a step that judges it is cancelled in that step, and nothing more is
+/// told of it, but once that it is gone, until its session listens under its name anew.
+pub fn a_failed_grant_is_the_end()
+    ensures { (rules : Book) (tree : Tree) (earlier later : List Call) (answered others : List Reply) (t : Taken) (new : State) (session : ℕ) → Run (opening rules tree) earlier answered t.old → IsStep t → Run t.new later others new → judges session t ≡ true → All (λ l. grants session l.path l.query t ≡ false → IsEnd session l.id t later others) (listeners_of t.old session) }
+{}
+
+/// Tree, rules and who is signed in on a session change only in steps that judge its listeners again,
+/// and where it closes: so a grant that ends, but by time alone, is seen in the step in which it ends.
+pub fn what_a_grant_hangs_on_changes_where_it_is_judged()
+    ensures { (t : Taken) (session : ℕ) → IsStep t → judges session t ≡ false → IsUntouched session t }
+{}

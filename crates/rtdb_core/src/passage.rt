@@ -1,0 +1,182 @@
+//! A step that judges listeners: the rules and the tree after it, and how the tree has changed.
+ghost use Rattle.std.specs.Prelude.{◌≡◌, ◌≤◌, Option, option_map, false, true, IfOk};
+ghost use Rattle.tree_model.specs.Write.{overlaps, proposed};
+ghost use Rattle.tree_model.specs.PathMap.{sub};
+ghost use Rattle.tree_model.specs.Tree.{non_null};
+ghost use Rattle.path_capture.specs.Write.{tree_or_null};
+ghost use Rattle.arena_snapshot.specs.View.{node_or_null};
+ghost use Rattle.listeners.specs.Listener.{seen};
+ghost use Rattle.listeners.specs.Selection.{selection};
+ghost use Rattle.judge.specs.Question.{scene_of};
+ghost use Rattle.rtdb_core.specs.Rejudged.{hears, moves, same_tree};
+ghost use Rattle.rtdb_core.specs.Fates.{scene_by, fate_of};
+ghost use Rattle.rtdb_core.specs.Passages.{IsPassage, tree_before, tree_after, who_of, is_granted};
+
+use crate::fates::Fate;
+use crate::selected::{asked_for, stored};
+use arena_snapshot::{View, is_changed, same};
+use bumpalo::Bump;
+use evaluator::{Identity, MAX_MOMENT, Moment};
+use json_tree::{NoMemory, Node};
+use judge::{Scene, Verdict, judge_read};
+use listeners::{Listener, Query, select};
+use path_capture::{Path, Write};
+use rules_reader::Rules;
+use std::alloc::Global;
+
+/// What listeners are judged by: the rules in force after the step, the tree before it, the writes that
+/// it makes, the tree that they propose, and the moment.
+#[derive(Drop)]
+pub(crate) struct Passage<'a> {
+    pub rules: &'a Rules,
+    pub base: Option<&'a Node>,
+    pub writes: &'a [Write],
+    pub coming: Option<View<'a>>,
+    pub moment: u64,
+}
+
+impl<'a> Passage<'a> {
+    /// A step by which the tree stays.
+    pub(crate) fn staying(rules: &'a Rules, base: Option<&'a Node>, now: u64) -> Passage<'a>
+        requires { now ≤ MAX_MOMENT }
+        ensures passage { IsPassage result }
+        ensures moment { result.moment ≡ now }
+        ensures before { tree_before result ≡ node_or_null base.entry }
+        ensures after { tree_after result ≡ node_or_null base.entry }
+        ensures rules { result.rules.now ≡ rules.now }
+    {
+        Passage {
+            rules,
+            base,
+            writes: &[],
+            coming: stored(base),
+            moment: now,
+        }
+    }
+}
+
+/// What becomes of a listener of whoever is signed in. It takes memory for what its rules make, for a
+/// denial, and, where its query's selection may have moved, for that before and after the step.
+pub(crate) fn fate_of(
+    alloc: Global,
+    arena: &Bump,
+    passage: &Passage<'_>,
+    who: Option<&Identity>,
+    listener: &Listener<'_>,
+) -> Result<Option<Fate>, NoMemory>
+    requires { IsPassage passage.now }
+    ensures { IfOk result (λ fate. fate ≡ fate_of (tree_before passage.now) passage.now.rules.now (tree_after passage.now) passage.now.moment (who_of who.entry) (seen listener.now)) }
+{
+    if !listener.is_live {
+        return Ok(None);
+    }
+    if !hears(alloc, arena, passage, who, listener)? {
+        return Ok(Some(Fate::Cancelled));
+    }
+    if moves(arena, passage, listener.path, listener.query)? {
+        return Ok(Some(Fate::Marked));
+    }
+    Ok(None)
+}
+
+// Whether its read is granted.
+fn hears(
+    alloc: Global,
+    arena: &Bump,
+    passage: &Passage<'_>,
+    who: Option<&Identity>,
+    listener: &Listener<'_>,
+) -> Result<bool, NoMemory>
+    requires { IsPassage passage.now }
+    ensures { IfOk result (λ granted. granted ≡ hears (scene_by passage.now.rules.now (tree_after passage.now) passage.now.moment (who_of who.entry)) listener.now.path.now (option_map (λ query. query.now) listener.now.query)) }
+{
+    let asked = asked_for(listener.query);
+    let scene = scene(passage, who);
+    let verdict = judge_read(alloc, arena, &scene, listener.path, &asked)?;
+    Ok(is_granted(&verdict))
+}
+
+fn scene<'a>(passage: &'a Passage<'a>, who: Option<&'a Identity>) -> Scene<'a>
+    requires { IsPassage passage.now }
+    ensures { scene_of result ≡ scene_by passage.now.rules.now (tree_after passage.now) passage.now.moment (who_of who.entry) }
+{
+    Scene {
+        rules: passage.rules,
+        auth: who,
+        moment: Moment::new(passage.moment),
+        old: shared(&passage.coming),
+    }
+}
+
+pub(crate) fn shared<'a>(view: &Option<View<'a>>) -> Option<View<'a>>
+    ensures { result ≡ view.now }
+{
+    match view {
+        Some(view) => Some(view.share()),
+        None => None,
+    }
+}
+
+fn is_granted(verdict: &Verdict) -> bool
+    ensures { result ≡ is_granted verdict.now }
+{
+    match verdict {
+        Verdict::Granted => true,
+        Verdict::ReadDenied(_) | Verdict::WriteDenied(_, _) | Verdict::ValidateDenied(_, _, _) => {
+            false
+        }
+    }
+}
+
+// Whether what is selected has moved.
+fn moves(
+    arena: &Bump,
+    passage: &Passage<'_>,
+    path: &Path,
+    query: Option<&Query>,
+) -> Result<bool, NoMemory>
+    requires { IsPassage passage.now }
+    ensures { IfOk result (λ moved. moved ≡ moves (tree_before passage.now) (tree_after passage.now) path.now (option_map (λ query. query.now) query.entry)) }
+{
+    if !is_changed(passage.base, passage.writes, path) {
+        return Ok(false);
+    }
+    let Some(query) = query else {
+        return Ok(true);
+    };
+    let before = selected(arena, &stored(passage.base), path, query)?;
+    let after = selected(arena, &passage.coming, path, query)?;
+    Ok(!are_same(&before, &after))
+}
+
+fn selected<'a>(
+    arena: &'a Bump,
+    tree: &Option<View<'a>>,
+    path: &Path,
+    query: &Query,
+) -> Result<Option<View<'a>>, NoMemory>
+    ensures { IfOk result (λ found. found ≡ non_null (selection (sub (tree_or_null tree.now) path.now) (Some query.now))) }
+{
+    let found = match tree {
+        Some(tree) => tree.at(path),
+        None => None,
+    };
+    select(arena, found, Some(query))
+}
+
+fn are_same(one: &Option<View<'_>>, other: &Option<View<'_>>) -> bool
+    ensures { result ≡ same_tree (tree_or_null one.now) (tree_or_null other.now) }
+{
+    match (one, other) {
+        (Some(one), Some(other)) => same(one, other),
+        (None, None) => true,
+        (Some(one), None) => {
+            one.law();
+            false
+        }
+        (None, Some(other)) => {
+            other.law();
+            false
+        }
+    }
+}

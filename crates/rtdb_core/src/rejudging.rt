@@ -1,0 +1,94 @@
+//! Listeners judged again: what becomes of each is decided first, which may fail for want of memory, and
+//! then all of it is made, which can't.
+ghost use Rattle.std.specs.Prelude.{◌≡◌, ◌+◌, ◌≤◌, ◌<◌, ◌^◌, ◌++◌, length, map, IfOk, OnOk};
+ghost use Rattle.std.specs.Ordering.{nat_cmp};
+ghost use Rattle.std.specs.BTreeMap.{IsOrdered};
+ghost use Rattle.rtdb_core.specs.Fates.{fate_of, fates_of, sparse, settled, settled_all, left_of, with_listeners};
+ghost use Rattle.rtdb_core.specs.Passages.{IsPassage, tree_before, tree_after, who_of};
+
+use crate::fates::{Decision, Decisions, Docket};
+use crate::passage::{Passage, fate_of};
+use crate::session::Session;
+use bumpalo::Bump;
+use evaluator::Identity;
+use json_tree::NoMemory;
+use listeners::Table;
+use std::alloc::Global;
+use std::collections::BTreeMap;
+use std::slice;
+
+/// What becomes of all listeners of all sessions.
+pub(crate) fn decide_all<'a>(
+    alloc: Global,
+    arena: &'a Bump,
+    passage: &Passage<'_>,
+    sessions: &BTreeMap<u64, Session>,
+) -> Result<Decisions<'a>, NoMemory>
+    requires { IsPassage passage.now }
+    ensures made { IfOk result (λ decisions. decisions.made.items ≡ sparse 0 (fates_of (tree_before passage.now) passage.now.rules.now (tree_after passage.now) passage.now.moment (map (λ e. e.1) sessions.now.entries))) }
+    ensures fits { IfOk result (λ decisions. length (fates_of (tree_before passage.now) passage.now.rules.now (tree_after passage.now) passage.now.moment (map (λ e. e.1) sessions.now.entries)) < 2 ^ 64) }
+    ensures ordered { IsOrdered nat_cmp sessions.now }
+{
+    let mut decisions = Decisions::new(arena);
+    for session in sessions.values() {
+        decide_each(
+            alloc,
+            arena,
+            passage,
+            session.identity(),
+            session.listeners(),
+            &mut decisions,
+        )?;
+    }
+    decisions.law();
+    Ok(decisions)
+}
+
+/// What becomes of the listeners of whoever is signed in.
+pub(crate) fn decide_own<'a>(
+    alloc: Global,
+    arena: &'a Bump,
+    passage: &Passage<'_>,
+    who: Option<&Identity>,
+    listeners: &Table,
+) -> Result<Decisions<'a>, NoMemory>
+    requires { IsPassage passage.now }
+    ensures made { IfOk result (λ decisions. decisions.made.items ≡ sparse 0 (map (fate_of (tree_before passage.now) passage.now.rules.now (tree_after passage.now) passage.now.moment (who_of who.entry)) listeners.now)) }
+    ensures fits { IfOk result (λ decisions. length listeners.now < 2 ^ 64) }
+{
+    let mut decisions = Decisions::new(arena);
+    decide_each(alloc, arena, passage, who, listeners, &mut decisions)?;
+    decisions.law();
+    Ok(decisions)
+}
+
+fn decide_each(
+    alloc: Global,
+    arena: &Bump,
+    passage: &Passage<'_>,
+    who: Option<&Identity>,
+    listeners: &Table,
+    decisions: &mut Decisions<'_>,
+) -> Result<(), NoMemory>
+    requires { IsPassage passage.now }
+    ensures place { OnOk result (decisions.new.place ≡ decisions.old.place + length listeners.now) }
+    ensures made { OnOk result (decisions.new.made.items ≡ decisions.old.made.items ++ sparse decisions.old.place (map (fate_of (tree_before passage.now) passage.now.rules.now (tree_after passage.now) passage.now.moment (who_of who.entry)) listeners.now)) }
+{
+    for index in 0..listeners.len() {
+        let fate = fate_of(alloc, arena, passage, who, &listeners.entry(index))?;
+        decisions.push(fate)?;
+    }
+    Ok(())
+}
+
+/// Makes what is decided of all listeners. It takes no memory.
+pub(crate) fn settle_all(sessions: &mut BTreeMap<u64, Session>, decisions: &[Decision])
+    ensures made { sessions.new.entries ≡ settled_all 0 decisions.now sessions.old.entries }
+    ensures ordered { IsOrdered nat_cmp sessions.old }
+{
+    let mut docket = Docket::new(decisions);
+    sessions.retain(|_, session| {
+        docket = session.settle(docket);
+        true
+    });
+}
