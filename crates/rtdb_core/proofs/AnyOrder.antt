@@ -17,7 +17,7 @@ use Rattle.rtdb_core.specs.declared.reply.Refusal.TheVariants.{NoSession, EmptyU
 use Rattle.rtdb_core.specs.declared.reply.Reply.TheVariants.{Done}
 use Rattle.rtdb_core.specs.State.{State, is_open, scene_at}
 use Rattle.rtdb_core.specs.Rejudged.{all_rejudged}
-use Rattle.rtdb_core.specs.Step.{Outcome, refused, unless_refused, denial, or_full, tree_with, write_refusal, written_to, makes, updates, takes_no_memory}
+use Rattle.rtdb_core.specs.Step.{refused, unless_refused, denial, or_full, tree_with, write_refusal, makes, updates, takes_no_memory}
 
 verdict_same : (scene : Scene) (t : Tree) (ls ms : List Path) → HasOneCapture scene.book → IsPermutation ls ms → write_verdict scene t ls ≡ write_verdict scene t ms
 verdict_same scene t ls ms one p =

@@ -1,10 +1,9 @@
 -- What a step that does not judge a session's listeners leaves.
-use Rattle.std.proofs.Common.{◌≡◌, ℕ, Bool, true, false, not, ◌&&◌, cond, eqb, leb, List, [], ◌∷◌, ◌++◌, length, Option, Some, None, is_some, inl, inr, sym, ap, subst, ◌∙◌, refl}
+use Rattle.std.proofs.Common.{◌≡◌, ℕ, Bool, true, false, not, cond, eqb, leb, List, [], ◌∷◌, length, Option, Some, None, is_some, inl, inr, sym, ap, subst, ◌∙◌, refl}
 use Rattle.std.proofs.lemmas.Bool.{false≢true, eqb-true}
 use Rattle.std.specs.Prelude.{◌==◌}
 use Rattle.std.specs.FinMap as map_of
-use Rattle.tree_model.specs.Path.{Path}
-use Rattle.tree_model.specs.Write.{Write, overlaps}
+use Rattle.tree_model.specs.Write.{overlaps}
 use Rattle.evaluator.specs.Identity.{Identity}
 use Rattle.listeners.specs.declared.limits.TheConstants.{MAX_LISTENERS}
 use Rattle.listeners.specs.Table.{Listener, has_id}
@@ -12,9 +11,9 @@ use Rattle.rtdb_core.specs.declared.limits.TheConstants.{MAX_SESSIONS}
 use Rattle.rtdb_core.specs.declared.event.Event.{Event}
 use Rattle.rtdb_core.specs.declared.event.Event.TheVariants.{Open, Close, SignIn, SignOut, Get, Set, Remove, Update, Listen, Unlisten, Poll, Tick, Deploy}
 use Rattle.rtdb_core.specs.declared.reply.Refusal.{Refusal}
-use Rattle.rtdb_core.specs.declared.reply.Refusal.TheVariants.{SessionOpen, TooManySessions, NoSession, NotAdmin, EmptyUpdate, Overlap, DuplicateId, TooManyListeners, NoListener, NoMemory}
+use Rattle.rtdb_core.specs.declared.reply.Refusal.TheVariants.{SessionOpen, TooManySessions, NoSession, NotAdmin, EmptyUpdate, Overlap, DuplicateId, TooManyListeners, NoListener}
 use Rattle.rtdb_core.specs.declared.reply.Reply.{Reply}
-use Rattle.rtdb_core.specs.declared.reply.Reply.TheVariants.{Done, Value}
+use Rattle.rtdb_core.specs.declared.reply.Reply.TheVariants.{Done}
 use Rattle.rtdb_core.specs.State.{State, Session, is_open, identity_of, listeners_of, is_admin}
 use Rattle.rtdb_core.specs.Step.{Outcome, refused, unless_refused, read_refusal, write_refusal, closed, with_session, removal, outcome, Step, Call}
 use Rattle.rtdb_core.specs.Marks.{Taken, judges}

@@ -1,5 +1,5 @@
 -- What is decided of a session's own listeners, and then made.
-use Rattle.std.proofs.Common.{◌≡◌, ℕ, ◌<◌, ◌^◌, Bool, true, false, not, cond, List, map, length, Option, Some, None, is_some, sym, ap, ◌∙◌, refl}
+use Rattle.std.proofs.Common.{◌≡◌, ℕ, ◌<◌, ◌^◌, Bool, true, false, not, cond, List, map, length, Option, Some, None, is_some, sym, ap, ◌∙◌}
 use Rattle.std.specs.FinMap as map_of
 use Rattle.evaluator.specs.Identity.{Identity}
 use Rattle.listeners.specs.declared.limits.TheConstants.{MAX_LISTENERS}

@@ -1,11 +1,10 @@
 -- To end what a session does not listen to.
-use Rattle.std.proofs.Common.{◌≡◌, ℕ, Bool, true, false, not, cond, nat_eq, List, [], ◌∷◌, Option, Some, None, is_some, sym, ap, subst, ◌∙◌, refl}
+use Rattle.std.proofs.Common.{◌≡◌, ℕ, Bool, true, false, not, cond, nat_eq, List, Option, Some, None, is_some, sym, ap, ◌∙◌, refl}
 use Rattle.std.proofs.lemmas.Bool.{false≢true, eqb-true}
 use Rattle.std.specs.FinMap as map_of
 use Rattle.std.specs.Ordering.{nat_cmp}
 use Rattle.std.specs.Cmp.{nat_cmp_total}
-use Rattle.evaluator.specs.Identity.{Identity}
-use Rattle.listeners.specs.Table.{Listener, has_id, without_id}
+use Rattle.listeners.specs.Table.{has_id, without_id}
 use Rattle.rtdb_core.specs.declared.reply.Refusal.TheVariants.{NoSession, NoListener}
 use Rattle.rtdb_core.specs.declared.reply.Reply.TheVariants.{Done, Refused}
 use Rattle.rtdb_core.specs.State.{State, Session, Sessions, is_open, identity_of, listeners_in, listeners_of}

@@ -1,10 +1,10 @@
 -- A listener that is cancelled, and the rest of the run.
-use Rattle.std.proofs.Common.{◌≡◌, ℕ, ◌≤◌, Bool, true, false, not, ◌&&◌, ◌||◌, cond, eqb, slice_index_or, List, [], ◌∷◌, ◌++◌, map, length, Option, Some, None, is_some, inl, inr, ◌⊎◌, sym, ap, subst, ◌∙◌, refl, arith}
+use Rattle.std.proofs.Common.{◌≡◌, ℕ, ◌≤◌, Bool, true, false, not, ◌&&◌, ◌||◌, cond, eqb, slice_index_or, List, [], ◌∷◌, ◌++◌, map, length, Some, None, is_some, inl, inr, ◌⊎◌, sym, ap, subst, ◌∙◌, refl, arith}
 use Rattle.std.proofs.lemmas.Bool.{false≢true}
 use Rattle.std.proofs.lemmas.List.{length-map}
 use Rattle.std.proofs.lemmas.List.Elements.{All-nil, All-cons}
 use Rattle.std.proofs.lemmas.List.Sums.{length-filter, count_by-le-length}
-use Rattle.std.specs.Prelude.{All, filter, filter_map, bytes_eq}
+use Rattle.std.specs.Prelude.{All, filter, bytes_eq}
 use Rattle.std.specs.List.{cons_option}
 use Rattle.std.specs.FinMap as map_of
 use Rattle.std.specs.Ordering.{nat_cmp}
@@ -19,7 +19,7 @@ use Rattle.rtdb_core.specs.declared.reply.Reply.{Reply}
 use Rattle.rtdb_core.specs.News.{gone, selected_now}
 use Rattle.rtdb_core.specs.State.{State, opening, listeners_in, listeners_of}
 use Rattle.rtdb_core.specs.Rejudged.{selected_at}
-use Rattle.rtdb_core.specs.Step.{told, news_of, Call, Run}
+use Rattle.rtdb_core.specs.Step.{news_of, Call, Run}
 use Rattle.rtdb_core.specs.Marks.{Taken, is_accepted, is_of_all, is_of_own, asked_under, judges, grants}
 use Rattle.rtdb_core.specs.Ends.{IsStep, under, told_of, is_anew, told_from, IsLastWord, IsEnd}
 use Rattle.rtdb_core.proofs.Goings.{with_id, Fades, Goes}

@@ -1,19 +1,18 @@
 -- What is decided of listeners and then made is what judging them again makes.
-use Rattle.std.proofs.Common.{◌≡◌, ◌≢◌, ℕ, zero, suc, ◌+◌, ◌-◌, ◌^◌, ◌<◌, ◌≤◌, Bool, true, false, not, ◌&&◌, cond, eqb, List, [], ◌∷◌, ◌++◌, map, length, take, drop, min, Option, Some, None, sym, ap, subst, ◌∙◌, refl, arith, append_assoc, length-append, append-nil}
-use Rattle.std.proofs.lemmas.Bool.{false≢true, eq-eqb, eqb-true}
+use Rattle.std.proofs.Common.{◌≡◌, ℕ, zero, suc, ◌+◌, ◌-◌, ◌^◌, ◌<◌, ◌≤◌, Bool, true, false, cond, eqb, List, [], ◌∷◌, ◌++◌, map, length, take, drop, Option, Some, None, sym, ap, subst, ◌∙◌, refl, arith, append_assoc, length-append, append-nil}
+use Rattle.std.proofs.lemmas.Bool.{eq-eqb, eqb-true}
 use Rattle.std.proofs.lemmas.List.{length-map}
-use Rattle.std.specs.Prelude.{slice_get, slice_set, IfSome, filter_map}
+use Rattle.std.specs.Prelude.{slice_get, slice_set, IfSome}
 use Rattle.std.specs.List.{cons_option}
 use Rattle.std.specs.FinMap as map_of
 use Rattle.evaluator.specs.Identity.{Identity}
 use Rattle.tree_model.specs.Path.{Path}
 use Rattle.tree_model.specs.Tree.{Tree}
-use Rattle.rules_reader.specs.Book.{Book}
 use Rattle.listeners.specs.Query.{Query}
-use Rattle.listeners.specs.Table.{Listener, with_mark, cancelled}
-use Rattle.rtdb_core.specs.State.{State, Session, Sessions, scene_for}
+use Rattle.listeners.specs.Table.{Listener}
+use Rattle.rtdb_core.specs.State.{State, Session, scene_for}
 use Rattle.rtdb_core.specs.Rejudged.{hears, moves, judged, judged_again, rejudged, all_rejudged}
-use Rattle.rtdb_core.specs.Fates.{fate_by, fated_live, fated, scene_by, fate_of, sparse, front, behind, next_place, settled, left_of, with_listeners, settled_all, fates_of, all_sessions, with_settled}
+use Rattle.rtdb_core.specs.Fates.{fate_by, fated_live, fated, fate_of, sparse, front, behind, next_place, settled, left_of, with_listeners, settled_all, fates_of, all_sessions, with_settled}
 use Rattle.rtdb_core.specs.Step.{told, news_of}
 use Rattle.rtdb_core.specs.declared.news.Notice.{Notice}
 use Rattle.rtdb_core.specs.declared.fates.Fate.{Fate}

@@ -2,7 +2,7 @@
 use Rattle.std.proofs.Common.{◌≡◌, ℕ, Bool, true, false, not, ◌&&◌, ◌||◌, cond, eqb, leb, List, [], ◌∷◌, ◌++◌, map, length, Option, Some, None, is_some, inl, inr, sym, ap, subst, ◌∙◌, refl, append-nil}
 use Rattle.std.proofs.lemmas.Bool.{eq-eqb, eqb-true, and_right, or_parts}
 use Rattle.std.proofs.lemmas.List.Elements.{filter-append}
-use Rattle.std.specs.Prelude.{◌==◌, filter, filter_map, bytes_eq}
+use Rattle.std.specs.Prelude.{◌==◌, filter, bytes_eq}
 use Rattle.std.specs.List.{cons_option}
 use Rattle.std.specs.FinMap as map_of
 use Rattle.tree_model.specs.Path.{Path}
@@ -25,11 +25,11 @@ use Rattle.rtdb_core.specs.declared.reply.Reply.TheVariants.{Done, Value, News, 
 use Rattle.rtdb_core.specs.News.{gone, selected_now}
 use Rattle.rtdb_core.specs.State.{State, is_open, identity_of, listeners_of, is_admin, scene_for}
 use Rattle.rtdb_core.specs.Rejudged.{hears, selected_at, moves, judged_again, all_rejudged}
-use Rattle.rtdb_core.specs.Step.{Outcome, refused, unless_refused, read_refusal, write_refusal, opens, closed, closes, with_session, own_again, signs, gets, tree_with, makes, sets, removal, updates, listening, listens, unlistens, told, news_of, polls, deploys, outcome, Step, Call}
+use Rattle.rtdb_core.specs.Step.{Outcome, refused, unless_refused, read_refusal, write_refusal, opens, closed, closes, with_session, own_again, signs, tree_with, makes, sets, removal, listens, unlistens, told, news_of, polls, outcome, Step, Call}
 use Rattle.rtdb_core.specs.Marks.{Taken, is_accepted, is_of_all, is_of_own, judges, grants}
 use Rattle.rtdb_core.specs.Ends.{under, notices_of, told_of, is_anew}
 use Rattle.rtdb_core.proofs.Slots.{listeners-with, identity-with, listeners-without, listeners-again, identity-again}
-use Rattle.rtdb_core.proofs.Histories.{judged_parts, judged_is}
+use Rattle.rtdb_core.proofs.Histories.{judged_is}
 use Rattle.rtdb_core.proofs.Kept.{turned, the_call}
 
 -- ---- lists

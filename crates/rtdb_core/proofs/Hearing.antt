@@ -1,5 +1,5 @@
 -- Whether a read is granted, from its verdict.
-use Rattle.std.proofs.Common.{◌≡◌, Bool, true, false, cond, Option, sym, ap, ◌∙◌, refl}
+use Rattle.std.proofs.Common.{◌≡◌, Bool, true, false, cond, Option, ap, ◌∙◌, refl}
 use Rattle.tree_model.specs.Path.{Path}
 use Rattle.rules_reader.specs.declared.kind.Kind.TheVariants.{Read}
 use Rattle.evaluator.specs.Asked.{Asked}

@@ -1,5 +1,5 @@
 -- Each step keeps what listeners owe to their history.
-use Rattle.std.proofs.Common.{◌≡◌, ℕ, Bool, true, false, not, ◌&&◌, ◌||◌, cond, eqb, leb, List, [], ◌∷◌, ◌++◌, map, length, Option, Some, None, inl, inr, sym, ap, subst, ◌∙◌, refl}
+use Rattle.std.proofs.Common.{◌≡◌, ℕ, Bool, true, false, not, ◌&&◌, ◌||◌, cond, eqb, leb, List, [], ◌∷◌, ◌++◌, length, Option, Some, None, inl, inr, sym, ap, subst, ◌∙◌, refl}
 use Rattle.std.proofs.lemmas.Bool.{false≢true, eq-eqb, eqb-true, and_right, or_parts}
 use Rattle.std.proofs.lemmas.List.Elements.{All-nil, All-cons, All-push, All-map, All-filter, All-weaker}
 use Rattle.std.specs.Prelude.{All, ◌==◌, filter, bytes_eq}
@@ -21,10 +21,10 @@ use Rattle.rtdb_core.specs.declared.reply.Refusal.{Refusal}
 use Rattle.rtdb_core.specs.declared.reply.Refusal.TheVariants.{SessionOpen, TooManySessions, NoSession, NotAdmin, EmptyUpdate, Overlap, DuplicateId, TooManyListeners, NoListener, NoMemory}
 use Rattle.rtdb_core.specs.declared.reply.Reply.{Reply}
 use Rattle.rtdb_core.specs.declared.reply.Reply.TheVariants.{Done, Value, News, Refused}
-use Rattle.rtdb_core.specs.State.{State, opening, is_open, identity_of, listeners_in, listeners_of, is_admin, scene_for, scene_at}
+use Rattle.rtdb_core.specs.State.{State, opening, is_open, identity_of, listeners_in, listeners_of, is_admin, scene_for}
 use Rattle.rtdb_core.specs.Rejudged.{hears, selected_at, moves, judged_again, all_rejudged}
-use Rattle.rtdb_core.specs.Step.{Outcome, refused, unless_refused, read_refusal, write_refusal, opens, closed, closes, with_session, own_again, signed, signs, value_at, gets, tree_with, written_to, makes, sets, removal, updates, listening, listens, unlistens, news_of, polls, ticks, deployed, deploys, outcome, Step, Call, Run}
-use Rattle.rtdb_core.specs.Marks.{Taken, steps_after, is_accepted, is_of_all, is_of_own, is_poll, asked_under, judges, hands_out, begins, IsHistory}
+use Rattle.rtdb_core.specs.Step.{Outcome, refused, unless_refused, read_refusal, write_refusal, opens, closed, closes, with_session, own_again, signs, gets, tree_with, makes, sets, removal, updates, listening, listens, unlistens, news_of, polls, deploys, outcome, Step, Call, Run}
+use Rattle.rtdb_core.specs.Marks.{Taken, steps_after, is_accepted, is_of_all, is_of_own, is_poll, asked_under, IsHistory}
 use Rattle.rtdb_core.proofs.Slots.{listeners-with, identity-with, listeners-without, listeners-again, identity-again}
 use Rattle.rtdb_core.proofs.Sameness.{unmoved}
 use Rattle.rtdb_core.proofs.Histories.{quiet, judged_once_more, handed_over, begins_here}

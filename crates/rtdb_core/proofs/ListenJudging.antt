@@ -13,7 +13,7 @@ use Rattle.judge.specs.declared.verdict.Verdict.{Verdict}
 use Rattle.judge.specs.declared.verdict.Verdict.TheVariants as verdicts
 use Rattle.judge.specs.Question.{reading}
 use Rattle.judge.specs.Judging.{IsReadVerdict}
-use Rattle.judge.specs.Tests.{is_granted, read_verdict}
+use Rattle.judge.specs.Tests.{read_verdict}
 use Rattle.judge.proofs.Verdicts.{reads_decided, grants_decided}
 use Rattle.listeners.specs.declared.limits.TheConstants.{MAX_LISTENERS}
 use Rattle.listeners.specs.Query.{Query}
@@ -25,7 +25,7 @@ use Rattle.rtdb_core.specs.declared.reply.Refusal.TheVariants.{NoSession, Duplic
 use Rattle.rtdb_core.specs.declared.reply.Reply.TheVariants.{Value, News, Refused}
 use Rattle.rtdb_core.specs.News.{gone, selected_now}
 use Rattle.rtdb_core.specs.State.{State, is_open, identity_of, listeners_of, scene_for, scene_at}
-use Rattle.rtdb_core.specs.Rejudged.{asked_for, hears, selected_at, moves, judged_again}
+use Rattle.rtdb_core.specs.Rejudged.{asked_for, hears, moves, judged_again}
 use Rattle.rtdb_core.specs.Step.{Outcome, refused, unless_refused, denial, read_refusal, listening, listens, told, news_of, own_again, with_session, polls}
 use Rattle.rtdb_core.specs.Headline.{GrantsRead, named_for_read, MayListen, IsListenJudged, AreTold, IsPollJudged}
 use Rattle.rtdb_core.proofs.Histories.{judged_parts, judged_is}

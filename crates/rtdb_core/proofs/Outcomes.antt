@@ -6,7 +6,6 @@ use Rattle.std.proofs.lemmas.Bool.{eqb-true}
 use Rattle.std.specs.Ordering.{nat_cmp, eq_by_cmp}
 use Rattle.std.specs.Cmp.{nat_cmp_total, unsigned_tied}
 use Rattle.tree_model.specs.Path.{Path}
-use Rattle.tree_model.specs.PathMap.{sub}
 use Rattle.tree_model.specs.Tree.{Tree, non_null, count}
 use Rattle.tree_model.specs.Write.{Write, overlaps}
 use Rattle.judge.specs.declared.verdict.Verdict.{Verdict}
@@ -16,7 +15,7 @@ use Rattle.evaluator.specs.Identity.{Identity}
 use Rattle.rules_reader.specs.Book.{Book}
 use Rattle.listeners.specs.declared.limits.TheConstants.{MAX_LISTENERS}
 use Rattle.listeners.specs.Query.{Query}
-use Rattle.listeners.specs.Table.{Listener, has_id, without_id, taken}
+use Rattle.listeners.specs.Table.{Listener, has_id, without_id}
 use Rattle.rtdb_core.specs.Headline.{is_done, rules_by, identity_by}
 use Rattle.rtdb_core.specs.declared.limits.TheConstants.{MAX_SESSIONS, MAX_LOCATIONS}
 use Rattle.rtdb_core.specs.declared.event.Event.{Event}
@@ -27,7 +26,7 @@ use Rattle.rtdb_core.specs.declared.reply.Reply.{Reply}
 use Rattle.rtdb_core.specs.declared.reply.Reply.TheVariants.{Done, Value, News, Refused}
 use Rattle.rtdb_core.specs.State.{Session, Sessions, State, fresh, is_open, identity_of, listeners_of, is_admin, scene_at}
 use Rattle.rtdb_core.specs.Rejudged.{asked_for, selected_at, all_rejudged}
-use Rattle.rtdb_core.specs.Step.{Outcome, refused, unless_refused, denial, full, or_full, tree_with, verdict_on, write_refusal, read_refusal, opened, opens, closed, closes, with_session, own_again, signed, signs, deploys, value_at, gets, written_to, makes, sets, removal, updates, listening, listens, unlistens, news_of, polls, ticks, outcome}
+use Rattle.rtdb_core.specs.Step.{Outcome, refused, unless_refused, denial, full, or_full, tree_with, verdict_on, write_refusal, read_refusal, opened, opens, closed, closes, with_session, own_again, signed, signs, deploys, value_at, gets, written_to, makes, sets, removal, updates, listens, unlistens, news_of, polls, outcome}
 use Rattle.rtdb_core.proofs.Slots.{identity-with, identity-again}
 
 -- who is signed in on each session after an event of one that was answered so

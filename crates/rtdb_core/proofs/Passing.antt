@@ -1,12 +1,10 @@
 -- How a step is seen that judges listeners: trees that are not there, the same ones, and what queries select of them.
-use Rattle.std.proofs.Common.{◌≡◌, ◌≢◌, ℕ, Bool, true, false, not, cond, List, [], Option, Some, None, option_map, sym, ap, subst, ◌∙◌, refl}
-use Rattle.std.proofs.lemmas.Bool.{false≢true}
+use Rattle.std.proofs.Common.{◌≡◌, ◌≢◌, Bool, true, false, not, Option, Some, None, option_map, sym, ap, ◌∙◌, refl}
 use Rattle.std.specs.Borrow.{Bor}
 use Rattle.std.specs.Bool.{OnTrue, OnFalse}
 use Rattle.tree_model.specs.Path.{Path}
 use Rattle.tree_model.specs.PathMap.{sub}
 use Rattle.tree_model.specs.Tree.{Tree, null, non_null}
-use Rattle.tree_model.specs.Write.{Write, overlaps, proposed}
 use Rattle.tree_model.proofs.Existence.{non_null-null}
 use Rattle.tree_model.proofs.Lookups.{sub-null}
 use Rattle.path_capture.specs.Write.{tree_or_null}

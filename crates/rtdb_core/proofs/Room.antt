@@ -1,9 +1,9 @@
 -- How many locations a tree has, and whether that is too many.
-use Rattle.std.proofs.Common.{◌≡◌, ◌≤◌, ◌<◌, ℕ, Bool, true, false, cond, List, [], ◌∷◌, length, map, Option, Some, None, min, refl, sym, ap, ◌∙◌, arith}
+use Rattle.std.proofs.Common.{◌≡◌, ◌≤◌, ◌<◌, ℕ, Bool, true, false, cond, List, [], ◌∷◌, length, map, Option, Some, None, refl, sym, ap, ◌∙◌, arith}
 use Rattle.std.specs.Prelude.{nat_le, flat_map}
 use Rattle.std.specs.FinMap as map_of
 use Rattle.std.specs.FinSet as set_of
-use Rattle.std.proofs.lemmas.Bool.{leb-true, leb-false}
+use Rattle.std.proofs.lemmas.Bool.{leb-true}
 use Rattle.std.specs.List.{list_all}
 use Rattle.std.specs.Cmp.{second_so}
 use Rattle.tree_model.specs.declared.limits.TheConstants.{MAX_DEPTH}
@@ -16,7 +16,7 @@ use Rattle.rtdb_core.specs.declared.limits.TheConstants.{MAX_LOCATIONS}
 use Rattle.rtdb_core.specs.declared.reply.Refusal.{Refusal}
 use Rattle.rtdb_core.specs.declared.reply.Refusal.TheVariants.{TreeFull}
 use Rattle.rtdb_core.specs.State.{State}
-use Rattle.rtdb_core.specs.Step.{denial, full, or_full, tree_with, verdict_on, write_refusal}
+use Rattle.rtdb_core.specs.Step.{denial, or_full, tree_with, verdict_on, write_refusal}
 
 nil : {A : Type 0} (xs : List A) → length xs ≡ 0 → xs ≡ []
 nil [] h = refl

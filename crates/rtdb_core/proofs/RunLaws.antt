@@ -1,5 +1,5 @@
 -- Each call of a run is judged, by the rules in force at it and for who is signed in.
-use Rattle.std.proofs.Common.{◌≡◌, ◌==◌, ◌&&◌, ℕ, Bool, true, false, cond, List, [], ◌∷◌, ◌++◌, Option, refl, sym, ap, subst, ◌∙◌}
+use Rattle.std.proofs.Common.{◌≡◌, ℕ, Bool, true, false, cond, List, [], ◌∷◌, ◌++◌, Option, refl, sym, ap, subst, ◌∙◌}
 use Rattle.evaluator.specs.Identity.{Identity}
 use Rattle.rules_reader.specs.Book.{Book}
 use Rattle.rules_reader.specs.Place.{HasOneCapture}
@@ -8,7 +8,7 @@ use Rattle.rtdb_core.specs.declared.event.Event.TheVariants.{Open, Close, SignIn
 use Rattle.rtdb_core.specs.declared.reply.Reply.{Reply}
 use Rattle.rtdb_core.specs.State.{State, identity_of}
 use Rattle.rtdb_core.specs.Step.{Step, Call, Run}
-use Rattle.rtdb_core.specs.Headline.{is_done, rules_by, identity_by, rules_after, identity_after, DeploysFile, DeployFiles, IsJudgedAmong}
+use Rattle.rtdb_core.specs.Headline.{is_done, rules_by, rules_after, identity_after, DeploysFile, DeployFiles, IsJudgedAmong}
 use Rattle.rtdb_core.proofs.StepLaws.{rules_are, identity_is, judged}
 
 -- ---- what is in force

@@ -4,7 +4,7 @@ use Rattle.std.proofs.lemmas.Bool.{false≢true}
 use Rattle.std.specs.FinMap as map_of
 use Rattle.std.specs.Ordering.{is_eq}
 use Rattle.std.specs.Cmp.{first_so, second_so, tied_itself, int_cmp_total, Equal-is}
-use Rattle.std.specs.Cmp.Lexicographic.{pointwise, pointwise_decides}
+use Rattle.std.specs.Cmp.Lexicographic.{pointwise_decides}
 use Rattle.tree_model.specs.Path.{Path, path_cmp}
 use Rattle.tree_model.specs.Primitive.{Primitive, truth, whole, words}
 use Rattle.tree_model.specs.Tree.{Tree}
@@ -53,3 +53,14 @@ same_decides old new =
 pub unmoved : (t : Tree) (path : Path) (query : Option Query) → moves t t path query ≡ false
 unfolding moves
 unmoved t path query = ap not ((same_decides (selected_at t path query) (selected_at t path query)).1 refl)
+
+turned : (b : Bool) → (not b ≡ false) ↔ (b ≡ true)
+turned true = (λ _. refl, λ _. refl)
+turned false = (λ h. absurd (false≢true (sym h)), λ h. absurd (false≢true h))
+
+pub moves_decides : (old new : Tree) (path : Path) (query : Option Query) → (moves old new path query ≡ false) ↔ (selected_at old path query ≡ selected_at new path query)
+unfolding moves
+moves_decides old new path query =
+    let same = same_decides (selected_at old path query) (selected_at new path query) in
+    let is_same = turned (same_tree (selected_at old path query) (selected_at new path query)) in
+    (λ h. same.0 (is_same.0 h), λ e. is_same.1 (same.1 e))

@@ -1,5 +1,5 @@
 -- What was decided, made of the sessions in a map one after another, by a closure that keeps what is left.
-use Rattle.std.proofs.Common.{◌≡◌, ℕ, Bool, true, cond, List, [], ◌∷◌, sym, ap, ◌∙◌, refl}
+use Rattle.std.proofs.Common.{◌≡◌, ℕ, Bool, true, cond, List, [], ◌∷◌, ◌∙◌}
 use Rattle.std.specs.Map.Calls.{RetainsPairs}
 use Rattle.rtdb_core.specs.State.{Session}
 use Rattle.rtdb_core.specs.Fates.{settled, left_of, with_listeners, settled_all}

@@ -1,5 +1,5 @@
 -- What each step gives.
-use Rattle.std.proofs.Common.{Option, ◌≡◌, ◌≢◌, ◌==◌, ◌&&◌, ℕ, cond, inl, inr, List, [], ◌∷◌, refl, sym, ap, subst, ◌∙◌}
+use Rattle.std.proofs.Common.{Option, ◌≡◌, ◌≢◌, ◌==◌, ◌&&◌, ℕ, cond, inl, inr, List, refl, sym, ap, subst, ◌∙◌}
 use Rattle.tree_model.specs.Path.{Path}
 use Rattle.tree_model.specs.Write.{Write}
 use Rattle.rules_reader.specs.Book.{Book}

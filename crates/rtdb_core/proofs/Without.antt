@@ -1,5 +1,5 @@
 -- What is left of listeners where none has an id.
-use Rattle.std.proofs.Common.{◌≡◌, ◌↔◌, ℕ, Bool, true, false, not, cond, List, [], ◌∷◌, Result, Ok, Err, OnOk, OnErr, sym, ap, ◌∙◌, refl}
+use Rattle.std.proofs.Common.{◌≡◌, ◌↔◌, ℕ, Bool, false, not, cond, List, [], ◌∷◌, Result, Ok, Err, OnOk, OnErr, sym, ap, ◌∙◌, refl}
 use Rattle.std.proofs.lemmas.Bool.{or_parts}
 use Rattle.std.specs.Prelude.{IsErr, bytes_eq}
 use Rattle.listeners.specs.Table.{Listener, has_id, without_id}

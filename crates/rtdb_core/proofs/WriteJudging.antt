@@ -1,9 +1,9 @@
 -- Writes are judged together.
-use Rattle.std.proofs.Common.{◌≡◌, ◌≢◌, ◌==◌, ◌≤◌, ◌<◌, ℕ, Bool, true, false, cond, not, List, [], ◌∷◌, length, map, Option, Some, None, refl, sym, ap, subst, ◌∙◌, arith}
+use Rattle.std.proofs.Common.{◌≡◌, ◌≢◌, ◌==◌, ℕ, Bool, true, false, cond, not, List, [], ◌∷◌, length, map, Some, None, refl, sym, ap, subst, ◌∙◌, arith}
 use Rattle.std.specs.Prelude.{nat_le}
 use Rattle.std.proofs.lemmas.Bool.{false≢true, leb-true, leb-false, eqb-true}
 use Rattle.tree_model.specs.Path.{Path}
-use Rattle.tree_model.specs.Tree.{Tree, count}
+use Rattle.tree_model.specs.Tree.{count}
 use Rattle.tree_model.specs.Write.{Write, location, overlaps}
 use Rattle.path_capture.specs.Pattern as parts
 use Rattle.path_capture.specs.Pattern.{part_of_text}

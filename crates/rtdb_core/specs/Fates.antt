@@ -1,5 +1,5 @@
 -- What becomes of listeners, as the code decides and makes it. No public clause stands on these words.
-use Rattle.std.specs.Prelude.{◌≡◌, ℕ, suc, ◌+◌, ◌-◌, ◌^◌, ◌==◌, List, [], ◌∷◌, ◌++◌, map, length, min, nat_le, Bool, true, false, not, if◌then◌else◌, Option, None, Some}
+use Rattle.std.specs.Prelude.{◌≡◌, ℕ, suc, ◌+◌, ◌-◌, ◌^◌, ◌==◌, List, [], ◌∷◌, ◌++◌, map, length, min, nat_le, Bool, not, if◌then◌else◌, Option, None, Some}
 use Rattle.std.specs.FinMap as map_of
 use Rattle.evaluator.specs.Identity.{Identity}
 use Rattle.tree_model.specs.Tree.{Tree}

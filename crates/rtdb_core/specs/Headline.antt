@@ -15,7 +15,7 @@ use Rattle.listeners.specs.Table.{Listener, has_id}
 use Rattle.evaluator.specs.Identity.{Identity}
 use Rattle.rules_reader.specs.Book.{Book}
 use Rattle.rules_reader.specs.Place.{HasOneCapture}
-use Rattle.judge.specs.Question.{Question, reading, writing}
+use Rattle.judge.specs.Question.{reading, writing}
 use Rattle.judge.specs.Failing.{IsValid, IsFirstFailing}
 use Rattle.judge.specs.Judging.{MayRead, MayWriteAll, IsLeastRefused}
 use Rattle.judge.specs.Tests.{named_rules}

@@ -1,5 +1,5 @@
 -- What listeners are judged by, as the code holds it. No public clause stands on these words.
-use Rattle.std.specs.Prelude.{◌≡◌, ◌≤◌, ℕ, List, Bool, true, false, Option, option_map}
+use Rattle.std.specs.Prelude.{◌≡◌, ◌≤◌, Bool, true, false, Option, option_map}
 use Rattle.std.specs.Borrow.{Bor}
 use Rattle.tree_model.specs.Tree.{Tree}
 use Rattle.tree_model.specs.Write.{overlaps, proposed}

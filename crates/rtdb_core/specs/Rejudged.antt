@@ -1,5 +1,5 @@
 -- Listeners judged again.
-use Rattle.std.specs.Prelude.{ℕ, ◌&&◌, List, map, Bool, true, false, not, if◌then◌else◌, Option, None, Some}
+use Rattle.std.specs.Prelude.{ℕ, ◌&&◌, map, Bool, not, if◌then◌else◌, Option, None, Some}
 use Rattle.std.specs.FinMap as map_of
 use Rattle.std.specs.Ordering.{is_eq}
 use Rattle.std.specs.Cmp.Lexicographic.{pointwise}

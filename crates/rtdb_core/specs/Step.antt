@@ -2,13 +2,11 @@
 use Rattle.std.specs.Prelude.{◌≡◌, ◌==◌, ℕ, ◌⊎◌, ◌||◌, ◌++◌, List, length, [], ◌∷◌, map, filter_map, Bool, true, false, not, if◌then◌else◌, nat_le, Option, Some, None}
 use Rattle.std.specs.FinMap as map_of
 use Rattle.tree_model.specs.Path.{Path}
-use Rattle.tree_model.specs.PathMap.{sub}
 use Rattle.tree_model.specs.Tree.{Tree, null, non_null, count}
 use Rattle.tree_model.specs.Write.{Write, location, overlaps, proposed}
 use Rattle.evaluator.specs.Identity.{Identity}
 use Rattle.listeners.specs.declared.limits.TheConstants.{MAX_LISTENERS}
 use Rattle.listeners.specs.Query.{Query}
-use Rattle.listeners.specs.Selection.{selection}
 use Rattle.listeners.specs.Table.{Listener, begun, has_id, without_id, taken}
 use Rattle.rules_reader.specs.Book.{Book}
 use Rattle.judge.specs.declared.verdict.Verdict.{Verdict}

@@ -1,13 +1,16 @@
 //! Laws of the listeners of a database.
-ghost use Rattle.std.specs.Prelude.{◌≡◌, ℕ, ◌&&◌, List, [], map, filter, All, true, false};
+ghost use Rattle.std.specs.Prelude.{◌≡◌, ◌↔◌, ℕ, ◌&&◌, List, [], map, filter, All, Option, true, false};
+ghost use Rattle.tree_model.specs.Path.{Path};
 ghost use Rattle.tree_model.specs.Tree.{Tree, non_null};
+ghost use Rattle.listeners.specs.Query.{Query};
 ghost use Rattle.rules_reader.specs.Book.{Book};
 ghost use Rattle.rtdb_core.specs.declared.event.Event.{Event};
 ghost use Rattle.rtdb_core.specs.declared.news.Notice.{Notice};
 ghost use Rattle.rtdb_core.specs.declared.reply.Reply.{Reply};
 ghost use Rattle.rtdb_core.specs.State.{State, opening, scene_at, listeners_of};
-ghost use Rattle.rtdb_core.specs.Rejudged.{hears, selected_at};
+ghost use Rattle.rtdb_core.specs.Rejudged.{hears, selected_at, moves};
 ghost use Rattle.rtdb_core.specs.Step.{Call, Step, Run};
+ghost use Rattle.rtdb_core.specs.Headline.{GrantsRead};
 ghost use Rattle.rtdb_core.specs.Marks.{Taken, steps_after, judges, grants, IsHistory};
 ghost use Rattle.rtdb_core.specs.Ends.{IsStep, IsEnd, IsUntouched, handed_out};
 
@@ -34,4 +37,11 @@ pub fn a_failed_grant_is_the_end()
 /// and where it closes: so a grant that ends, but by time alone, is seen in the step in which it ends.
 pub fn what_a_grant_hangs_on_changes_where_it_is_judged()
     ensures { (t : Taken) (session : ℕ) → IsStep t → judges session t ≡ false → IsUntouched session t }
+{}
+
+/// What judges listeners again are tests, and this is what they decide: whether the rules grant the read,
+/// and whether what is selected of two trees differs.
+pub fn the_tests_of_listeners_decide()
+    ensures heard { (state : State) (now session : ℕ) (path : Path) (query : Option Query) → (hears (scene_at state now session) path query ≡ true) ↔ GrantsRead state now session path query }
+    ensures moved { (old new : Tree) (path : Path) (query : Option Query) → (moves old new path query ≡ false) ↔ (selected_at old path query ≡ selected_at new path query) }
 {}

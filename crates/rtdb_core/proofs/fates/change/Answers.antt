@@ -1,8 +1,5 @@
-use Rattle.std.proofs.Common.{◌≡◌, ◌∙◌, Bool, true, false, cond, Option, Some, List, refl, sym, ap, subst, ◌<◌, length, ℕ}
-use Rattle.std.specs.Prelude.{slice_get, slice_set, IfSome}
+use Rattle.std.proofs.Common.{false}
 use Rattle.listeners.specs.Listener.{seen}
-use Rattle.listeners.specs.Table.{Listener}
-use Rattle.rtdb_core.specs.Fates.{fated, fated_live}
 use Rattle.rtdb_core.proofs.Fatings.{cancelled_stays}
 use Rattle.rtdb_core.proofs.fates.change.Goals as goal
 

@@ -1,9 +1,8 @@
-use Rattle.std.proofs.Common.{◌≡◌, ◌≤◌, ◌<◌, ◌∙◌, length, arith, Option, Some, None, List, ℕ, sym, ap, subst}
+use Rattle.std.proofs.Common.{◌≡◌, ◌∙◌, arith, Option, sym, ap, subst}
 use Rattle.std.specs.Prelude.{IfSome, slice_get, slice_set}
-use Rattle.listeners.specs.Table.{Listener}
 use Rattle.rtdb_core.specs.Fates.{fated, front}
 use Rattle.rtdb_core.specs.declared.fates.Fate.{Fate}
-use Rattle.rtdb_core.proofs.Fatings.{IsOnWay, begins, is_set, is_kept, changed_at, goes_on, ends}
+use Rattle.rtdb_core.proofs.Fatings.{begins, is_set, is_kept, changed_at, goes_on, ends}
 use Rattle.rtdb_core.proofs.fates.settle.Goals as goal
 use Rattle.rtdb_core.proofs.fates.settle.Goals.{in-Some, in_default}
 

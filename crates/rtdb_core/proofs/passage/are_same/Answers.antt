@@ -1,6 +1,6 @@
-use Rattle.std.proofs.Common.{◌≡◌, ◌≢◌, ◌∙◌, Option, Some, None, false, true, sym, ap, refl}
+use Rattle.std.proofs.Common.{◌∙◌, sym, refl}
 use Rattle.path_capture.specs.Write.{tree_or_null}
-use Rattle.tree_model.specs.Tree.{Tree, null}
+use Rattle.tree_model.specs.Tree.{null}
 use Rattle.rtdb_core.specs.Rejudged.{same_tree}
 use Rattle.rtdb_core.proofs.Passing.{same_by, not_same}
 use Rattle.rtdb_core.proofs.Sameness.{same_decides}

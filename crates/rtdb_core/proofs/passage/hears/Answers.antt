@@ -1,7 +1,7 @@
-use Rattle.std.proofs.Common.{◌≡◌, ◌∙◌, Option, option_map, ap, sym}
+use Rattle.std.proofs.Common.{◌∙◌, option_map}
 use Rattle.std.specs.Borrow.{Bor}
 use Rattle.evaluator.specs.Asked.{asked_of}
-use Rattle.judge.specs.Question.{Scene, scene_of}
+use Rattle.judge.specs.Question.{scene_of}
 use Rattle.listeners.specs.Query.{Query}
 use Rattle.rtdb_core.specs.Fates.{scene_by}
 use Rattle.rtdb_core.specs.Passages.{tree_after, who_of}

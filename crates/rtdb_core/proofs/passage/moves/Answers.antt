@@ -1,8 +1,8 @@
-use Rattle.std.proofs.Common.{◌≡◌, ◌∙◌, not, Option, Some, None, option_map, sym, ap}
+use Rattle.std.proofs.Common.{◌≡◌, ◌∙◌, not, Option, Some, option_map, sym, ap}
 use Rattle.std.specs.Borrow.{Bor}
 use Rattle.path_capture.specs.Write.{tree_or_null}
 use Rattle.tree_model.specs.PathMap.{sub}
-use Rattle.tree_model.specs.Tree.{Tree, non_null}
+use Rattle.tree_model.specs.Tree.{Tree}
 use Rattle.judge.proofs.Coming.{tree_or_null-non_null}
 use Rattle.listeners.specs.Query.{Query}
 use Rattle.listeners.specs.Selection.{selection}

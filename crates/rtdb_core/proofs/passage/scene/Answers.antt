@@ -1,8 +1,5 @@
-use Rattle.std.proofs.Common.{◌≡◌, ◌∙◌, ℕ, Option, sym, ap}
+use Rattle.std.proofs.Common.{◌≡◌, ◌∙◌, ap}
 use Rattle.path_capture.specs.Write.{tree_or_null}
-use Rattle.tree_model.specs.Tree.{Tree, non_null}
-use Rattle.tree_model.specs.Write.{proposed}
-use Rattle.arena_snapshot.specs.View.{node_or_null}
 use Rattle.rtdb_core.specs.Passages.{tree_after, who_of}
 use Rattle.rtdb_core.proofs.passage.scene.Goals as goal
 

@@ -1,7 +1,7 @@
-use Rattle.std.proofs.Common.{◌≡◌, ◌∙◌, Option, Some, None, IfOk, sym, ap, subst}
+use Rattle.std.proofs.Common.{◌≡◌, ◌∙◌, Some, IfOk, sym, ap, subst}
 use Rattle.path_capture.specs.Write.{tree_or_null}
 use Rattle.tree_model.specs.PathMap.{sub}
-use Rattle.tree_model.specs.Tree.{Tree, null, non_null}
+use Rattle.tree_model.specs.Tree.{Tree, non_null}
 use Rattle.judge.proofs.Coming.{tree_or_null-non_null}
 use Rattle.tree_model.proofs.Lookups.{sub-null}
 use Rattle.listeners.specs.Selection.{selection}

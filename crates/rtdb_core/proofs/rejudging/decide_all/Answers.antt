@@ -1,8 +1,6 @@
-use Rattle.std.proofs.Common.{◌≡◌, ◌∙◌, ◌+◌, ◌++◌, List, [], ◌∷◌, map, length, Option, rules, arith, refl, sym, ap, append-nil}
-use Rattle.std.specs.Map.{values_of}
-use Rattle.evaluator.specs.Identity.{Identity}
+use Rattle.std.proofs.Common.{◌≡◌, ◌∙◌, ◌+◌, ◌++◌, List, ◌∷◌, map, length, rules, arith, sym, ap, append-nil}
 use Rattle.rtdb_core.specs.State.{Session}
-use Rattle.rtdb_core.specs.Fates.{fate_of, fates_of, sparse}
+use Rattle.rtdb_core.specs.Fates.{fates_of, sparse}
 use Rattle.rtdb_core.specs.Passages.{tree_before, tree_after, who_of}
 use Rattle.rtdb_core.proofs.Collecting.{one_session}
 use Rattle.rtdb_core.proofs.rejudging.decide_all.Goals as goal

@@ -1,4 +1,4 @@
-use Rattle.std.proofs.Common.{arith, length}
+use Rattle.std.proofs.Common.{arith}
 use Rattle.rtdb_core.proofs.rejudging.decide_own.Goals as goal
 
 pub returns-clause-fits : goal.returns-clause-fits

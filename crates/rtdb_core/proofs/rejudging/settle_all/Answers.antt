@@ -1,4 +1,4 @@
-use Rattle.std.proofs.Common.{◌≡◌, ◌∙◌, rules, ap, List, ℕ, Bor, MutBor}
+use Rattle.std.proofs.Common.{◌∙◌, rules, MutBor}
 use Rattle.rtdb_core.specs.Fates.{settled_all}
 use Rattle.rtdb_core.specs.declared.fates.Docket.{Docket}
 use Rattle.rtdb_core.proofs.Seating.{retained_in_turn}

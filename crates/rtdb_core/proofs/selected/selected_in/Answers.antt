@@ -1,4 +1,4 @@
-use Rattle.std.proofs.Common.{◌≡◌, ◌∙◌, Option, Some, None, IfOk, option_map, sym, ap, subst}
+use Rattle.std.proofs.Common.{◌≡◌, ◌∙◌, Option, Some, IfOk, option_map, sym, ap, subst}
 use Rattle.std.specs.Borrow.{Bor}
 use Rattle.tree_model.specs.PathMap.{sub}
 use Rattle.tree_model.specs.Tree.{Tree, non_null}
@@ -6,7 +6,6 @@ use Rattle.arena_snapshot.specs.View.{node_or_null}
 use Rattle.listeners.specs.Query.{Query}
 use Rattle.listeners.specs.Selection.{selection}
 use Rattle.listeners.proofs.Places.{tree_given}
-use Rattle.rtdb_core.specs.Rejudged.{selected_at}
 use Rattle.rtdb_core.proofs.selected.selected_in.Goals as goal
 
 abbrev asked : Option (Bor Query) → Option Query

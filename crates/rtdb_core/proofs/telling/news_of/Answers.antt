@@ -1,8 +1,7 @@
-use Rattle.std.proofs.Common.{◌≡◌, ◌∙◌, ◌++◌, ◌<◌, ◌≤◌, List, [], ◌∷◌, length, Option, Some, None, arith, refl, sym, ap, append-nil}
+use Rattle.std.proofs.Common.{◌∙◌, ◌++◌, [], Option, arith, sym, ap, append-nil}
 use Rattle.std.specs.List.{cons_option}
 use Rattle.arena_snapshot.specs.View.{node_or_null}
 use Rattle.listeners.specs.Listener.{seen}
-use Rattle.listeners.specs.Table.{Listener}
 use Rattle.rtdb_core.specs.Step.{told, news_of}
 use Rattle.rtdb_core.specs.Fates.{settled, fated, front}
 use Rattle.rtdb_core.specs.declared.fates.Fate.{Fate}

@@ -1,7 +1,7 @@
-use Rattle.std.proofs.Common.{Option, Some, None, sym, ap, ◌∙◌, ◌≡◌}
+use Rattle.std.proofs.Common.{Option, sym, ap, ◌∙◌}
 use Rattle.std.specs.Borrow.{Bor}
 use Rattle.tree_model.specs.PathMap.{sub}
-use Rattle.tree_model.specs.Tree.{Tree, null, non_null}
+use Rattle.tree_model.specs.Tree.{Tree, non_null}
 use Rattle.arena_snapshot.specs.View.{node_or_null}
 use Rattle.rtdb_core.proofs.Passing.{nothing_below}
 use Rattle.rtdb_core.proofs.trees.node_in.Goals as goal

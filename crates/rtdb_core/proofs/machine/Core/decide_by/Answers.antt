@@ -1,7 +1,7 @@
-use Rattle.std.proofs.Common.{◌≡◌, ◌∙◌, ◌<◌, ◌^◌, List, length, sym, ap, subst}
+use Rattle.std.proofs.Common.{◌≡◌, ◌∙◌, ◌<◌, ◌^◌, length, ap, subst}
 use Rattle.arena_snapshot.specs.View.{node_or_null}
 use Rattle.rtdb_core.specs.State.{State}
-use Rattle.rtdb_core.specs.Fates.{sparse, fates_of, all_sessions, with_settled, with_rules}
+use Rattle.rtdb_core.specs.Fates.{sparse, fates_of, all_sessions, with_rules}
 use Rattle.rtdb_core.specs.Passages.{tree_before, tree_after}
 use Rattle.rtdb_core.proofs.Fatings.{state_made}
 use Rattle.rtdb_core.proofs.Passing.{base_is}

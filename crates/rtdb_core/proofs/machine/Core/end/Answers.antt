@@ -1,10 +1,9 @@
-use Rattle.std.proofs.Common.{◌≡◌, ◌∙◌, ◌++◌, ◌∷◌, [], true, Some, None, Option, List, IsSome, is_some, OnOk, OnErr, refl, sym, ap, subst}
+use Rattle.std.proofs.Common.{◌∙◌, true, IsSome, is_some, refl, ap, subst}
 use Rattle.std.proofs.lemmas.Bool.{false≢true}
 use Rattle.path_capture.specs.Write.{tree_or_null}
-use Rattle.listeners.specs.Table.{Listener, begun, has_id, without_id, taken}
-use Rattle.rtdb_core.specs.State.{State, Session, is_open, identity_of, listeners_of}
-use Rattle.rtdb_core.specs.Fates.{with_listeners, settled, left_of}
-use Rattle.rtdb_core.proofs.Sessions.{has, identity_is, listeners_are, put_is, stays_is}
+use Rattle.listeners.specs.Table.{has_id, without_id}
+use Rattle.rtdb_core.specs.State.{State, is_open, identity_of, listeners_of}
+use Rattle.rtdb_core.proofs.Sessions.{has, identity_is, listeners_are, put_is}
 use Rattle.rtdb_core.proofs.machine.Core.end.Goals as goal
 
 pub unreachable-requires : goal.unreachable-requires

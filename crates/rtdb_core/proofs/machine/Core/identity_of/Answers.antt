@@ -1,5 +1,5 @@
-use Rattle.std.proofs.Common.{◌≡◌, ◌∙◌, Option, Some, None, sym, ap}
-use Rattle.rtdb_core.specs.State.{State, Session, identity_of}
+use Rattle.std.proofs.Common.{◌∙◌, Some, None, ap}
+use Rattle.rtdb_core.specs.State.{State, identity_of}
 use Rattle.rtdb_core.proofs.Sessions.{identity_at}
 use Rattle.rtdb_core.proofs.machine.Core.identity_of.Goals as goal
 

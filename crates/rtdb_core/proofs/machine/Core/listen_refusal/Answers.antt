@@ -1,9 +1,9 @@
-use Rattle.std.proofs.Common.{◌≡◌, ◌∙◌, ◌≤◌, ◌<◌, Option, Some, None, true, false, length, refl, sym, ap, arith}
-use Rattle.std.proofs.lemmas.Bool.{le-leb, lt-ltb, leb-true}
+use Rattle.std.proofs.Common.{◌∙◌, Some, None, true, false, length, refl, sym, ap, arith}
+use Rattle.std.proofs.lemmas.Bool.{le-leb}
 use Rattle.listeners.specs.declared.limits.TheConstants.{MAX_LISTENERS}
 use Rattle.listeners.specs.Table.{has_id}
 use Rattle.std.specs.FinMap as map_of
-use Rattle.rtdb_core.specs.State.{State, Session}
+use Rattle.rtdb_core.specs.State.{State}
 use Rattle.rtdb_core.proofs.Sessions.{at}
 use Rattle.rtdb_core.proofs.Deciding.{closed_refused, known_refused, by_room}
 use Rattle.rtdb_core.proofs.Room.{has_more}

@@ -1,15 +1,11 @@
-use Rattle.std.proofs.Common.{◌≡◌, ◌∙◌, ◌<◌, ◌^◌, Option, Some, List, map, length, is_some, IfOk, sym, ap, subst}
+use Rattle.std.proofs.Common.{◌≡◌, ◌∙◌, List, is_some, IfOk, ap, subst}
 use Rattle.std.proofs.lemmas.Bool.{false≢true}
-use Rattle.std.specs.Borrow.{Bor}
-use Rattle.path_capture.specs.Write.{tree_or_null}
 use Rattle.tree_model.specs.Tree.{Tree}
-use Rattle.rules_reader.specs.Book.{Book}
 use Rattle.arena_snapshot.specs.View.{node_or_null}
 use Rattle.listeners.specs.Table.{Listener}
-use Rattle.rtdb_core.specs.State.{State, Session, is_open, listeners_of}
+use Rattle.rtdb_core.specs.State.{State, is_open, listeners_of}
 use Rattle.rtdb_core.specs.Step.{news_of}
-use Rattle.rtdb_core.specs.Fates.{settled, sparse, fate_of}
-use Rattle.rtdb_core.specs.Passages.{tree_before, tree_after, who_of}
+use Rattle.rtdb_core.specs.Fates.{settled}
 use Rattle.rtdb_core.proofs.Sessions.{has, listeners_at}
 use Rattle.rtdb_core.proofs.Passing.{base_is}
 use Rattle.rtdb_core.proofs.machine.Core.news_of.Goals as goal

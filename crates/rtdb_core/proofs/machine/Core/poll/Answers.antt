@@ -1,4 +1,4 @@
-use Rattle.std.proofs.Common.{◌≡◌, ◌∙◌, ap, sym, map}
+use Rattle.std.proofs.Common.{◌∙◌, ap, map}
 use Rattle.evaluator.specs.Identity.{Identity}
 use Rattle.std.proofs.Common.{Option}
 use Rattle.listeners.specs.Table.{taken}

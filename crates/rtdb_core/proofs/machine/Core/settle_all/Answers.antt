@@ -1,4 +1,4 @@
-use Rattle.std.proofs.Common.{◌≡◌, ◌∙◌, List, ℕ, sym, ap}
+use Rattle.std.proofs.Common.{◌∙◌, List, ℕ, sym, ap}
 use Rattle.std.specs.FinMap as map_of
 use Rattle.path_capture.specs.Write.{tree_or_null}
 use Rattle.rtdb_core.specs.State.{State, Session}

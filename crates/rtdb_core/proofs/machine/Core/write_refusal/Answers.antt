@@ -1,4 +1,4 @@
-use Rattle.std.proofs.Common.{◌≡◌, ◌∙◌, ◌^◌, ◌-◌, ap, sym, min}
+use Rattle.std.proofs.Common.{◌∙◌, ◌^◌, ◌-◌, ap, sym, min}
 use Rattle.judge.specs.Question.{scene_of}
 use Rattle.tree_model.specs.Tree.{Tree, count}
 use Rattle.rtdb_core.specs.Step.{tree_with}

@@ -1,6 +1,4 @@
-use Rattle.std.proofs.Common.{◌≡◌, ◌∙◌, Option, Some, None, [], option_map, sym, ap, refl}
-use Rattle.std.specs.Borrow.{Bor}
-use Rattle.tree_model.specs.Tree.{Tree, non_null}
+use Rattle.std.proofs.Common.{◌∙◌, sym, ap, refl}
 use Rattle.tree_model.specs.Write.{proposed}
 use Rattle.tree_model.proofs.Writes.{proposed-none}
 use Rattle.path_capture.specs.Write.{tree_or_null}

@@ -1,6 +1,5 @@
-use Rattle.std.proofs.Common.{◌≡◌, ◌∙◌, ◌↔◌, Bool, true, false, List, Result, Ok, Err, OnOk, OnErr, ℕ, sym, ap, refl}
-use Rattle.std.specs.Prelude.{IsErr}
-use Rattle.listeners.specs.Table.{Listener, has_id, without_id}
+use Rattle.std.proofs.Common.{◌∙◌, List, ap}
+use Rattle.listeners.specs.Table.{Listener, without_id}
 use Rattle.rtdb_core.specs.State.{Session}
 use Rattle.rtdb_core.specs.Fates.{with_listeners}
 use Rattle.rtdb_core.proofs.Without.{dropped}
