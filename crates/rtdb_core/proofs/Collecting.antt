@@ -7,7 +7,7 @@ use Rattle.rtdb_core.specs.State.{Session}
 use Rattle.tree_model.specs.Tree.{Tree}
 use Rattle.evaluator.specs.Identity.{Identity}
 use Rattle.rules_reader.specs.Book.{Book}
-use Rattle.rtdb_core.specs.Fates.{fate_of, fates_of, sparse}
+use Rattle.rtdb_core.specs.Working.Fates.{fate_of, fates_of, sparse}
 use Rattle.rtdb_core.specs.declared.fates.Fate.{Fate}
 use Rattle.rtdb_core.specs.declared.fates.Decision.{Decision}
 use Rattle.rtdb_core.proofs.Fatings.{sparse-append}

@@ -12,7 +12,7 @@ use Rattle.rtdb_core.specs.declared.reply.Refusal.TheVariants.{NoSession, Duplic
 use Rattle.rtdb_core.specs.declared.reply.Reply.TheVariants.{Done, News}
 use Rattle.rtdb_core.specs.State.{State, Session, is_open, identity_of, listeners_in, listeners_of}
 use Rattle.rtdb_core.specs.Step.{Outcome, refused, with_session, own_again, signs, news_of, polls}
-use Rattle.rtdb_core.specs.Fates.{sparse, settled, fate_of, listen_refusal}
+use Rattle.rtdb_core.specs.Working.Fates.{sparse, settled, fate_of, listen_refusal}
 use Rattle.rtdb_core.proofs.Fatings.{own_made}
 
 module _ (old : State) (now n : ℕ) (who : Option Identity) (ds : List Decision) where

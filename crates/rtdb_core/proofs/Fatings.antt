@@ -12,7 +12,7 @@ use Rattle.listeners.specs.Query.{Query}
 use Rattle.listeners.specs.Table.{Listener}
 use Rattle.rtdb_core.specs.State.{State, Session, scene_for}
 use Rattle.rtdb_core.specs.Rejudged.{hears, moves, judged, judged_again, rejudged, all_rejudged}
-use Rattle.rtdb_core.specs.Fates.{fate_by, fated_live, fated, fate_of, sparse, front, behind, next_place, settled, left_of, with_listeners, settled_all, fates_of, all_sessions, with_settled}
+use Rattle.rtdb_core.specs.Working.Fates.{fate_by, fated_live, fated, fate_of, sparse, front, behind, next_place, settled, left_of, with_listeners, settled_all, fates_of, all_sessions, with_settled}
 use Rattle.rtdb_core.specs.Step.{told, news_of}
 use Rattle.rtdb_core.specs.declared.news.Notice.{Notice}
 use Rattle.rtdb_core.specs.declared.fates.Fate.{Fate}

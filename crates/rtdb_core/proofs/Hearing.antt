@@ -11,7 +11,7 @@ use Rattle.judge.specs.Tests.{is_granted as is_granted_by, named_rules, read_ver
 use Rattle.judge.proofs.Verdicts.{reads_decided}
 use Rattle.listeners.specs.Query.{Query}
 use Rattle.rtdb_core.specs.Rejudged.{asked_for, hears}
-use Rattle.rtdb_core.specs.Passages.{is_granted}
+use Rattle.rtdb_core.specs.Working.Passages.{is_granted}
 
 verdict_grants : (scene : Scene) (asked : Asked) (path : Path) → is_granted (read_verdict scene asked path) ≡ is_granted_by (reading scene asked) Read path
 unfolding read_verdict

@@ -2,7 +2,7 @@
 use Rattle.std.proofs.Common.{◌≡◌, ℕ, Bool, true, cond, List, [], ◌∷◌, ◌∙◌}
 use Rattle.std.specs.Map.Calls.{RetainsPairs}
 use Rattle.rtdb_core.specs.State.{Session}
-use Rattle.rtdb_core.specs.Fates.{settled, left_of, with_listeners, settled_all}
+use Rattle.rtdb_core.specs.Working.Fates.{settled, left_of, with_listeners, settled_all}
 use Rattle.rtdb_core.specs.declared.fates.Decision.{Decision}
 
 pub retained_in_turn : {F : Type 0} (T : F → ℕ → Session → Bool → Session → F → Type 0) (place : F → ℕ) (left : F → List Decision) → ((f : F) (k : ℕ) (v : Session) (b : Bool) (w : Session) (g : F) → T f k v b w g → (b ≡ true) × (w ≡ with_listeners v (settled (place f) (left f) v.listeners)) × (place g ≡ (left_of (place f) (left f) v.listeners).0) × (left g ≡ (left_of (place f) (left f) v.listeners).1)) → (f : F) (es kept : List (ℕ × Session)) → RetainsPairs T f es kept → kept ≡ settled_all (place f) (left f) es

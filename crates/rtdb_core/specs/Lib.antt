@@ -5,5 +5,4 @@ pub mod Step
 pub mod Headline
 pub mod Marks
 pub mod Ends
-pub mod Fates
-pub mod Passages
+pub mod Working

@@ -1,7 +1,7 @@
 //! What becomes of listeners in a step: decided of all of them first, and then made, which can't fail.
 ghost use Rattle.std.specs.Prelude.{◌≡◌, ◌+◌, ◌<◌, ◌^◌, ◌++◌, ◌∷◌, [], length, slice_get, slice_set, Some, IfSome, OnOk};
 ghost use Rattle.listeners.specs.Listener.{seen};
-ghost use Rattle.rtdb_core.specs.Fates.{fated, sparse, next_place, front, behind, settled, left_of};
+ghost use Rattle.rtdb_core.specs.Working.Fates.{fated, sparse, next_place, front, behind, settled, left_of};
 
 use bumpalo::Bump;
 use json_tree::NoMemory;

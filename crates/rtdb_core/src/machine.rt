@@ -12,8 +12,8 @@ ghost use Rattle.listeners.specs.Table.{has_id, without_id, taken};
 ghost use Rattle.rtdb_core.specs.State.{opening, is_open, identity_of, listeners_of, is_admin, scene_at};
 ghost use Rattle.rtdb_core.specs.Rejudged.{selected_at};
 ghost use Rattle.rtdb_core.specs.Step.{opened, closed, closes, with_session, signs, tree_with, makes, read_refusal, write_refusal, listening, unlistens, polls, news_of, ticks, deployed, deploys, outcome, takes_no_memory, Step};
-ghost use Rattle.rtdb_core.specs.Fates.{sparse, settled, fate_of, fates_of, all_sessions, with_settled, with_tree, with_rules, IsJudgedWrite, listen_refusal};
-ghost use Rattle.rtdb_core.specs.Passages.{IsPassage, tree_before, tree_after, who_of};
+ghost use Rattle.rtdb_core.specs.Working.Fates.{sparse, settled, fate_of, fates_of, all_sessions, with_settled, with_tree, with_rules, IsJudgedWrite, listen_refusal};
+ghost use Rattle.rtdb_core.specs.Working.Passages.{IsPassage, tree_before, tree_after, who_of};
 
 use crate::event::{Event, Writes};
 use crate::fates::{Decision, Decisions, Docket};

@@ -9,8 +9,8 @@ ghost use Rattle.listeners.specs.Listener.{seen};
 ghost use Rattle.listeners.specs.Selection.{selection};
 ghost use Rattle.judge.specs.Question.{scene_of};
 ghost use Rattle.rtdb_core.specs.Rejudged.{hears, moves, same_tree};
-ghost use Rattle.rtdb_core.specs.Fates.{scene_by, fate_of};
-ghost use Rattle.rtdb_core.specs.Passages.{IsPassage, tree_before, tree_after, who_of, is_granted};
+ghost use Rattle.rtdb_core.specs.Working.Fates.{scene_by, fate_of};
+ghost use Rattle.rtdb_core.specs.Working.Passages.{IsPassage, tree_before, tree_after, who_of, is_granted};
 
 use crate::fates::Fate;
 use crate::selected::{asked_for, stored};

@@ -3,8 +3,8 @@
 ghost use Rattle.std.specs.Prelude.{◌≡◌, ◌+◌, ◌≤◌, ◌<◌, ◌^◌, ◌++◌, length, map, IfOk, OnOk};
 ghost use Rattle.std.specs.Ordering.{nat_cmp};
 ghost use Rattle.std.specs.BTreeMap.{IsOrdered};
-ghost use Rattle.rtdb_core.specs.Fates.{fate_of, fates_of, sparse, settled, settled_all, left_of, with_listeners};
-ghost use Rattle.rtdb_core.specs.Passages.{IsPassage, tree_before, tree_after, who_of};
+ghost use Rattle.rtdb_core.specs.Working.Fates.{fate_of, fates_of, sparse, settled, settled_all, left_of, with_listeners};
+ghost use Rattle.rtdb_core.specs.Working.Passages.{IsPassage, tree_before, tree_after, who_of};
 
 use crate::fates::{Decision, Decisions, Docket};
 use crate::passage::{Passage, fate_of};

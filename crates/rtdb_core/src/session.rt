@@ -3,7 +3,7 @@ ghost use Rattle.std.specs.Prelude.{◌≡◌, ◌++◌, ◌∷◌, [], Option, 
 ghost use Rattle.evaluator.specs.Identity.{Identity};
 ghost use Rattle.listeners.specs.Table.{begun, has_id, without_id, taken};
 ghost use Rattle.rtdb_core.specs.State.{fresh};
-ghost use Rattle.rtdb_core.specs.Fates.{settled, left_of, with_listeners};
+ghost use Rattle.rtdb_core.specs.Working.Fates.{settled, left_of, with_listeners};
 
 use crate::fates::{Docket, settle};
 use evaluator::Identity;

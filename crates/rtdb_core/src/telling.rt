@@ -3,7 +3,7 @@ ghost use Rattle.std.specs.Prelude.{◌≡◌, IfOk};
 ghost use Rattle.arena_snapshot.specs.View.{node_or_null};
 ghost use Rattle.listeners.specs.Listener.{seen};
 ghost use Rattle.rtdb_core.specs.Step.{told, news_of};
-ghost use Rattle.rtdb_core.specs.Fates.{settled};
+ghost use Rattle.rtdb_core.specs.Working.Fates.{settled};
 
 use crate::fates::{Decision, Docket, after};
 use crate::news::{News, Notice, What};

@@ -1,6 +1,6 @@
 use Rattle.std.proofs.Common.{◌≡◌, ◌∙◌, arith, Option, sym, ap, subst}
 use Rattle.std.specs.Prelude.{IfSome, slice_get, slice_set}
-use Rattle.rtdb_core.specs.Fates.{fated, front}
+use Rattle.rtdb_core.specs.Working.Fates.{fated, front}
 use Rattle.rtdb_core.specs.declared.fates.Fate.{Fate}
 use Rattle.rtdb_core.proofs.Fatings.{begins, is_set, is_kept, changed_at, goes_on, ends}
 use Rattle.rtdb_core.proofs.fates.settle.Goals as goal

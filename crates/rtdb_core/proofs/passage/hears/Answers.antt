@@ -3,8 +3,8 @@ use Rattle.std.specs.Borrow.{Bor}
 use Rattle.evaluator.specs.Asked.{asked_of}
 use Rattle.judge.specs.Question.{scene_of}
 use Rattle.listeners.specs.Query.{Query}
-use Rattle.rtdb_core.specs.Fates.{scene_by}
-use Rattle.rtdb_core.specs.Passages.{tree_after, who_of}
+use Rattle.rtdb_core.specs.Working.Fates.{scene_by}
+use Rattle.rtdb_core.specs.Working.Passages.{tree_after, who_of}
 use Rattle.rtdb_core.proofs.Hearing.{granted_is}
 use Rattle.rtdb_core.proofs.passage.hears.Goals as goal
 

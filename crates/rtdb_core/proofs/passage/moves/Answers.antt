@@ -7,7 +7,7 @@ use Rattle.judge.proofs.Coming.{tree_or_null-non_null}
 use Rattle.listeners.specs.Query.{Query}
 use Rattle.listeners.specs.Selection.{selection}
 use Rattle.rtdb_core.specs.Rejudged.{moves}
-use Rattle.rtdb_core.specs.Passages.{tree_before, tree_after}
+use Rattle.rtdb_core.specs.Working.Passages.{tree_before, tree_after}
 use Rattle.rtdb_core.proofs.Passing.{stored_tree, stays, moved_whole, moved_by}
 use Rattle.rtdb_core.proofs.passage.moves.Goals as goal
 

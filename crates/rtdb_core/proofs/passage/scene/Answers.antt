@@ -1,6 +1,6 @@
 use Rattle.std.proofs.Common.{◌≡◌, ◌∙◌, ap}
 use Rattle.path_capture.specs.Write.{tree_or_null}
-use Rattle.rtdb_core.specs.Passages.{tree_after, who_of}
+use Rattle.rtdb_core.specs.Working.Passages.{tree_after, who_of}
 use Rattle.rtdb_core.proofs.passage.scene.Goals as goal
 
 pub returns : goal.returns

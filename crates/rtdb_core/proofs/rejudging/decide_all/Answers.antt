@@ -1,7 +1,7 @@
 use Rattle.std.proofs.Common.{◌≡◌, ◌∙◌, ◌+◌, ◌++◌, List, ◌∷◌, map, length, rules, arith, sym, ap, append-nil}
 use Rattle.rtdb_core.specs.State.{Session}
-use Rattle.rtdb_core.specs.Fates.{fates_of, sparse}
-use Rattle.rtdb_core.specs.Passages.{tree_before, tree_after, who_of}
+use Rattle.rtdb_core.specs.Working.Fates.{fates_of, sparse}
+use Rattle.rtdb_core.specs.Working.Passages.{tree_before, tree_after, who_of}
 use Rattle.rtdb_core.proofs.Collecting.{one_session}
 use Rattle.rtdb_core.proofs.rejudging.decide_all.Goals as goal
 

@@ -1,6 +1,6 @@
 use Rattle.std.proofs.Common.{◌≡◌, ◌+◌, ◌++◌, length, map}
-use Rattle.rtdb_core.specs.Fates.{fates_of, sparse}
-use Rattle.rtdb_core.specs.Passages.{tree_before, tree_after}
+use Rattle.rtdb_core.specs.Working.Fates.{fates_of, sparse}
+use Rattle.rtdb_core.specs.Working.Passages.{tree_before, tree_after}
 use Rattle.rtdb_core.proofs.rejudging.decide_all.Given as goal
 
 abbrev pub invariant-loop-session : goal.invariant-loop-session

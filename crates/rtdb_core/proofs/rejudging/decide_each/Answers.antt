@@ -1,8 +1,8 @@
 use Rattle.std.proofs.Common.{◌∙◌, ◌+◌, ◌++◌, List, map, arith, sym, ap, append-nil}
 use Rattle.listeners.specs.Listener.{seen}
 use Rattle.listeners.specs.Table.{Listener}
-use Rattle.rtdb_core.specs.Fates.{fate_of, sparse}
-use Rattle.rtdb_core.specs.Passages.{tree_before, tree_after, who_of}
+use Rattle.rtdb_core.specs.Working.Fates.{fate_of, sparse}
+use Rattle.rtdb_core.specs.Working.Passages.{tree_before, tree_after, who_of}
 use Rattle.rtdb_core.proofs.Collecting.{one_more, all_of}
 use Rattle.rtdb_core.proofs.rejudging.decide_each.Goals as goal
 

@@ -1,5 +1,5 @@
 use Rattle.std.proofs.Common.{◌∙◌, rules, MutBor}
-use Rattle.rtdb_core.specs.Fates.{settled_all}
+use Rattle.rtdb_core.specs.Working.Fates.{settled_all}
 use Rattle.rtdb_core.specs.declared.fates.Docket.{Docket}
 use Rattle.rtdb_core.proofs.Seating.{retained_in_turn}
 use Rattle.rtdb_core.proofs.rejudging.settle_all.Goals as goal

@@ -1,7 +1,7 @@
 use Rattle.std.proofs.Common.{◌≡◌, ◌++◌, drop}
 use Rattle.arena_snapshot.specs.View.{node_or_null}
 use Rattle.rtdb_core.specs.Step.{news_of}
-use Rattle.rtdb_core.specs.Fates.{settled}
+use Rattle.rtdb_core.specs.Working.Fates.{settled}
 use Rattle.rtdb_core.proofs.telling.news_of.Given as goal
 
 abbrev pub invariant-loop-index : goal.invariant-loop-index

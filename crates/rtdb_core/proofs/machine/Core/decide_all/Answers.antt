@@ -1,8 +1,8 @@
 use Rattle.std.proofs.Common.{◌≡◌, ◌∙◌, ◌<◌, ◌^◌, List, ℕ, map, length, IfOk, sym, ap, subst}
 use Rattle.std.specs.FinMap as map_of
 use Rattle.rtdb_core.specs.State.{State, Session}
-use Rattle.rtdb_core.specs.Fates.{sparse, fates_of, all_sessions}
-use Rattle.rtdb_core.specs.Passages.{tree_before, tree_after}
+use Rattle.rtdb_core.specs.Working.Fates.{sparse, fates_of, all_sessions}
+use Rattle.rtdb_core.specs.Working.Passages.{tree_before, tree_after}
 use Rattle.rtdb_core.proofs.Sessions.{entries_are}
 use Rattle.rtdb_core.proofs.machine.Core.decide_all.Goals as goal
 

@@ -1,8 +1,8 @@
 use Rattle.std.proofs.Common.{◌≡◌, ◌∙◌, ◌<◌, ◌^◌, length, ap, subst}
 use Rattle.arena_snapshot.specs.View.{node_or_null}
 use Rattle.rtdb_core.specs.State.{State}
-use Rattle.rtdb_core.specs.Fates.{sparse, fates_of, all_sessions, with_rules}
-use Rattle.rtdb_core.specs.Passages.{tree_before, tree_after}
+use Rattle.rtdb_core.specs.Working.Fates.{sparse, fates_of, all_sessions, with_rules}
+use Rattle.rtdb_core.specs.Working.Passages.{tree_before, tree_after}
 use Rattle.rtdb_core.proofs.Fatings.{state_made}
 use Rattle.rtdb_core.proofs.Passing.{base_is}
 use Rattle.rtdb_core.proofs.Sessions.{if_both}

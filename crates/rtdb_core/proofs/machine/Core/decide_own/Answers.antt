@@ -3,8 +3,8 @@ use Rattle.std.proofs.lemmas.Bool.{false≢true}
 use Rattle.arena_snapshot.specs.View.{node_or_null}
 use Rattle.listeners.specs.Table.{Listener}
 use Rattle.rtdb_core.specs.State.{State, is_open, listeners_of}
-use Rattle.rtdb_core.specs.Fates.{sparse, fate_of}
-use Rattle.rtdb_core.specs.Passages.{who_of}
+use Rattle.rtdb_core.specs.Working.Fates.{sparse, fate_of}
+use Rattle.rtdb_core.specs.Working.Passages.{who_of}
 use Rattle.rtdb_core.proofs.Sessions.{has, listeners_at}
 use Rattle.rtdb_core.proofs.Passing.{base_is}
 use Rattle.rtdb_core.proofs.machine.Core.decide_own.Goals as goal

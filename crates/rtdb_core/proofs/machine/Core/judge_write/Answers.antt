@@ -6,7 +6,7 @@ use Rattle.arena_snapshot.specs.View.{node_or_null}
 use Rattle.judge.proofs.Coming.{tree_or_null-non_null}
 use Rattle.rtdb_core.specs.State.{State}
 use Rattle.rtdb_core.specs.Step.{tree_with}
-use Rattle.rtdb_core.specs.Fates.{sparse, fates_of, all_sessions, with_tree}
+use Rattle.rtdb_core.specs.Working.Fates.{sparse, fates_of, all_sessions, with_tree}
 use Rattle.rtdb_core.proofs.Fatings.{state_made}
 use Rattle.rtdb_core.proofs.Passing.{base_is}
 use Rattle.rtdb_core.proofs.Refusing.{tree_is_proposed}

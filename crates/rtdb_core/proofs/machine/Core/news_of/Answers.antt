@@ -5,7 +5,7 @@ use Rattle.arena_snapshot.specs.View.{node_or_null}
 use Rattle.listeners.specs.Table.{Listener}
 use Rattle.rtdb_core.specs.State.{State, is_open, listeners_of}
 use Rattle.rtdb_core.specs.Step.{news_of}
-use Rattle.rtdb_core.specs.Fates.{settled}
+use Rattle.rtdb_core.specs.Working.Fates.{settled}
 use Rattle.rtdb_core.proofs.Sessions.{has, listeners_at}
 use Rattle.rtdb_core.proofs.Passing.{base_is}
 use Rattle.rtdb_core.proofs.machine.Core.news_of.Goals as goal

@@ -4,7 +4,7 @@ use Rattle.std.proofs.Common.{Option}
 use Rattle.listeners.specs.Table.{taken}
 use Rattle.rtdb_core.specs.State.{listeners_of, identity_of}
 use Rattle.rtdb_core.specs.Step.{with_session, news_of}
-use Rattle.rtdb_core.specs.Fates.{settled, sparse, fate_of}
+use Rattle.rtdb_core.specs.Working.Fates.{settled, sparse, fate_of}
 use Rattle.rtdb_core.proofs.Deciding.{polled_is}
 use Rattle.rtdb_core.proofs.machine.Core.poll.Goals as goal
 

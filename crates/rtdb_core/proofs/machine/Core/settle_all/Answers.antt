@@ -2,7 +2,7 @@ use Rattle.std.proofs.Common.{◌∙◌, List, ℕ, sym, ap}
 use Rattle.std.specs.FinMap as map_of
 use Rattle.path_capture.specs.Write.{tree_or_null}
 use Rattle.rtdb_core.specs.State.{State, Session}
-use Rattle.rtdb_core.specs.Fates.{settled_all, with_settled}
+use Rattle.rtdb_core.specs.Working.Fates.{settled_all, with_settled}
 use Rattle.rtdb_core.proofs.Sessions.{sessions_of, entries_are}
 use Rattle.rtdb_core.proofs.machine.Core.settle_all.Goals as goal
 

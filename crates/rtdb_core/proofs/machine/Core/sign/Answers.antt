@@ -1,7 +1,7 @@
 use Rattle.std.proofs.Common.{◌∙◌, ap, map}
 use Rattle.rtdb_core.specs.State.{listeners_of}
 use Rattle.rtdb_core.specs.Step.{with_session}
-use Rattle.rtdb_core.specs.Fates.{settled, sparse, fate_of}
+use Rattle.rtdb_core.specs.Working.Fates.{settled, sparse, fate_of}
 use Rattle.rtdb_core.proofs.Deciding.{signed_is}
 use Rattle.rtdb_core.proofs.machine.Core.sign.Goals as goal
 
