@@ -55,8 +55,8 @@ pub const ROWS: [Row; 31] = [
 {"do":"get","now":1,"path":"/l","query":null,"s":1}
 {"do":"get","now":1,"path":"/l","query":{"limitToLast":0},"s":1}
 {"do":"get","now":1,"path":"/l.","query":{"limitToLast":0},"s":1}
-{"do":"poll","now":1,"s":1}
-{"do":"tick","now":1,"s":1}
+{"do":"push","now":1,"path":"/l","s":1}
+{"do":"onDisconnect","now":1,"s":1}
 "#,
         output: br#"{"ok":true,"rules":2}
 {"ok":true}
@@ -66,6 +66,120 @@ pub const ROWS: [Row; 31] = [
 {"code":102,"name":"BadRequest","ok":false}
 {"code":106,"name":"BadQuery","ok":false}
 {"code":103,"name":"BadPath","ok":false}
+{"code":102,"name":"BadRequest","ok":false}
+{"code":102,"name":"BadRequest","ok":false}
+"#,
+        end: ScriptEnd::Finished,
+    },
+    Row {
+        name: "news, in the order in which listeners began",
+        input: br#"{"rules":"{\"rules\":{\"l\":{\".read\":\"root.child('open').val() == true\",\".write\":true},\"open\":{\".read\":true,\".write\":true}}}"}
+{"do":"open","now":1,"s":1}
+{"do":"open","now":1,"s":2}
+{"do":"listen","id":"b","now":1,"path":"/l","s":1}
+{"do":"set","now":1,"path":"/open","s":2,"value":true}
+{"do":"listen","id":"b","now":1,"path":"/l","s":1}
+{"do":"listen","id":"a","now":1,"path":"/l","query":{"limitToLast":1},"s":1}
+{"do":"listen","id":"a","now":1,"path":"/l","s":1}
+{"do":"poll","now":1,"s":1}
+{"do":"set","now":1,"path":"/l/y","s":2,"value":2}
+{"do":"set","now":1,"path":"/l/x","s":2,"value":1}
+{"do":"poll","now":1,"s":1}
+{"do":"set","now":1,"path":"/l/x","s":2,"value":3}
+{"do":"set","now":1,"path":"/l/x","s":2,"value":3}
+{"do":"poll","now":1,"s":1}
+{"do":"poll","now":1,"s":1}
+{"do":"poll","now":1,"s":3}
+"#,
+        output: br#"{"ok":true,"rules":4}
+{"ok":true}
+{"ok":true}
+{"code":501,"name":"ReadDenied","ok":false,"rules":[{"pattern":"/l","why":"false"}]}
+{"ok":true}
+{"ok":true,"value":null}
+{"ok":true,"value":null}
+{"code":301,"name":"DuplicateId","ok":false}
+{"news":[],"ok":true}
+{"ok":true}
+{"ok":true}
+{"news":[{"id":"b","value":{"x":1,"y":2}},{"id":"a","value":{"y":2}}],"ok":true}
+{"ok":true}
+{"ok":true}
+{"news":[{"id":"b","value":{"x":3,"y":2}}],"ok":true}
+{"news":[],"ok":true}
+{"code":202,"name":"NoSession","ok":false}
+"#,
+        end: ScriptEnd::Finished,
+    },
+    Row {
+        name: "listeners that are cancelled",
+        input: br#"{"rules":"{\"rules\":{\"l\":{\".read\":\"now < 5 && root.child('open').val() == true\",\".write\":true},\"open\":{\".write\":true}}}"}
+{"do":"open","now":1,"s":1}
+{"do":"set","now":1,"path":"/open","s":1,"value":true}
+{"do":"listen","id":"a","now":1,"path":"/l","s":1}
+{"do":"listen","id":"b","now":1,"path":"/l/x","s":1}
+{"do":"unlisten","id":"a","now":1,"s":1}
+{"do":"unlisten","id":"a","now":1,"s":1}
+{"do":"listen","id":"c","now":1,"path":"/l/y","s":1}
+{"do":"set","now":2,"path":"/l/x","s":1,"value":2}
+{"do":"tick","now":5,"s":9}
+{"do":"set","now":2,"path":"/l/y","s":1,"value":2}
+{"do":"listen","id":"b","now":2,"path":"/l","s":1}
+{"do":"poll","now":2,"s":1}
+{"do":"listen","id":"b","now":2,"path":"/l","s":1}
+{"do":"poll","now":2,"s":1}
+{"do":"remove","now":2,"path":"/open","s":1}
+{"do":"poll","now":2,"s":1}
+{"do":"poll","now":2,"s":1}
+"#,
+        output: br#"{"ok":true,"rules":3}
+{"ok":true}
+{"ok":true}
+{"ok":true,"value":null}
+{"ok":true,"value":null}
+{"ok":true}
+{"code":302,"name":"NoListener","ok":false}
+{"ok":true,"value":null}
+{"ok":true}
+{"ok":true}
+{"ok":true}
+{"code":301,"name":"DuplicateId","ok":false}
+{"news":[{"cancelled":true,"id":"b"},{"cancelled":true,"id":"c"}],"ok":true}
+{"ok":true,"value":{"x":2,"y":2}}
+{"news":[],"ok":true}
+{"ok":true}
+{"news":[{"cancelled":true,"id":"b"}],"ok":true}
+{"news":[],"ok":true}
+"#,
+        end: ScriptEnd::Finished,
+    },
+    Row {
+        name: "the members of listens",
+        input: br#"{"rules":"{\"rules\":{\".read\":true}}"}
+{"do":"open","now":1,"s":1}
+{"do":"listen","id":"","now":1,"path":"/","s":1}
+{"do":"listen","id":"0123456789012345678901234567890123456789012345678901234567890123","now":1,"path":"/","s":1}
+{"do":"listen","id":"01234567890123456789012345678901234567890123456789012345678901234","now":1,"path":"/","s":1}
+{"do":"listen","now":1,"path":"/","s":1}
+{"do":"listen","id":"a","now":1,"s":1}
+{"do":"listen","id":"a","now":1,"path":"/.","query":{"limitToLast":0},"s":1}
+{"do":"listen","id":"a","now":1,"path":"/","query":{"limitToLast":0},"s":1}
+{"do":"listen","id":"a","now":1,"path":"/","query":7,"s":1}
+{"do":"unlisten","id":"a","now":1,"path":"/","s":1}
+{"do":"poll","id":"a","now":1,"s":1}
+{"do":"tick","now":1}
+"#,
+        output: br#"{"ok":true,"rules":1}
+{"ok":true}
+{"code":102,"name":"BadRequest","ok":false}
+{"ok":true,"value":null}
+{"code":102,"name":"BadRequest","ok":false}
+{"code":102,"name":"BadRequest","ok":false}
+{"code":102,"name":"BadRequest","ok":false}
+{"code":103,"name":"BadPath","ok":false}
+{"code":106,"name":"BadQuery","ok":false}
+{"code":102,"name":"BadRequest","ok":false}
+{"code":102,"name":"BadRequest","ok":false}
 {"code":102,"name":"BadRequest","ok":false}
 {"code":102,"name":"BadRequest","ok":false}
 "#,
