@@ -3,7 +3,7 @@
 import os
 import subprocess
 
-from scratch import output_of, stop
+from scratch import ROOT, output_of, stop
 
 # It goes before the C library. It refuses the growth of one number, counted from 1, and tells how many there were.
 REFUSING = """
@@ -45,6 +45,15 @@ void _exit(int status) {
     __builtin_unreachable();
 }
 """
+
+
+def built_program():
+    """The program, proved and built."""
+    folder = ROOT / "crates" / "rtdb"
+    status, said = output_of(["rt", "run"], folder)
+    if status:
+        stop(f"the program is not proved, or does not run:\n{said[-2000:]}")
+    return folder / "out" / "rtdb"
 
 
 def built_refusing(room):

@@ -23,7 +23,7 @@ use Rattle.rules_reader.proofs.Decided.{states_one, one_reason, never_both}
 use Rattle.tokens.specs.Tokens.{Tokens, has_only, text_at, identity_named}
 use Rattle.rtdb_core.specs.declared.event.Event.{Event}
 use Rattle.rtdb_core.specs.declared.event.Event.TheVariants as events
-use Rattle.rtdb_core.specs.declared.event.Event.TheVariants.{Get, Set, Remove, Update}
+use Rattle.rtdb_core.specs.declared.event.Event.TheVariants.{Get, Set, Remove, Update, Listen, Unlisten}
 use Rattle.rtdb_core.specs.State.{State}
 use Rattle.rtdb_core.proofs.StepLaws.{some_answer, one_answer}
 use Rattle.messages.specs.declared.limits.TheConstants.{MAX_MESSAGE_BYTES}
@@ -42,7 +42,7 @@ use Rattle.messages.specs.Ask.{ComesTo, IsAsked}
 use Rattle.messages.proofs.Texts.{one_rules_text}
 use Rattle.messages.specs.declared.message.Verb.{Verb}
 use Rattle.messages.specs.declared.message.Verb.TheVariants as verbs
-use Rattle.messages.specs.Message.{or_fault, unless_fault, value_of, form_members, verb_members, stamp_of, path_of, query_at, query_said, path_in, path_below, tree_of_value, write_at, write_below, writes_below, wanted_by, verb_in, request_of, asks}
+use Rattle.messages.specs.Message.{or_fault, unless_fault, value_of, form_members, verb_members, stamp_of, path_of, query_at, query_said, id_at, path_in, path_below, tree_of_value, write_at, write_below, writes_below, wanted_by, verb_in, request_of, asks}
 use Rattle.sessions.specs.Said.{IsAnsweredBy, IsAnsweredInFullBy, IsAnsweredInFull, IsAnswered, DeploysText, IsDecided}
 use Rattle.messages.specs.AnswerText as answer
 
@@ -137,6 +137,15 @@ wanted_never verbs.Update d =
     in_turn _ _ (of_option BadRequest (option_and_then as_object (get (codes "values") d)) (λ e. cc)) (λ members.
     in_turn _ _ (path_never text) (λ path.
     in_turn _ _ (members_never path members) (λ writes. of_ok (wanted.Step (Update writes))))))
+wanted_never verbs.Listen d =
+    in_turn _ _ (of_option BadRequest (id_at d) (λ e. cc)) (λ id.
+    in_turn _ _ (of_option BadRequest (text_at (codes "path") d) (λ e. cc)) (λ text.
+    in_turn _ _ (of_option BadRequest (query_at d) (λ e. cc)) (λ said.
+    in_turn _ _ (path_never text) (λ path.
+    in_turn _ _ (query_never said) (λ query. of_ok (wanted.Step (Listen id path query)))))))
+wanted_never verbs.Unlisten d = in_turn _ _ (of_option BadRequest (id_at d) (λ e. cc)) (λ id. of_ok (wanted.Step (Unlisten id)))
+wanted_never verbs.Poll d = of_ok _
+wanted_never verbs.Tick d = of_ok _
 wanted_never verbs.Deploy d = in_turn _ _ (of_option BadRequest (text_at (codes "rules") d) (λ e. cc)) (λ rules. of_ok (Deploy rules))
 
 request_never : (form : Form) (d : Data) → NeverWants (request_of form d)

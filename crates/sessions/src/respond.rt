@@ -164,7 +164,7 @@ fn say(alloc: Global, reply: &Reply) -> Result<Answer, NoMemory>
 {
     match reply {
         Reply::Done => Ok(Answer::Done),
-        Reply::Value(_) => written(write_reply(alloc, reply)?),
+        Reply::Value(_) | Reply::News(_) => written(write_reply(alloc, reply)?),
         Reply::Refused(refusal) => say_refusal(alloc, refusal),
     }
 }
