@@ -10,7 +10,7 @@ pub struct Row {
     pub end: ScriptEnd,
 }
 
-pub const ROWS: [Row; 31] = [
+pub const ROWS: [Row; 34] = [
     Row {
         name: "deeper_grant_stays_deep",
         input: br#"{"rules":"{\"rules\":{\".read\":false,\"a\":{\".read\":false,\"b\":{\".read\":true}}}}"}
