@@ -1,0 +1,29 @@
+//! The tests of `rtdb_core`: worked runs of several sessions, random runs beside a plain second reading, and
+//! what is left where memory is refused. They stand in a crate of their own, since a crate with tests is
+//! proved twice.
+#![tactic(auto)]
+
+#[cfg(test)]
+mod ends;
+#[cfg(test)]
+mod leaves;
+#[cfg(test)]
+mod marks;
+#[cfg(test)]
+mod memory;
+#[cfg(test)]
+mod random;
+#[cfg(test)]
+mod reading;
+#[cfg(test)]
+mod refusals;
+#[cfg(test)]
+mod replies;
+#[cfg(test)]
+mod rules;
+#[cfg(test)]
+mod runs;
+#[cfg(test)]
+mod steps;
+#[cfg(test)]
+mod texts;
