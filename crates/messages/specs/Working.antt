@@ -3,3 +3,4 @@ pub mod Faults
 pub mod Opening
 pub mod Asking
 pub mod Outline
+pub mod Writing

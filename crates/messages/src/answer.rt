@@ -1,19 +1,23 @@
 //! Answers: the texts of replies and faults, compact JSON with the members in the order of their
 //! names, and no line feed.
 ghost use Rattle.std.specs.Prelude.{◌≡◌, ◌++◌, codes, option_map, IfOk};
-ghost use Rattle.serde_json.specs.Data.{string, object, member, no_members};
-ghost use Rattle.serde_json.specs.View.{view, members_view};
-ghost use Rattle.messages.specs.AnswerText.{text, fault_text, rules_fault_text, bad_tokens_text, unknown_token_text, line_fault_text, accepted_text, message_code, refusal_members, plain_data, placed_data, named_data, rules_data, notice_data, notices_data, reply_data, read_denied_data, write_denied_data, validate_denied_data, why_text, accepted_data, refusal_data, rule_data, byte_data, what_data, rule_fault_data, rules_fault_data};
+ghost use Rattle.serde_json.specs.View.{view};
+ghost use Rattle.serde_json.specs.Written.{compact_text};
+ghost use Rattle.messages.specs.AnswerText.{text, fault_text, rules_fault_text, bad_tokens_text, unknown_token_text, line_fault_text, accepted_text, message_code, plain_data, placed_data, notice_data, notices_data, reply_data, accepted_data, rule_data, byte_data, what_data, rule_fault_data, rules_fault_data};
 
 use crate::ask::LineFault;
 use crate::code::Code;
 use crate::message::MessageFault;
+use crate::refusal::{put_plain, put_refusal};
+use json::Writer;
 use json_tree::{NoMemory, Node, to_json, write_json};
-use path_capture::{Path, Pattern};
-use rtdb_core::{Named, NamedRules, News, Notice, Refusal, Reply, What, Why};
+use rtdb_core::{News, Notice, Refusal, Reply, What};
 use rules_reader::{RuleFault, RuleName, RulesFault};
-use serde_json::{Map, Value, json};
+use serde_json::{Value, json};
 use std::alloc::Global;
+
+// How many bytes a refusal has room for at first, which most don't fill.
+const FIRST_ROOM: usize = 192;
 
 /// The text of a reply, in one pass over what it has.
 pub fn write_reply(alloc: Global, reply: &Reply) -> Result<Vec<u8>, NoMemory>
@@ -28,12 +32,11 @@ pub fn write_reply(alloc: Global, reply: &Reply) -> Result<Vec<u8>, NoMemory>
 }
 
 /// The text of a fault of a message.
-#[tactic(auto, unfolding(crate::specs::AnswerText::fault_text), using(crate::proofs::Texts::text_of_view))]
+#[tactic(auto, unfolding(crate::specs::AnswerText::fault_text))]
 pub fn write_fault(alloc: Global, fault: MessageFault) -> Result<Vec<u8>, NoMemory>
     ensures { IfOk result (λ bytes. bytes.items ≡ fault_text fault) }
 {
-    let value = plain(alloc, code_of_message(fault))?;
-    Ok(value.to_vec(alloc)?)
+    plain_text(alloc, code_of_message(fault))
 }
 
 /// The text of a fault of a rules file.
@@ -46,20 +49,18 @@ pub fn write_rules_fault(alloc: Global, fault: &RulesFault) -> Result<Vec<u8>, N
 }
 
 /// The text for tokens that are none.
-#[tactic(auto, unfolding(crate::specs::AnswerText::bad_tokens_text), using(crate::proofs::Texts::text_of_view))]
+#[tactic(auto, unfolding(crate::specs::AnswerText::bad_tokens_text))]
 pub fn write_bad_tokens(alloc: Global) -> Result<Vec<u8>, NoMemory>
     ensures { IfOk result (λ bytes. bytes.items ≡ bad_tokens_text) }
 {
-    let value = plain(alloc, Code::BadTokens)?;
-    Ok(value.to_vec(alloc)?)
+    plain_text(alloc, Code::BadTokens)
 }
 
-#[tactic(auto, unfolding(crate::specs::AnswerText::unknown_token_text), using(crate::proofs::Texts::text_of_view))]
+#[tactic(auto, unfolding(crate::specs::AnswerText::unknown_token_text))]
 fn write_unknown_token(alloc: Global) -> Result<Vec<u8>, NoMemory>
     ensures { IfOk result (λ bytes. bytes.items ≡ unknown_token_text) }
 {
-    let value = plain(alloc, Code::UnknownToken)?;
-    Ok(value.to_vec(alloc)?)
+    plain_text(alloc, Code::UnknownToken)
 }
 
 /// The text for a message that asks nothing of the database.
@@ -160,34 +161,23 @@ fn value_of_notice(alloc: Global, notice: &Notice) -> Result<Value, NoMemory>
     }
 }
 
-/// The text of a refusal.
-#[tactic(auto, unfolding(crate::specs::AnswerText::text), using(crate::proofs::Texts::text_of_view, crate::proofs::Texts::refusal_is_no_float))]
+/// The text of a refusal, in one pass over what it names.
+#[tactic(auto, unfolding(crate::specs::AnswerText::text))]
 pub fn write_refusal(alloc: Global, refusal: &Refusal) -> Result<Vec<u8>, NoMemory>
     ensures { IfOk result (λ bytes. bytes.items ≡ text (Reply.Refused refusal.now)) }
 {
-    let value = value_of_refusal(alloc, refusal)?;
-    Ok(value.to_vec(alloc)?)
+    let mut out = Writer::new(Vec::with_capacity(alloc, FIRST_ROOM)?);
+    put_refusal(alloc, &mut out, refusal)?;
+    Ok(out.into_inner())
 }
 
-fn value_of_refusal(alloc: Global, refusal: &Refusal) -> Result<Value, NoMemory>
-    ensures { IfOk result (λ value. view value ≡ refusal_data refusal.now) }
+// The text of a refusal with no further member.
+fn plain_text(alloc: Global, code: Code) -> Result<Vec<u8>, NoMemory>
+    ensures { IfOk result (λ bytes. bytes.items ≡ compact_text (plain_data code)) }
 {
-    match refusal {
-        Refusal::SessionOpen => plain(alloc, Code::SessionOpen),
-        Refusal::TooManySessions => plain(alloc, Code::TooManySessions),
-        Refusal::NoSession => plain(alloc, Code::NoSession),
-        Refusal::NotAdmin => plain(alloc, Code::NotAdmin),
-        Refusal::DuplicateId => plain(alloc, Code::DuplicateId),
-        Refusal::TooManyListeners => plain(alloc, Code::TooManyListeners),
-        Refusal::NoListener => plain(alloc, Code::NoListener),
-        Refusal::EmptyUpdate => plain(alloc, Code::EmptyUpdate),
-        Refusal::Overlap => plain(alloc, Code::Overlap),
-        Refusal::ReadDenied(named) => read_denied(alloc, named),
-        Refusal::WriteDenied(path, named) => write_denied(alloc, path, named),
-        Refusal::ValidateDenied(path, pattern, why) => validate_denied(alloc, path, pattern, *why),
-        Refusal::TreeFull => plain(alloc, Code::TreeFull),
-        Refusal::NoMemory => plain(alloc, Code::NoMemory),
-    }
+    let mut out = Writer::new(Vec::with_capacity(alloc, FIRST_ROOM)?);
+    put_plain(&mut out, code)?;
+    Ok(out.into_inner())
 }
 
 fn value_of_rules_fault(alloc: Global, fault: &RulesFault) -> Result<Value, NoMemory>
@@ -276,90 +266,4 @@ fn placed(alloc: Global, code: Code, place: &str) -> Result<Value, NoMemory>
     ensures { IfOk result (λ value. view value ≡ placed_data code place.now) }
 {
     Ok(json!(in alloc; {"at": place, "code": code.number(), "name": code.name(), "ok": false})?)
-}
-
-fn read_denied(alloc: Global, named: &NamedRules) -> Result<Value, NoMemory>
-    ensures { IfOk result (λ value. view value ≡ read_denied_data named.now) }
-{
-    let code = Code::ReadDenied;
-    let rules = values_of(alloc, named.as_slice())?;
-    Ok(json!(in alloc; {"code": code.number(), "name": code.name(), "ok": false, "rules": rules})?)
-}
-
-fn write_denied(alloc: Global, at: &Path, named: &NamedRules) -> Result<Value, NoMemory>
-    ensures { IfOk result (λ value. view value ≡ write_denied_data at.now named.now) }
-{
-    let place = at.print(alloc)?;
-    let rules = values_of(alloc, named.as_slice())?;
-    placed_with_rules(alloc, Code::WriteDenied, place.as_str(), rules)
-}
-
-fn validate_denied(alloc: Global, at: &Path, pattern: &Pattern, why: Why) -> Result<Value, NoMemory>
-    ensures { IfOk result (λ value. view value ≡ validate_denied_data at.now pattern.now why) }
-{
-    let code = Code::ValidateDenied;
-    let place = at.print(alloc)?;
-    let pattern = pattern.print()?;
-    Ok(json!(in alloc; {
-        "at": place.as_str(),
-        "code": code.number(),
-        "name": code.name(),
-        "ok": false,
-        "pattern": pattern.as_str(),
-        "why": why_text(why),
-    })?)
-}
-
-// A refusal with a place and rules.
-fn placed_with_rules(
-    alloc: Global,
-    code: Code,
-    place: &str,
-    rules: Value,
-) -> Result<Value, NoMemory>
-    ensures { IfOk result (λ value. view value ≡ object (member (codes "at") (string place.now) (refusal_members code (member (codes "rules") (view rules) no_members)))) }
-{
-    let mut members = members_of(alloc, code)?;
-    let place = Value::try_from_str(alloc, place)?;
-    serde_json::put(&mut members, alloc, "at", place)?;
-    serde_json::put(&mut members, alloc, "rules", rules)?;
-    Ok(Value::Object(members))
-}
-
-// What every refusal has.
-fn members_of(alloc: Global, code: Code) -> Result<Map<String, Value>, NoMemory>
-    ensures { IfOk result (λ members. members_view members.entries ≡ refusal_members code no_members) }
-{
-    let mut members = Map::new(alloc);
-    let name = Value::try_from_str(alloc, code.name())?;
-    serde_json::put(&mut members, alloc, "code", Value::from(code.number()))?;
-    serde_json::put(&mut members, alloc, "name", name)?;
-    serde_json::put(&mut members, alloc, "ok", Value::Bool(false))?;
-    Ok(members)
-}
-
-fn values_of(alloc: Global, named: &[Named]) -> Result<Value, NoMemory>
-    ensures { IfOk result (λ value. view value ≡ rules_data named.now) }
-{
-    let mut values = Vec::with_capacity(alloc, named.len())?;
-    for rule in named {
-        values.push(value_of_named(alloc, rule)?)?;
-    }
-    Ok(Value::Array(values))
-}
-
-fn value_of_named(alloc: Global, named: &Named) -> Result<Value, NoMemory>
-    ensures { IfOk result (λ value. view value ≡ named_data named.now) }
-{
-    let pattern = named.pattern.print()?;
-    Ok(json!(in alloc; {"pattern": pattern.as_str(), "why": why_text(named.why)})?)
-}
-
-fn why_text(why: Why) -> &'static str
-    ensures { result.now ≡ why_text why }
-{
-    match why {
-        Why::No => "false",
-        Why::Erred => "error",
-    }
 }

@@ -13,6 +13,7 @@ mod limits;
 mod message;
 mod outline;
 mod reader;
+mod refusal;
 mod source;
 mod value;
 
