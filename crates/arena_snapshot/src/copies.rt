@@ -3,11 +3,11 @@ ghost use Rattle.std.specs.Prelude.{◌≡◌, IfOk};
 ghost use Rattle.arena_snapshot.specs.Working.Change.{entries_of};
 
 use crate::view::{Kind, View};
-use json_tree::{Key, NoMemory, Node};
+use json_tree::{Child, NoMemory, Node};
 use std::alloc::Global;
 
-/// The same tree, owned, in one pass over it: one growth for each text, each long key and each list
-/// of children, and where children are changed a binary search for each child.
+/// The same tree, owned, in one pass over it: one growth for each text, each long key, each child and
+/// each list of children, and where children are changed a binary search for each child.
 #[cycle(copy_out)]
 pub fn copy_out(alloc: Global, view: &View) -> Result<Node, NoMemory>
     ensures { IfOk result (λ node. node ≡ view.now) }
@@ -19,7 +19,7 @@ pub fn copy_out(alloc: Global, view: &View) -> Result<Node, NoMemory>
 }
 
 #[cycle(copy_out)]
-fn copies(alloc: Global, view: &View) -> Result<Vec<(Key, Node)>, NoMemory>
+fn copies(alloc: Global, view: &View) -> Result<Vec<Child>, NoMemory>
     ensures { IfOk result (λ copies. copies.items ≡ entries_of view.now) }
 {
     let width = view.width();
@@ -28,7 +28,8 @@ fn copies(alloc: Global, view: &View) -> Result<Vec<(Key, Node)>, NoMemory>
         let Some((key, child)) = view.entry_at(i) else {
             unreachable!()
         };
-        copies.push((key.copy(alloc)?, copy_out(alloc, &child)?))?;
+        let child = Child::new(alloc, key.copy(alloc)?, copy_out(alloc, &child)?)?;
+        copies.push(child)?;
     }
     Ok(copies)
 }

@@ -7,10 +7,9 @@ ghost use Rattle.tree_model.specs.Tree.{null};
 ghost use Rattle.json_tree.specs.Leaf.{primitive_of};
 ghost use Rattle.json_tree.specs.Json.{data_of, members_of, value_of};
 
-use crate::key::Key;
 use crate::leaf::Leaf;
 use crate::memory::NoMemory;
-use crate::node::Node;
+use crate::node::{Child, Node};
 use json::Writer;
 use std::alloc::AllocError;
 
@@ -43,13 +42,15 @@ fn write_node(out: &mut Writer, node: &Node) -> Result<(), AllocError>
 }
 
 #[cycle(write)]
-fn write_children(out: &mut Writer, children: &[(Key, Node)]) -> Result<(), AllocError>
+fn write_children(out: &mut Writer, children: &[Child]) -> Result<(), AllocError>
     ensures before { out.new.before ≡ out.old.before }
     ensures tokens { OnOk result (out.new.tokens ≡ out.old.tokens ++ json_tokens
         (outline (object (members_of (map (λ child. (child.0, value_of child.1)) children.now))))) }
 {
     out.begin_object()?;
-    for (key, node) in children {
+    for child in children {
+        let key = child.key();
+        let node = child.node();
         out.key(key.text())?;
         write_node(out, node)?;
     }

@@ -16,7 +16,7 @@ ghost use Rattle.json_tree.specs.declared.json_value.ValueFault.TheVariants.{NoM
 use crate::key::{Key, is_lawful_key};
 use crate::leaf::{Leaf, Number, is_lawful_text};
 use crate::memory::NoMemory;
-use crate::node::Node;
+use crate::node::{Child, Node};
 use serde_json::{Map, Value};
 use std::alloc::Global;
 use thiserror::Error;
@@ -174,7 +174,7 @@ fn build(alloc: Global, value: &Value) -> Result<Option<Node>, NoMemory>
 
 // The children of an array, in the order of their indices.
 #[cycle(build)]
-fn build_items(alloc: Global, items: &Vec<Value>) -> Result<Vec<(Key, Node)>, NoMemory>
+fn build_items(alloc: Global, items: &Vec<Value>) -> Result<Vec<Child>, NoMemory>
     requires lawful { are_lawful_items (items_view items.now.items) ≡ true }
     requires room { levels_of_items (items_view items.now.items) ≤ MAX_DEPTH + 1 }
     ensures { IfOk result
@@ -184,7 +184,7 @@ fn build_items(alloc: Global, items: &Vec<Value>) -> Result<Vec<(Key, Node)>, No
     for (index, item) in items.iter().enumerate() {
         let built = build(alloc, item)?;
         if let Some(node) = built {
-            children.push((Key::of_index(alloc, index)?, node))?;
+            children.push(Child::new(alloc, Key::of_index(alloc, index)?, node)?)?;
         }
     }
     Ok(children)
@@ -192,7 +192,7 @@ fn build_items(alloc: Global, items: &Vec<Value>) -> Result<Vec<(Key, Node)>, No
 
 // The children of an object, in the order of their keys.
 #[cycle(build)]
-fn build_members(alloc: Global, members: &Map<String, Value>) -> Result<Vec<(Key, Node)>, NoMemory>
+fn build_members(alloc: Global, members: &Map<String, Value>) -> Result<Vec<Child>, NoMemory>
     requires lawful { are_lawful_members (members_view members.now.entries) ≡ true }
     requires room { levels_of_members (members_view members.now.entries) ≤ MAX_DEPTH + 1 }
     ensures children { IfOk result
@@ -203,17 +203,17 @@ fn build_members(alloc: Global, members: &Map<String, Value>) -> Result<Vec<(Key
     for (name, member) in members.iter() {
         let built = build(alloc, member)?;
         if let Some(node) = built {
-            children.push((Key::of_lawful(alloc, name.as_str())?, node))?;
+            children.push(Child::new(alloc, Key::of_lawful(alloc, name.as_str())?, node)?)?;
         }
     }
     Ok(children)
 }
 
-fn sort(children: &mut Vec<(Key, Node)>)
+fn sort(children: &mut Vec<Child>)
     ensures permutation { IsPermutation children.old.items children.new.items }
     ensures ascending { IsSortedBy (λ a b. is_lt (key_cmp a.0 b.0)) children.new.items }
 {
-    children.sort_unstable_by(|a, b| a.0.compare(b.0.text()));
+    children.sort_unstable_by(|a, b| a.key().compare(b.key().text()));
 }
 
 // The tree of one primitive.
@@ -224,7 +224,7 @@ fn alone(leaf: Leaf) -> Result<Option<Node>, NoMemory>
 }
 
 // The tree of these children, null where there is none.
-fn parent(children: Vec<(Key, Node)>) -> Result<Option<Node>, NoMemory>
+fn parent(children: Vec<Child>) -> Result<Option<Node>, NoMemory>
     requires ascending { is_sorted key_cmp children.items ≡ true }
     requires room { All (λ child. depth child.1 < MAX_DEPTH) children.items }
     ensures { IfOk result (λ node. node ≡ non_null (graft children.items)) }
@@ -250,13 +250,15 @@ fn write(alloc: Global, node: &Node) -> Result<Value, NoMemory>
 }
 
 #[cycle(write)]
-fn write_children(alloc: Global, children: &[(Key, Node)]) -> Result<Map<String, Value>, NoMemory>
+fn write_children(alloc: Global, children: &[Child]) -> Result<Map<String, Value>, NoMemory>
     requires { is_sorted key_cmp children.now ≡ true }
     ensures { IfOk result (λ members. members_view members.entries
         ≡ members_of (map (λ child. (child.0, value_of child.1)) children.now)) }
 {
     let mut members = Map::new(alloc);
-    for (key, node) in children {
+    for child in children {
+        let key = child.key();
+        let node = child.node();
         serde_json::put(&mut members, alloc, key.text(), write(alloc, node)?)?;
     }
     Ok(members)

@@ -24,6 +24,6 @@ pub use json_value::{ValueFault, from_json, to_json};
 pub use key::{Key, KeyFault, copy_keys, is_lawful_key};
 pub use leaf::{Leaf, LeafText, Number};
 pub use memory::NoMemory;
-pub use node::{Node, Place};
+pub use node::{Child, Node, Place};
 pub use puts::put;
 pub use undo::{Undo, put_with_undo};

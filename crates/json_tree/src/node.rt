@@ -33,7 +33,16 @@ pub struct Node {
 pub(crate) enum Kind {
     Primitive(Leaf),
     // Ascending by the bytes of the keys, at least one.
-    Parent(Vec<(Key, Node)>),
+    Parent(Vec<Child>),
+}
+
+/// A child of a node: its key, and its tree. Both lie in a growth of their own, so that where a child comes
+/// or goes, those behind it are moved by a pointer each. Contracts see the pair. (Guide "Structure Your
+/// Database", how data is structured.)
+#[cycle(node)]
+#[derive(Debug, Drop)]
+pub struct Child {
+    pub(crate) held: Box<(Key, Node)>,
 }
 
 /// Where a key stands among the children of a node.
@@ -43,6 +52,59 @@ pub struct Place<'a> {
     pub child: Option<&'a Node>,
     /// How many children stand before the key, whether there is one at it or not.
     pub before: usize,
+}
+
+impl Model for Child {
+    ghost use Rattle.std.specs.Prelude.{ℕ, List, ◌+◌};
+    ghost use Rattle.std.specs.Coded.{coded×, coded_list, coded_ℕ};
+    ghost use Rattle.tree_model.specs.PathMap.{depth as depth_of};
+    ghost use Rattle.tree_model.specs.Tree.{Tree, tree_code};
+
+    ghost Value = { List ℕ × Tree };
+
+    ghost coded = { coded× (coded_list coded_ℕ) tree_code };
+
+    ghost view = { λ child. child.held.value };
+
+    ghost size = { λ child. depth_of child.1 + depth_of child.1 + 1 };
+
+    ghost use Rattle.std.proofs.Common.{arith};
+
+    ghost size_decreases = { λ child h. Prim.omega arith };
+}
+
+impl Child {
+    /// The child of this key, in one growth.
+    pub fn new(alloc: Global, key: Key, node: Node) -> Result<Child, NoMemory>
+        ensures { IfOk result (λ child. child ≡ (key, node)) }
+    {
+        Ok(Child {
+            held: Box::new(alloc, (key, node))?,
+        })
+    }
+
+    /// The key of the child.
+    pub fn key(&self) -> &Key
+        ensures { result.now ≡ self.now.0 }
+    {
+        &self.held.0
+    }
+
+    /// The tree of the child.
+    pub fn node(&self) -> &Node
+        ensures { result.now ≡ self.now.1 }
+    {
+        &self.held.1
+    }
+
+    #[cycle(copy)]
+    fn copy(&self, alloc: Global) -> Result<Child, NoMemory>
+        ensures { IfOk result (λ child. child ≡ self.now) }
+    {
+        let key = self.key().copy(alloc)?;
+        let node = self.node().copy(alloc)?;
+        Child::new(alloc, key, node)
+    }
 }
 
 impl Model for Node {
@@ -59,7 +121,9 @@ impl Model for Node {
 
     ghost invariant = { λ node. IsNode node.kind node.depth node.count };
 
-    ghost size = { depth_of };
+    ghost use Rattle.std.specs.Prelude.{◌+◌};
+
+    ghost size = { λ tree. depth_of tree + depth_of tree };
 
     ghost use Rattle.json_tree.specs.Working.NodeFalls.{falls};
 
@@ -81,7 +145,7 @@ impl Node {
     }
 
     /// The tree of these children, in one pass over the list.
-    pub fn of_children(children: Vec<(Key, Node)>) -> Result<Node, NoMemory>
+    pub fn of_children(children: Vec<Child>) -> Result<Node, NoMemory>
         requires some { children.items ≢ [] }
         requires ascending { is_sorted key_cmp children.items ≡ true }
         requires room { All (λ child. depth child.1 < MAX_DEPTH) children.items }
@@ -160,7 +224,7 @@ impl Node {
             ≡ slice_get (map_of.entries (children self.now)) i }
     {
         let entry = self.children().get(i)?;
-        Some((&entry.0, &entry.1))
+        Some((entry.key(), entry.node()))
     }
 
     /// The most keys above a primitive, in constant time.
@@ -178,8 +242,8 @@ impl Node {
         self.count
     }
 
-    /// The same tree once more, in one pass: one growth for each text, each long key and each list
-    /// of children.
+    /// The same tree once more, in one pass: one growth for each text, each long key, each child and each
+    /// list of children.
     #[cycle(copy)]
     pub fn copy(&self, alloc: Global) -> Result<Node, NoMemory>
         ensures { IfOk result (λ node. node ≡ self.now) }
@@ -196,7 +260,7 @@ impl Node {
     }
 
     // The children with their keys, in their order.
-    pub(crate) fn children(&self) -> &[(Key, Node)]
+    pub(crate) fn children(&self) -> &[Child]
         ensures exact { result.now ≡ map_of.entries (children self.now) }
         ensures parent { get self.now [] ≡ None → AreChildren result.now }
         ensures graft { get self.now [] ≡ None → self.now ≡ graft result.now }
@@ -218,7 +282,7 @@ impl Node {
 }
 
 // The depth and the count of a tree of these children.
-pub(crate) fn sizes_of(children: &Vec<(Key, Node)>) -> (usize, usize)
+pub(crate) fn sizes_of(children: &Vec<Child>) -> (usize, usize)
     requires some { children.now.items ≢ [] }
     requires ascending { is_sorted key_cmp children.now.items ≡ true }
     requires room { All (λ child. depth child.1 < MAX_DEPTH) children.now.items }
@@ -230,15 +294,16 @@ pub(crate) fn sizes_of(children: &Vec<(Key, Node)>) -> (usize, usize)
     let mut depth = 0;
     let mut count = 1usize;
     for child in children {
-        child.0.text();
-        child.1.law();
-        depth = depth.max(child.1.depth() + 1);
-        count = count.saturating_add(child.1.count());
+        let node = child.node();
+        child.key().text();
+        node.law();
+        depth = depth.max(node.depth() + 1);
+        count = count.saturating_add(node.count());
     }
     (depth, count)
 }
 
-fn place_of<'a>(children: &'a Vec<(Key, Node)>, name: &str) -> Place<'a>
+fn place_of<'a>(children: &'a Vec<Child>, name: &str) -> Place<'a>
     requires { AreChildren children.now.items }
     ensures child { option_map (λ node. node.now) result.child
         ≡ non_null (sub (graft children.now.items) (name.now ∷ [])) }
@@ -247,7 +312,7 @@ fn place_of<'a>(children: &'a Vec<(Key, Node)>, name: &str) -> Place<'a>
 {
     match index_of(children, name) {
         Ok(index) => Place {
-            child: Some(&children[index].1),
+            child: Some(children[index].node()),
             before: index,
         },
         Err(index) => Place {
@@ -258,32 +323,32 @@ fn place_of<'a>(children: &'a Vec<(Key, Node)>, name: &str) -> Place<'a>
 }
 
 // Where the child of this key is, or where it would go, by a binary search.
-pub(crate) fn index_of(children: &Vec<(Key, Node)>, name: &str) -> Result<usize, usize>
+pub(crate) fn index_of(children: &Vec<Child>, name: &str) -> Result<usize, usize>
     ensures bound { IsSearchInRange result (length children.now.items) }
     ensures position { IsBinarySearchResult (λ child. key_cmp child.0 name.now)
         children.now.items result }
 {
-    children.binary_search_by(|child| child.0.compare(name))
+    children.binary_search_by(|child| child.key().compare(name))
 }
 
-fn key_of(children: &Vec<(Key, Node)>, i: usize) -> Option<&Key>
+fn key_of(children: &Vec<Child>, i: usize) -> Option<&Key>
     ensures { option_map (λ key. key.now) result
         ≡ slice_get (map (λ child. child.0) children.now.items) i }
 {
     if i < children.len() {
-        Some(&children[i].0)
+        Some(children[i].key())
     } else {
         None
     }
 }
 
 #[cycle(copy)]
-fn copy_of(alloc: Global, children: &Vec<(Key, Node)>) -> Result<Vec<(Key, Node)>, NoMemory>
+fn copy_of(alloc: Global, children: &Vec<Child>) -> Result<Vec<Child>, NoMemory>
     ensures { IfOk result (λ copies. copies.items ≡ children.now.items) }
 {
     let mut copies = Vec::with_capacity(alloc, children.len())?;
-    for (key, node) in children {
-        copies.push((key.copy(alloc)?, node.copy(alloc)?))?;
+    for child in children {
+        copies.push(child.copy(alloc)?)?;
     }
     Ok(copies)
 }

@@ -12,7 +12,7 @@ ghost use Rattle.json_tree.specs.Working.Share.{Exchanges};
 
 use crate::key::Key;
 use crate::memory::NoMemory;
-use crate::node::{Kind, Node, index_of};
+use crate::node::{Child, Kind, Node, index_of};
 use crate::share::{Exchange, NO_EXCHANGE, NO_SHARE, share_of, sizes_after};
 use std::alloc::Global;
 use std::mem::replace;
@@ -117,7 +117,7 @@ fn insert(
 #[cycle(insert)]
 fn insert_below(
     alloc: Global,
-    children: &mut Vec<(Key, Node)>,
+    children: &mut Vec<Child>,
     key: Key,
     keys: &mut Vec<Key>,
     value: Node,
@@ -135,15 +135,16 @@ fn insert_below(
 {
     match index_of(children, key.text()) {
         Ok(index) => {
-            let before = share_of(&children[index].1);
-            let was = insert(alloc, &mut children[index].1, keys, value)?;
-            let after = share_of(&children[index].1);
+            let before = share_of(children[index].node());
+            let was = insert(alloc, &mut children[index].held.1, keys, value)?;
+            let after = share_of(children[index].node());
             Ok((Exchange { before, after }, was))
         }
         Err(index) => {
             let below = chain(alloc, keys, value)?;
             let after = share_of(&below);
-            children.insert(index, (key, below))?;
+            let child = Child::new(alloc, key, below)?;
+            children.insert(index, child)?;
             Ok((
                 Exchange {
                     before: NO_SHARE,
@@ -172,7 +173,7 @@ fn only_child(alloc: Global, key: Key, child: Node) -> Result<Node, NoMemory>
     ensures { IfOk result (λ node. node ≡ graft ((key, child) ∷ [])) }
 {
     let mut children = Vec::new(alloc);
-    children.push((key, child))?;
+    children.push(Child::new(alloc, key, child)?)?;
     Node::of_children(children)
 }
 
@@ -218,7 +219,7 @@ fn remove(node: &mut Node, path: &[Key]) -> bool
 // Removes what is at a path below the child of a key. None where no child is left, and then they are
 // as they were.
 #[cycle(remove)]
-fn remove_below(children: &mut Vec<(Key, Node)>, key: &Key, rest: &[Key]) -> Option<Exchange>
+fn remove_below(children: &mut Vec<Child>, key: &Key, rest: &[Key]) -> Option<Exchange>
     requires { AreLawfulChildren children.old.items }
     ensures children { AreLawfulChildren children.new.items }
     ensures exchange { IfSome result (λ exchange. Exchanges children.old.items children.new.items exchange) }
@@ -230,9 +231,9 @@ fn remove_below(children: &mut Vec<(Key, Node)>, key: &Key, rest: &[Key]) -> Opt
 {
     match index_of(children, key.text()) {
         Ok(index) => {
-            let before = share_of(&children[index].1);
-            if !remove(&mut children[index].1, rest) {
-                let after = share_of(&children[index].1);
+            let before = share_of(children[index].node());
+            if !remove(&mut children[index].held.1, rest) {
+                let after = share_of(children[index].node());
                 return Some(Exchange { before, after });
             }
             let is_only_child = children.len() == 1;

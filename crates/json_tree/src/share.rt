@@ -9,8 +9,7 @@ ghost use Rattle.tree_model.specs.Children.{graft};
 ghost use Rattle.json_tree.specs.Node.{AreLawfulChildren};
 ghost use Rattle.json_tree.specs.Working.Share.{deepest, IsSizeOf, Exchanges};
 
-use crate::key::Key;
-use crate::node::{Node, sizes_of};
+use crate::node::{Child, Node, sizes_of};
 
 /// What a child adds to its parent.
 #[derive(Clone, Copy, Debug, PartialEq, Eq)]
@@ -55,7 +54,7 @@ pub(crate) fn share_of(child: &Node) -> Share
 // The depth and the count of a parent of these children, where it had the others before one of them
 // changed.
 pub(crate) fn sizes_after(
-    children: &Vec<(Key, Node)>,
+    children: &Vec<Child>,
     depth_before: usize,
     count_before: usize,
     exchange: Exchange,
@@ -79,7 +78,7 @@ pub(crate) fn sizes_after(
 
 // Whether the depth of the parent is the greater of what it was and what the child now makes it. It
 // may be less only where the child was the deepest, and no other is as deep.
-fn is_depth_known(children: &Vec<(Key, Node)>, depth_before: usize, exchange: Exchange) -> bool
+fn is_depth_known(children: &Vec<Child>, depth_before: usize, exchange: Exchange) -> bool
     requires { (old : List (KeyBytes × Tree)) × (depth_before ≡ deepest old) × Exchanges old children.now.items exchange }
     ensures { OnTrue result (deepest children.now.items ≡ max depth_before exchange.after.depth) }
 {
@@ -93,12 +92,13 @@ fn is_depth_known(children: &Vec<(Key, Node)>, depth_before: usize, exchange: Ex
 }
 
 // Whether a child makes its parent so deep. True for the first that does, so mostly in one step.
-fn is_as_deep(children: &Vec<(Key, Node)>, wanted: usize) -> bool
+fn is_as_deep(children: &Vec<Child>, wanted: usize) -> bool
     ensures { OnTrue result (wanted ≤ deepest children.now.items) }
 {
     for child in children {
-        child.1.law();
-        if child.1.depth() + 1 == wanted {
+        let node = child.node();
+        node.law();
+        if node.depth() + 1 == wanted {
             return true;
         }
     }

@@ -1,5 +1,5 @@
 //! Paths, patterns and writes: their texts, orders, limits and copies.
-use json_tree::{Key, Leaf, Node};
+use json_tree::{Child, Key, Leaf, Node};
 use path_capture::{CaptureName, Part, Path, Pattern, Write};
 use std::alloc::Global;
 use std::test::Fail;
@@ -255,7 +255,7 @@ fn the_order_of_patterns(rt: HostRuntime) -> Result<(), Fail> {
 fn one_deep(alloc: Global) -> Result<Node, Fail> {
     let mut children = Vec::new(alloc);
     let leaf = Node::of_leaf(Leaf::Truth(true))?;
-    children.push((Key::new(alloc, "a")?, leaf))?;
+    children.push(Child::new(alloc, Key::new(alloc, "a")?, leaf)?)?;
     Ok(Node::of_children(children)?)
 }
 

@@ -4,7 +4,7 @@ ghost use Rattle.tree_model.specs.PathMap.{depth};
 ghost use Rattle.tree_model.specs.Tree.{null};
 
 use json_tree::{
-    Key, Leaf, NoMemory, Node, Number, ValueFault, from_json, put, to_json, write_json,
+    Child, Key, Leaf, NoMemory, Node, Number, ValueFault, from_json, put, to_json, write_json,
 };
 use serde_json::Value;
 use std::alloc::Global;
@@ -250,11 +250,10 @@ fn builds_a_node(rt: HostRuntime) -> Result<(), Fail> {
     let alloc = rt.alloc();
     let seven = Number::new(7).ok_or("7")?;
     let mut children = Vec::new(alloc);
-    children.push((Key::new(alloc, "k")?, Node::of_leaf(Leaf::Whole(seven))?))?;
-    children.push((
-        Key::new(alloc, "l")?,
-        Node::of_leaf(Leaf::words(alloc, "m")?)?,
-    ))?;
+    let seven = Node::of_leaf(Leaf::Whole(seven))?;
+    children.push(Child::new(alloc, Key::new(alloc, "k")?, seven)?)?;
+    let words = Node::of_leaf(Leaf::words(alloc, "m")?)?;
+    children.push(Child::new(alloc, Key::new(alloc, "l")?, words)?)?;
     let node = Node::of_children(children)?;
     let text = to_json(alloc, Some(&node))?.to_string(alloc)?;
     assert_eq!(rt; text.as_str(), "{\"k\":7,\"l\":\"m\"}");

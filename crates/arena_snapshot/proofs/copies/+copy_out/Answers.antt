@@ -33,6 +33,7 @@ copies-copy_out-requires t c =
 pub copies-loop-i-preserved : goal.copies-loop-i-preserved
 copies-loop-i-preserved t c =
     c.in_ok-push.ensures.items
+    ∙ ap (λ child. c.loop-i.copies.items ++ child ∷ []) c.in_ok-child.ensures
     ∙ (λ j. c.loop-i.invariant j ++ (c.in_ok-copy.ensures j, c.in_ok-copy_out.ensures j) ∷ [])
     ∙ sym (entry_next c.args.view.now c.loop-i.i (c.in-Some.key.now, c.in-Some.child) c.in-Some.ensures)
 

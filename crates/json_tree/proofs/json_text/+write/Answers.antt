@@ -20,10 +20,10 @@ write_node-write_children-requires t c =
 pub write_children-write_node-requires : goal.write_children-write_node-requires
 write_children-write_node-requires t c =
     let cs = c.args.children.now in
-    let child : Key × Tree = c.loop-key-item.result in
-    let i = c.loop-key.key-index in
+    let child : Key × Tree = c.child-item.result in
+    let i = c.loop-child.child-index in
     let less = le-greatest (λ (d : Key × Tree). depth d.1 + 1) cs i child (omega arith) in
-    let at : depth child.1 ≡ depth (get_or cs i child).1 = ap (λ (d : Key × Tree). depth d.1) c.loop-key-item.is in
+    let at : depth c.node-node.result.now ≡ depth (get_or cs i child).1 = ap depth c.node-node.ensures ∙ ap (λ (d : Key × Tree). depth d.1) c.child-item.is in
     (omega arith, tt)
 
 pub write_node-returns-in-Some-clause-tokens : goal.write_node-returns-in-Some-clause-tokens

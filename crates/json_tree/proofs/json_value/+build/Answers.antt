@@ -1,4 +1,4 @@
-use Rattle.std.proofs.Common.{◌≡◌, ◌+◌, ◌^◌, ◌<◌, ◌≤◌, ◌∷◌, [], Some, drop, length, string_bytes, true, sym, ap, ◌∙◌, subst, arith}
+use Rattle.std.proofs.Common.{◌≡◌, ◌+◌, ◌^◌, ◌<◌, ◌≤◌, ◌∷◌, [], ◌++◌, Some, drop, length, string_bytes, true, sym, ap, ◌∙◌, subst, arith}
 use Rattle.std.specs.Option.{option_map_or}
 use Rattle.std.specs.FinMap.{is_sorted}
 use Rattle.std.proofs.lemmas.Result.{IfOk-weaker}
@@ -22,7 +22,7 @@ use Rattle.json_tree.proofs.Members.{graft-children_of, ascending_children}
 use Rattle.json_tree.proofs.Building.{some-lone, none_of_null, ItemsBuilt, item_none, item_some, member_none, member_some, built_end, children_have_room}
 use Rattle.json_tree.proofs.Arrays.{array_ascending, array_room, array_tree}
 use Rattle.json_tree.proofs.json_value.+build.Goals as goal
-use Rattle.json_tree.proofs.json_value.+build.Goals.{build_items-in-Some+in_ok-of_index+in_ok-push, build_items-in_default}
+use Rattle.json_tree.proofs.json_value.+build.Goals.{build_items-in-Some+in_ok-of_index+in_ok-new+in_ok-push, build_items-in_default}
 
 -- ---- a primitive
 
@@ -80,9 +80,9 @@ build_items-loop-index-preserved t c =
     let all = children_of (members_at 0 (items_view c.args.items.now.items)) in
     let done = c.loop-index.children.items in
     elim c.match-built.branch [
-      | build_items-in-Some+in_ok-of_index+in_ok-push w ↦
+      | build_items-in-Some+in_ok-of_index+in_ok-new+in_ok-push w ↦
           item_some done all vs i v (omega arith) c.item-item.is c.loop-index.invariant w.in_ok-of_index.field-0 w.in-Some.node c.match-built.children.items w.in_ok-of_index.ensures
-          (ap (λ children. children.items) w.children-is ∙ w.in_ok-push.ensures.items)
+          (ap (λ children. children.items) w.children-is ∙ w.in_ok-push.ensures.items ∙ ap (λ child. done ++ child ∷ []) w.in_ok-new.ensures)
           (sym w.in-Some.is ∙ c.in_ok-built.ensures)
       | build_items-in_default w ↦
           subst (λ children. ItemsBuilt children.items (i + 1) (items_view (drop (i + 1) vs)) all) (sym w.children-is)
@@ -106,7 +106,7 @@ build-returns-in_ok-build_members-in-Object t c =
 pub build_members-loop-name-preserved-in_ok-push : goal.build_members-loop-name-preserved-in_ok-push
 build_members-loop-name-preserved-in_ok-push t c =
     member_some c.loop-name.children.items (children_of (members_view c.args.members.now.entries)) c.loop-name.name-iterator c.next.new.self (c.in-Some.name.now, c.in-Some.member.now) c.in-Some.ensures.steps c.loop-name.invariant
-    c.in_ok-of_lawful.field-0 c.in-Some-built.node c.push.new.self.items (c.in_ok-of_lawful.ensures ∙ c.as_str.ensures.value) c.in_ok-push.ensures.items (sym c.in-Some-built.is ∙ c.in_ok-built.ensures)
+    c.in_ok-of_lawful.field-0 c.in-Some-built.node c.push.new.self.items (c.in_ok-of_lawful.ensures ∙ c.as_str.ensures.value) (c.in_ok-push.ensures.items ∙ ap (λ child. c.loop-name.children.items ++ child ∷ []) c.in_ok-new.ensures) (sym c.in-Some-built.is ∙ c.in_ok-built.ensures)
 
 pub build_members-loop-name-preserved : goal.build_members-loop-name-preserved
 build_members-loop-name-preserved t c =

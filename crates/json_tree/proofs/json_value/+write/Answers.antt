@@ -32,13 +32,13 @@ write-returns-in_ok-write_children-in-None t c =
 pub write_children-write-requires : goal.write_children-write-requires
 write_children-write-requires t c =
     let cs = c.args.children.now in
-    let child : Key × Tree = c.loop-key-item.result in
-    let i = c.loop-key.key-index in
+    let child : Key × Tree = c.child-item.result in
+    let i = c.loop-child.child-index in
     let less = le-greatest (λ (d : Key × Tree). depth d.1 + 1) cs i child (omega arith) in
-    let at : depth child.1 ≡ depth (get_or cs i child).1 = ap (λ (d : Key × Tree). depth d.1) c.loop-key-item.is in
+    let at : depth c.node-node.result.now ≡ depth (get_or cs i child).1 = ap depth c.node-node.ensures ∙ ap (λ (d : Key × Tree). depth d.1) c.child-item.is in
     (omega arith, tt)
 
-pub write_children-loop-key-preserved : goal.write_children-loop-key-preserved
-write_children-loop-key-preserved t c =
-    let child : Key × Tree = c.loop-key-item.result in
-    next_written c.args.children.now c.loop-key.key-index child c.text.result.now (view c.in_ok-write.field-0) (members_view c.loop-key.members.entries) (members_view c.put.new.map.entries) c.requires (omega arith) c.loop-key-item.is c.text.ensures.bytes c.in_ok-write.ensures c.loop-key.invariant c.in_ok-put.ensures.ok
+pub write_children-loop-child-preserved : goal.write_children-loop-child-preserved
+write_children-loop-child-preserved t c =
+    let child : Key × Tree = c.child-item.result in
+    next_written c.args.children.now c.loop-child.child-index child c.text.result.now (view c.in_ok-write.field-0) (members_view c.loop-child.members.entries) (members_view c.put.new.map.entries) c.requires (omega arith) c.child-item.is (c.text.ensures.bytes ∙ c.key-key.ensures) (c.in_ok-write.ensures ∙ ap value_of c.node-node.ensures) c.loop-child.invariant c.in_ok-put.ensures.ok

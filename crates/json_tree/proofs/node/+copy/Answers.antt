@@ -15,12 +15,12 @@ Node::copy-copy_of-requires t c =
     (omega arith, tt)
 
 -- and each is at most as deep as the deepest
-pub copy_of-copy-requires-in-loop-key : goal.copy_of-copy-requires-in-loop-key
-copy_of-copy-requires-in-loop-key t c =
-    let items = c.deref-key-items.result.now in
-    let item : Key × Tree = c.loop-key-item.result in
-    let i = c.loop-key.key-index in
+pub copy_of-copy-requires : goal.copy_of-copy-requires
+copy_of-copy-requires t c =
+    let items = c.deref-child-items.result.now in
+    let item : Key × Tree = c.child-item.result in
+    let i = c.loop-child.child-index in
     let less = le-greatest (λ (d : Key × Tree). depth d.1 + 1) items i item (omega arith) in
-    let at : depth item.1 ≡ depth (get_or items i item).1 = ap (λ (d : Key × Tree). depth d.1) c.loop-key-item.is in
-    let all = ap (λ ds. greatest (map (λ (d : Key × Tree). depth d.1 + 1) ds)) c.deref-key-items.ensures.value in
+    let at : depth item.1 ≡ depth (get_or items i item).1 = ap (λ (d : Key × Tree). depth d.1) c.child-item.is in
+    let all = ap (λ ds. greatest (map (λ (d : Key × Tree). depth d.1 + 1) ds)) c.deref-child-items.ensures.value in
     (omega arith, tt)

@@ -10,7 +10,7 @@ returns-in-Ok-clause-child c =
     let items = c.args.children.now.items in
     let name = c.args.name.now in
     let found = searched name items (Ok c.in-Ok.index) c.requires.ascending c.in-Ok.ensures.bound c.in-Ok.ensures.position c.index.result.now in
-    ap (λ (child : Key × Tree). Some child.1) c.index.ensures ∙ sym found ∙ sym (child-graft items name c.requires)
+    ap Some c.node.ensures ∙ ap (λ (child : Key × Tree). Some child.1) c.index.ensures ∙ sym found ∙ sym (child-graft items name c.requires)
 
 pub returns-in-Ok-clause-before : goal.returns-in-Ok-clause-before
 returns-in-Ok-clause-before c = sym (ranked c.args.name.now c.args.children.now.items (Ok c.in-Ok.index) c.requires.ascending c.in-Ok.ensures.bound c.in-Ok.ensures.position c.index.result.now)

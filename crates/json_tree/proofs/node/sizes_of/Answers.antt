@@ -1,8 +1,8 @@
-use Rattle.std.proofs.Common.{◌≡◌, ◌+◌, ◌-◌, ◌^◌, ◌<◌, take, get_or, length, min, max, sym, ap, ◌∙◌, subst, arith}
+use Rattle.std.proofs.Common.{◌≡◌, ◌≢◌, ◌+◌, ◌-◌, ◌^◌, ◌<◌, take, get_or, length, min, max, sym, ap, ◌∙◌, subst, arith}
 use Rattle.tree_model.specs.declared.limits.TheConstants.{MAX_DEPTH}
-use Rattle.tree_model.specs.Key.{Key}
+use Rattle.tree_model.specs.Key.{Key, is_key}
 use Rattle.tree_model.specs.PathMap.{depth}
-use Rattle.tree_model.specs.Tree.{Tree}
+use Rattle.tree_model.specs.Tree.{Tree, null, count, IsLawful}
 use Rattle.tree_model.specs.Children.{IsLawfulChild}
 use Rattle.json_tree.proofs.Lists.{ord_max-nat, take_next}
 use Rattle.json_tree.proofs.Sizes.{so_far_none, so_far_push, so_far_all, are_children, depth_is, count_is}
@@ -17,12 +17,13 @@ loop-child-preserved c =
     let i = c.loop-child.child-index in
     let child : Key × Tree = c.child-item.result in
     let at : child ≡ get_or c.args.children.now.items i child = c.child-item.is ∙ ap (λ cs. get_or cs i child) c.deref-child-items.ensures.value in
+    let tree : c.node-node.result.now ≡ child.1 = c.node-node.ensures in
     let within = ap length c.deref-child-items.ensures.value in
     let room : depth child.1 < MAX_DEPTH = subst (λ (x : Key × Tree). depth x.1 < MAX_DEPTH) (sym at) (c.requires.room i child (omega arith)) in
-    let lawful : IsLawfulChild child = record { key = c.text.ensures.lawful; tree = c.law.ensures.lawful; depth = room } in
-    let deeper : c.max-depth.result ≡ max c.loop-child.depth (depth child.1 + 1) = c.max-depth.ensures ∙ ord_max-nat c.loop-child.depth (c.depth.result + 1) ∙ ap (λ m. max c.loop-child.depth (m + 1)) c.depth.ensures in
+    let lawful : IsLawfulChild child = record { key = ap is_key (sym c.key.ensures) ∙ c.text.ensures.lawful; tree = subst IsLawful tree c.law.ensures.lawful; depth = room } in
+    let deeper : c.max-depth.result ≡ max c.loop-child.depth (depth child.1 + 1) = c.max-depth.ensures ∙ ord_max-nat c.loop-child.depth (c.depth.result + 1) ∙ ap (λ m. max c.loop-child.depth (m + 1)) (c.depth.ensures ∙ ap depth tree) in
     rw (take_next all i child (omega arith) c.child-item.is, deeper)
-    (so_far_push (take i all) child c.loop-child.depth c.loop-child.count c.saturating_add-count.result c.law.ensures.some lawful (c.saturating_add-count.ensures ∙ ap (λ m. min (c.loop-child.count + m) (2 ^ 64 - 1)) c.count.ensures) c.loop-child.invariant)
+    (so_far_push (take i all) child c.loop-child.depth c.loop-child.count c.saturating_add-count.result (subst (λ (x : Tree). x ≢ null) tree c.law.ensures.some) lawful (c.saturating_add-count.ensures ∙ ap (λ m. min (c.loop-child.count + m) (2 ^ 64 - 1)) (c.count.ensures ∙ ap (λ (x : Tree). min (count x) (2 ^ 64 - 1)) tree)) c.loop-child.invariant)
 
 pub returns-clause-children : goal.returns-clause-children
 returns-clause-children c =

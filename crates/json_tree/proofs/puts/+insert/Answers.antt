@@ -96,30 +96,38 @@ insert-returns-in_ok-parent-in-Primitive-clause-was t c =
 pub insert_below-returns-in_ok-was-in-Ok-clause-children : goal.insert_below-returns-in_ok-was-in-Ok-clause-children
 insert_below-returns-in_ok-was-in-Ok-clause-children t c =
     let cs = c.args.children.now.items in
-    let d : Key × Tree = c.index_mut.result.now in
-    let found : StandsAt cs c.in-Ok.index d c.text.result.now = record { children = c.requires.children; within = c.in-Ok.ensures.bound; at = c.index_mut.ensures.value; tied = c.in-Ok.ensures.position d } in
+    let was : Key × Tree = c.index_mut.result.now in
+    let d : Key × Tree = c.deref_mut.result.now in
+    let opened : was ≡ d = sym (c.deref_mut.ensures.value ∙ c.behind-children.view_is) in
+    let found : StandsAt cs c.in-Ok.index d c.text.result.now = subst (λ (x : Key × Tree). StandsAt cs c.in-Ok.index x c.text.result.now) opened (record { children = c.requires.children; within = c.in-Ok.ensures.bound; at = c.index_mut.ensures.value; tied = c.in-Ok.ensures.position was }) in
     let back = length-reverse c.args.keys.now.items in
     let within = c.requires.room in
     let room = room_after c.insert.result d.1 c.insert.new.node (reverse c.args.keys.now.items) c.args.value c.insert.ensures.ok c.insert.ensures.err (depth_there found) (omega arith) in
     let after = set_there cs c.in-Ok.index (d.0, c.insert.new.node) c.index-in-Ok.result.now c.in-Ok.ensures.bound c.index-in-Ok.ensures in
-    children-set found c.insert.new.node (subst (λ (x : Key × Tree). x.1 ≢ null) after c.share_of-after.ensures.some) (subst (λ (x : Key × Tree). IsLawful x.1) after c.share_of-after.ensures.lawful) room
+    let there : c.node-in-Ok.result.now ≡ c.insert.new.node = c.node-in-Ok.ensures ∙ ap (λ (x : Key × Tree). x.1) after in
+    children-set found c.insert.new.node (subst (λ (x : Tree). x ≢ null) there c.share_of-after.ensures.some) (subst IsLawful there c.share_of-after.ensures.lawful) room
 
 pub insert_below-returns-in_ok-was-in-Ok-clause-exchange : goal.insert_below-returns-in_ok-was-in-Ok-clause-exchange
 insert_below-returns-in_ok-was-in-Ok-clause-exchange t c =
     let cs = c.args.children.now.items in
-    let d : Key × Tree = c.index_mut.result.now in
+    let was : Key × Tree = c.index_mut.result.now in
+    let d : Key × Tree = c.deref_mut.result.now in
+    let opened : was ≡ d = sym (c.deref_mut.ensures.value ∙ c.behind-children.view_is) in
     let after = set_there cs c.in-Ok.index (d.0, c.insert.new.node) c.index-in-Ok.result.now c.in-Ok.ensures.bound c.index-in-Ok.ensures in
+    let there : c.node-in-Ok.result.now ≡ c.insert.new.node = c.node-in-Ok.ensures ∙ ap (λ (x : Key × Tree). x.1) after in
     let before = c.share_of-before.ensures in
     let later = c.share_of-after.ensures in
     exchanges-set cs c.in-Ok.index _ c.index.result.now d.0 c.insert.new.node c.in-Ok.ensures.bound c.index.ensures
-    (record { depth = before.depth; count = before.count })
-    (subst (λ (x : Key × Tree). IsShareOf x.1 c.share_of-after.result.depth c.share_of-after.result.count) after (record { depth = later.depth; count = later.count }))
+    (subst (λ (x : Tree). IsShareOf x c.share_of-before.result.depth c.share_of-before.result.count) c.node.ensures (record { depth = before.depth; count = before.count }))
+    (subst (λ (x : Tree). IsShareOf x c.share_of-after.result.depth c.share_of-after.result.count) there (record { depth = later.depth; count = later.count }))
 
 pub insert_below-returns-in_ok-was-in-Ok-clause-ok : goal.insert_below-returns-in_ok-was-in-Ok-clause-ok
 insert_below-returns-in_ok-was-in-Ok-clause-ok t c =
     let cs = c.args.children.now.items in
-    let d : Key × Tree = c.index_mut.result.now in
-    let found : StandsAt cs c.in-Ok.index d c.text.result.now = record { children = c.requires.children; within = c.in-Ok.ensures.bound; at = c.index_mut.ensures.value; tied = c.in-Ok.ensures.position d } in
+    let was : Key × Tree = c.index_mut.result.now in
+    let d : Key × Tree = c.deref_mut.result.now in
+    let opened : was ≡ d = sym (c.deref_mut.ensures.value ∙ c.behind-children.view_is) in
+    let found : StandsAt cs c.in-Ok.index d c.text.result.now = subst (λ (x : Key × Tree). StandsAt cs c.in-Ok.index x c.text.result.now) opened (record { children = c.requires.children; within = c.in-Ok.ensures.bound; at = c.index_mut.ensures.value; tied = c.in-Ok.ensures.position was }) in
     graft-set found (reverse c.args.keys.now.items) c.insert.new.node c.args.value c.in_ok-was-in-Ok.ensures.ok ∙ ap (λ k. proposed (graft cs) ((k ∷ (reverse c.args.keys.now.items), c.args.value) ∷ [])) c.text.ensures.bytes
 
 pub insert_below-returns-in_ok-insert-in-Err-clause-children : goal.insert_below-returns-in_ok-insert-in-Err-clause-children
@@ -127,7 +135,7 @@ insert_below-returns-in_ok-insert-in-Err-clause-children t c =
     let cs = c.args.children.now.items in
     let below : Tree = c.in_ok-below-in-Err.below in
     let missing = missing_at cs c.in-Err.index c.text.result.now c.requires.children c.in-Err.ensures.bound c.in-Err.ensures.position in
-    let items = c.in_ok-insert-in-Err.ensures.items ∙ ap (λ k. insert cs c.in-Err.index (k, below)) (sym c.text.ensures.bytes) in
+    let items = c.in_ok-insert-in-Err.ensures.items ∙ ap (insert cs c.in-Err.index) c.in_ok-child-in-Err.ensures ∙ ap (λ k. insert cs c.in-Err.index (k, below)) (sym c.text.ensures.bytes) in
     let deep = depth-chain below (reverse c.args.keys.now.items) c.args.value c.in_ok-below-in-Err.ensures in
     let within = c.requires.room in
     let back = length-reverse c.args.keys.now.items in
@@ -139,14 +147,14 @@ pub insert_below-returns-in_ok-insert-in-Err-clause-exchange : goal.insert_below
 insert_below-returns-in_ok-insert-in-Err-clause-exchange t c =
     let cs = c.args.children.now.items in
     let share = c.share_of-after-in-Err.ensures in
-    rw (c.in_ok-insert-in-Err.ensures.items) (exchanges-insert cs c.in-Err.index _ c.args.key c.in_ok-below-in-Err.below refl refl (record { depth = share.depth; count = share.count }))
+    rw (c.in_ok-insert-in-Err.ensures.items, c.in_ok-child-in-Err.ensures) (exchanges-insert cs c.in-Err.index _ c.args.key c.in_ok-below-in-Err.below refl refl (record { depth = share.depth; count = share.count }))
 
 pub insert_below-returns-in_ok-insert-in-Err-clause-ok : goal.insert_below-returns-in_ok-insert-in-Err-clause-ok
 insert_below-returns-in_ok-insert-in-Err-clause-ok t c =
     let cs = c.args.children.now.items in
     let below : Tree = c.in_ok-below-in-Err.below in
     let missing = missing_at cs c.in-Err.index c.text.result.now c.requires.children c.in-Err.ensures.bound c.in-Err.ensures.position in
-    let items = c.in_ok-insert-in-Err.ensures.items ∙ ap (λ k. insert cs c.in-Err.index (k, below)) (sym c.text.ensures.bytes) in
+    let items = c.in_ok-insert-in-Err.ensures.items ∙ ap (insert cs c.in-Err.index) c.in_ok-child-in-Err.ensures ∙ ap (λ k. insert cs c.in-Err.index (k, below)) (sym c.text.ensures.bytes) in
     ap graft items
     ∙ graft-insert missing (reverse c.args.keys.now.items) below c.args.value c.in_ok-below-in-Err.ensures
     ∙ ap (λ k. proposed (graft cs) ((k ∷ (reverse c.args.keys.now.items), c.args.value) ∷ [])) c.text.ensures.bytes
@@ -156,8 +164,10 @@ insert_below-returns-in_ok-insert-in-Err-clause-ok t c =
 pub insert_below-returns-in_ok-was-in-Ok-clause-was : goal.insert_below-returns-in_ok-was-in-Ok-clause-was
 insert_below-returns-in_ok-was-in-Ok-clause-was t c =
     let cs = c.args.children.now.items in
-    let d : Key × Tree = c.index_mut.result.now in
-    let found : StandsAt cs c.in-Ok.index d c.text.result.now = record { children = c.requires.children; within = c.in-Ok.ensures.bound; at = c.index_mut.ensures.value; tied = c.in-Ok.ensures.position d } in
+    let was : Key × Tree = c.index_mut.result.now in
+    let d : Key × Tree = c.deref_mut.result.now in
+    let opened : was ≡ d = sym (c.deref_mut.ensures.value ∙ c.behind-children.view_is) in
+    let found : StandsAt cs c.in-Ok.index d c.text.result.now = subst (λ (x : Key × Tree). StandsAt cs c.in-Ok.index x c.text.result.now) opened (record { children = c.requires.children; within = c.in-Ok.ensures.bound; at = c.index_mut.ensures.value; tied = c.in-Ok.ensures.position was }) in
     c.in_ok-was-in-Ok.ensures.was ∙ sym (changed-there found (reverse c.args.keys.now.items)) ∙ ap (λ k. sub (graft cs) (changed_at (graft cs) (k ∷ reverse c.args.keys.now.items))) c.text.ensures.bytes
 
 pub insert_below-returns-in_ok-insert-in-Err-clause-was : goal.insert_below-returns-in_ok-insert-in-Err-clause-was
@@ -171,8 +181,10 @@ insert_below-returns-in_ok-insert-in-Err-clause-was t c =
 pub insert_below-returns-in_err-was-in-Ok-clause-existing : goal.insert_below-returns-in_err-was-in-Ok-clause-existing
 insert_below-returns-in_err-was-in-Ok-clause-existing t c there =
     let cs = c.args.children.now.items in
-    let d : Key × Tree = c.index_mut.result.now in
-    let found : StandsAt cs c.in-Ok.index d c.text.result.now = record { children = c.requires.children; within = c.in-Ok.ensures.bound; at = c.index_mut.ensures.value; tied = c.in-Ok.ensures.position d } in
+    let was : Key × Tree = c.index_mut.result.now in
+    let d : Key × Tree = c.deref_mut.result.now in
+    let opened : was ≡ d = sym (c.deref_mut.ensures.value ∙ c.behind-children.view_is) in
+    let found : StandsAt cs c.in-Ok.index d c.text.result.now = subst (λ (x : Key × Tree). StandsAt cs c.in-Ok.index x c.text.result.now) opened (record { children = c.requires.children; within = c.in-Ok.ensures.bound; at = c.index_mut.ensures.value; tied = c.in-Ok.ensures.position was }) in
     let below : exists d.1 (reverse c.args.keys.now.items) ≡ true = sym (exists-there found (reverse c.args.keys.now.items)) ∙ ap (λ k. exists (graft cs) (k ∷ reverse c.args.keys.now.items)) c.text.ensures.bytes ∙ there in
     absurd (false≢true (sym (ap is_ok c.in_err-was-in-Ok.was) ∙ c.insert.ensures.existing below))
 
@@ -184,6 +196,12 @@ insert_below-returns-in_err-below-in-Err-clause-existing t c there =
 
 pub insert_below-returns-in_err-insert-in-Err-clause-existing : goal.insert_below-returns-in_err-insert-in-Err-clause-existing
 insert_below-returns-in_err-insert-in-Err-clause-existing t c there =
+    let cs = c.args.children.now.items in
+    let missing = missing_at cs c.in-Err.index c.text.result.now c.requires.children c.in-Err.ensures.bound c.in-Err.ensures.position in
+    absurd (false≢true (sym (exists-missing missing (reverse c.args.keys.now.items)) ∙ ap (λ k. exists (graft cs) (k ∷ reverse c.args.keys.now.items)) c.text.ensures.bytes ∙ there))
+
+pub insert_below-returns-in_err-child-in-Err-clause-existing : goal.insert_below-returns-in_err-child-in-Err-clause-existing
+insert_below-returns-in_err-child-in-Err-clause-existing t c there =
     let cs = c.args.children.now.items in
     let missing = missing_at cs c.in-Err.index c.text.result.now c.requires.children c.in-Err.ensures.bound c.in-Err.ensures.position in
     absurd (false≢true (sym (exists-missing missing (reverse c.args.keys.now.items)) ∙ ap (λ k. exists (graft cs) (k ∷ reverse c.args.keys.now.items)) c.text.ensures.bytes ∙ there))

@@ -54,58 +54,74 @@ remove-returns-in-Primitive-clause-left t c =
 pub remove_below-returns-then-not-remove-clause-children : goal.remove_below-returns-then-not-remove-clause-children
 remove_below-returns-then-not-remove-clause-children t c =
     let cs = c.args.children.now.items in
-    let d : Key × Tree = c.index_mut.result.now in
-    let found : StandsAt cs c.in-Ok.index d c.text.result.now = record { children = c.requires; within = c.in-Ok.ensures.bound; at = c.index_mut.ensures.value; tied = c.in-Ok.ensures.position d } in
+    let was : Key × Tree = c.index_mut.result.now in
+    let d : Key × Tree = c.deref_mut.result.now in
+    let opened : was ≡ d = sym (c.deref_mut.ensures.value ∙ c.behind-children.view_is) in
+    let found : StandsAt cs c.in-Ok.index d c.text.result.now = subst (λ (x : Key × Tree). StandsAt cs c.in-Ok.index x c.text.result.now) opened (record { children = c.requires; within = c.in-Ok.ensures.bound; at = c.index_mut.ensures.value; tied = c.in-Ok.ensures.position was }) in
     let was = depth_there found in
     let le = depth-removed d.1 c.args.rest.now in
     let is = ap depth c.if-not-remove.ensures.left in
     let room : depth c.remove.new.node < MAX_DEPTH = omega arith in
     let after = set_there cs c.in-Ok.index (d.0, c.remove.new.node) c.index-then-not-remove.result.now c.in-Ok.ensures.bound c.index-then-not-remove.ensures in
-    children-set found c.remove.new.node (subst (λ (x : Key × Tree). x.1 ≢ null) after c.share_of-after.ensures.some) (subst (λ (x : Key × Tree). IsLawful x.1) after c.share_of-after.ensures.lawful) room
+    let there : c.node-then-not-remove.result.now ≡ c.remove.new.node = c.node-then-not-remove.ensures ∙ ap (λ (x : Key × Tree). x.1) after in
+    children-set found c.remove.new.node (subst (λ (x : Tree). x ≢ null) there c.share_of-after.ensures.some) (subst IsLawful there c.share_of-after.ensures.lawful) room
 
 pub remove_below-returns-then-not-remove-clause-exchange : goal.remove_below-returns-then-not-remove-clause-exchange
 remove_below-returns-then-not-remove-clause-exchange t c =
     let cs = c.args.children.now.items in
-    let d : Key × Tree = c.index_mut.result.now in
+    let was : Key × Tree = c.index_mut.result.now in
+    let d : Key × Tree = c.deref_mut.result.now in
+    let opened : was ≡ d = sym (c.deref_mut.ensures.value ∙ c.behind-children.view_is) in
     let after = set_there cs c.in-Ok.index (d.0, c.remove.new.node) c.index-then-not-remove.result.now c.in-Ok.ensures.bound c.index-then-not-remove.ensures in
+    let there : c.node-then-not-remove.result.now ≡ c.remove.new.node = c.node-then-not-remove.ensures ∙ ap (λ (x : Key × Tree). x.1) after in
     let before = c.share_of-before.ensures in
     let later = c.share_of-after.ensures in
     exchanges-set cs c.in-Ok.index _ c.index.result.now d.0 c.remove.new.node c.in-Ok.ensures.bound c.index.ensures
-    (record { depth = before.depth; count = before.count })
-    (subst (λ (x : Key × Tree). IsShareOf x.1 c.share_of-after.result.depth c.share_of-after.result.count) after (record { depth = later.depth; count = later.count }))
+    (subst (λ (x : Tree). IsShareOf x c.share_of-before.result.depth c.share_of-before.result.count) c.node.ensures (record { depth = before.depth; count = before.count }))
+    (subst (λ (x : Tree). IsShareOf x c.share_of-after.result.depth c.share_of-after.result.count) there (record { depth = later.depth; count = later.count }))
 
 pub remove_below-returns-then-not-remove-clause-left : goal.remove_below-returns-then-not-remove-clause-left
 remove_below-returns-then-not-remove-clause-left t c =
-    let d : Key × Tree = c.index_mut.result.now in
-    let found : StandsAt c.args.children.now.items c.in-Ok.index d c.text.result.now = record { children = c.requires; within = c.in-Ok.ensures.bound; at = c.index_mut.ensures.value; tied = c.in-Ok.ensures.position d } in
+    let was : Key × Tree = c.index_mut.result.now in
+    let d : Key × Tree = c.deref_mut.result.now in
+    let opened : was ≡ d = sym (c.deref_mut.ensures.value ∙ c.behind-children.view_is) in
+    let found : StandsAt c.args.children.now.items c.in-Ok.index d c.text.result.now = subst (λ (x : Key × Tree). StandsAt c.args.children.now.items c.in-Ok.index x c.text.result.now) opened (record { children = c.requires; within = c.in-Ok.ensures.bound; at = c.index_mut.ensures.value; tied = c.in-Ok.ensures.position was }) in
     graft-set found c.args.rest.now c.remove.new.node null c.if-not-remove.ensures.left ∙ ap (λ k. proposed (graft c.args.children.now.items) ((k ∷ c.args.rest.now, null) ∷ [])) c.text.ensures.bytes
 
 -- the child was the only one
 pub remove_below-returns-then-is_only_child-clause-children : goal.remove_below-returns-then-is_only_child-clause-children
 remove_below-returns-then-is_only_child-clause-children t c =
-    let d : Key × Tree = c.index_mut.result.now in
-    let found : StandsAt c.args.children.now.items c.in-Ok.index d c.text.result.now = record { children = c.requires; within = c.in-Ok.ensures.bound; at = c.index_mut.ensures.value; tied = c.in-Ok.ensures.position d } in
+    let was : Key × Tree = c.index_mut.result.now in
+    let d : Key × Tree = c.deref_mut.result.now in
+    let opened : was ≡ d = sym (c.deref_mut.ensures.value ∙ c.behind-children.view_is) in
+    let found : StandsAt c.args.children.now.items c.in-Ok.index d c.text.result.now = subst (λ (x : Key × Tree). StandsAt c.args.children.now.items c.in-Ok.index x c.text.result.now) opened (record { children = c.requires; within = c.in-Ok.ensures.bound; at = c.index_mut.ensures.value; tied = c.in-Ok.ensures.position was }) in
     subst AreLawfulChildren (sym (set_same found c.remove.new.node c.if-not-remove.ensures.same)) c.requires
 
 pub remove_below-returns-then-is_only_child-clause-gone : goal.remove_below-returns-then-is_only_child-clause-gone
 remove_below-returns-then-is_only_child-clause-gone t c =
-    let d : Key × Tree = c.index_mut.result.now in
-    let found : StandsAt c.args.children.now.items c.in-Ok.index d c.text.result.now = record { children = c.requires; within = c.in-Ok.ensures.bound; at = c.index_mut.ensures.value; tied = c.in-Ok.ensures.position d } in
+    let was : Key × Tree = c.index_mut.result.now in
+    let d : Key × Tree = c.deref_mut.result.now in
+    let opened : was ≡ d = sym (c.deref_mut.ensures.value ∙ c.behind-children.view_is) in
+    let found : StandsAt c.args.children.now.items c.in-Ok.index d c.text.result.now = subst (λ (x : Key × Tree). StandsAt c.args.children.now.items c.in-Ok.index x c.text.result.now) opened (record { children = c.requires; within = c.in-Ok.ensures.bound; at = c.index_mut.ensures.value; tied = c.in-Ok.ensures.position was }) in
     let long = length-set c.args.children.now.items c.in-Ok.index (d.0, c.remove.new.node) in
     let one : length c.args.children.now.items ≡ 1 = grind (arith, nat_tests) in
     ap (λ k. proposed (graft c.args.children.now.items) ((k ∷ c.args.rest.now, null) ∷ [])) (sym c.text.ensures.bytes) ∙ last_vanishes found c.args.rest.now one c.if-not-remove.ensures.gone
 
 pub remove_below-returns-then-is_only_child-clause-same : goal.remove_below-returns-then-is_only_child-clause-same
 remove_below-returns-then-is_only_child-clause-same t c =
-    let d : Key × Tree = c.index_mut.result.now in
-    let found : StandsAt c.args.children.now.items c.in-Ok.index d c.text.result.now = record { children = c.requires; within = c.in-Ok.ensures.bound; at = c.index_mut.ensures.value; tied = c.in-Ok.ensures.position d } in
+    let was : Key × Tree = c.index_mut.result.now in
+    let d : Key × Tree = c.deref_mut.result.now in
+    let opened : was ≡ d = sym (c.deref_mut.ensures.value ∙ c.behind-children.view_is) in
+    let found : StandsAt c.args.children.now.items c.in-Ok.index d c.text.result.now = subst (λ (x : Key × Tree). StandsAt c.args.children.now.items c.in-Ok.index x c.text.result.now) opened (record { children = c.requires; within = c.in-Ok.ensures.bound; at = c.index_mut.ensures.value; tied = c.in-Ok.ensures.position was }) in
     set_same found c.remove.new.node c.if-not-remove.ensures.same
 
 -- the child is taken out
 pub remove_below-returns-else-is_only_child-clause-children : goal.remove_below-returns-else-is_only_child-clause-children
 remove_below-returns-else-is_only_child-clause-children t c =
-    let d : Key × Tree = c.index_mut.result.now in
-    let found : StandsAt c.args.children.now.items c.in-Ok.index d c.text.result.now = record { children = c.requires; within = c.in-Ok.ensures.bound; at = c.index_mut.ensures.value; tied = c.in-Ok.ensures.position d } in
+    let was : Key × Tree = c.index_mut.result.now in
+    let d : Key × Tree = c.deref_mut.result.now in
+    let opened : was ≡ d = sym (c.deref_mut.ensures.value ∙ c.behind-children.view_is) in
+    let found : StandsAt c.args.children.now.items c.in-Ok.index d c.text.result.now = subst (λ (x : Key × Tree). StandsAt c.args.children.now.items c.in-Ok.index x c.text.result.now) opened (record { children = c.requires; within = c.in-Ok.ensures.bound; at = c.index_mut.ensures.value; tied = c.in-Ok.ensures.position was }) in
     let items = c.remove-in-Ok.ensures.items ∙ ap (λ ds. remove ds c.in-Ok.index) (set_same found c.remove.new.node c.if-not-remove.ensures.same) in
     let long = length-set c.args.children.now.items c.in-Ok.index (d.0, c.remove.new.node) in
     let more : length c.args.children.now.items ≢ 1 = grind (arith, nat_tests) in
@@ -114,16 +130,20 @@ remove_below-returns-else-is_only_child-clause-children t c =
 pub remove_below-returns-else-is_only_child-clause-exchange : goal.remove_below-returns-else-is_only_child-clause-exchange
 remove_below-returns-else-is_only_child-clause-exchange t c =
     let cs = c.args.children.now.items in
-    let d : Key × Tree = c.index_mut.result.now in
-    let found : StandsAt cs c.in-Ok.index d c.text.result.now = record { children = c.requires; within = c.in-Ok.ensures.bound; at = c.index_mut.ensures.value; tied = c.in-Ok.ensures.position d } in
+    let was : Key × Tree = c.index_mut.result.now in
+    let d : Key × Tree = c.deref_mut.result.now in
+    let opened : was ≡ d = sym (c.deref_mut.ensures.value ∙ c.behind-children.view_is) in
+    let found : StandsAt cs c.in-Ok.index d c.text.result.now = subst (λ (x : Key × Tree). StandsAt cs c.in-Ok.index x c.text.result.now) opened (record { children = c.requires; within = c.in-Ok.ensures.bound; at = c.index_mut.ensures.value; tied = c.in-Ok.ensures.position was }) in
     let items = c.remove-in-Ok.ensures.items ∙ ap (λ ds. remove ds c.in-Ok.index) (set_same found c.remove.new.node c.if-not-remove.ensures.same) in
     let before = c.share_of-before.ensures in
-    rw (items) (exchanges-remove cs c.in-Ok.index _ c.index.result.now c.in-Ok.ensures.bound c.index.ensures (record { depth = before.depth; count = before.count }) refl refl)
+    rw (items) (exchanges-remove cs c.in-Ok.index _ c.index.result.now c.in-Ok.ensures.bound c.index.ensures (subst (λ (x : Tree). IsShareOf x c.share_of-before.result.depth c.share_of-before.result.count) c.node.ensures (record { depth = before.depth; count = before.count })) refl refl)
 
 pub remove_below-returns-else-is_only_child-clause-left : goal.remove_below-returns-else-is_only_child-clause-left
 remove_below-returns-else-is_only_child-clause-left t c =
-    let d : Key × Tree = c.index_mut.result.now in
-    let found : StandsAt c.args.children.now.items c.in-Ok.index d c.text.result.now = record { children = c.requires; within = c.in-Ok.ensures.bound; at = c.index_mut.ensures.value; tied = c.in-Ok.ensures.position d } in
+    let was : Key × Tree = c.index_mut.result.now in
+    let d : Key × Tree = c.deref_mut.result.now in
+    let opened : was ≡ d = sym (c.deref_mut.ensures.value ∙ c.behind-children.view_is) in
+    let found : StandsAt c.args.children.now.items c.in-Ok.index d c.text.result.now = subst (λ (x : Key × Tree). StandsAt c.args.children.now.items c.in-Ok.index x c.text.result.now) opened (record { children = c.requires; within = c.in-Ok.ensures.bound; at = c.index_mut.ensures.value; tied = c.in-Ok.ensures.position was }) in
     let items = c.remove-in-Ok.ensures.items ∙ ap (λ ds. remove ds c.in-Ok.index) (set_same found c.remove.new.node c.if-not-remove.ensures.same) in
     ap graft items ∙ graft-remove found c.args.rest.now c.if-not-remove.ensures.gone ∙ ap (λ k. proposed (graft c.args.children.now.items) ((k ∷ c.args.rest.now, null) ∷ [])) c.text.ensures.bytes
 

@@ -15,5 +15,5 @@ returns-then-depth-wanted c =
     let within = ap length c.deref-child-items.ensures.value in
     let le = le-greatest (λ (x : Key × Tree). depth x.1 + 1) cs i child (omega arith) in
     let deep = ap (λ (x : Key × Tree). depth x.1 + 1) at in
-    let is = c.depth.ensures in
+    let is = c.depth.ensures ∙ ap depth c.node-node.ensures in
     grind (arith, nat_tests)

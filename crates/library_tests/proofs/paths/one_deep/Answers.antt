@@ -19,5 +19,5 @@ pub of_children-requires-clause-room : goal.of_children-requires-clause-room
 of_children-requires-clause-room c =
     let child : Key × Tree = (c.in_ok-new.field-0, c.in_ok-leaf.leaf) in
     All-same LeavesRoom _ (child ∷ [])
-    (c.in_ok-push.ensures.items ∙ ap (λ items. items ++ child ∷ []) c.new-children.ensures.items)
+    (c.in_ok-push.ensures.items ∙ ap (λ items. items ++ c.in_ok-new-2.field-0 ∷ []) c.new-children.ensures.items ∙ ap (λ (made : Key × Tree). made ∷ []) c.in_ok-new-2.ensures)
     (All-cons LeavesRoom child [] (room c.in_ok-new.field-0 c.in_ok-leaf.leaf c.in_ok-leaf.ensures.tree) (All-nil LeavesRoom))
