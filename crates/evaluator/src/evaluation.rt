@@ -1,15 +1,16 @@
 //! The evaluator: what an expression means, and whether a rule holds.
-ghost use Rattle.std.specs.Prelude.{◌≡◌, Some, None, IfOk, IsErrOf, true, option_map};
+ghost use Rattle.std.specs.Prelude.{◌≡◌, Some, None, IfOk, IsErrOf, true, option_map, pos};
 ghost use Rattle.std.specs.Option.{option_and_then};
 ghost use Rattle.expr_parser.specs.View.{view, view_argument, views, arguments};
 ghost use Rattle.expr_parser.specs.Tree.{argument, no_argument};
 ghost use Rattle.expr_types.specs.declared.sort.Sort.{Sort};
 ghost use Rattle.expr_types.specs.HasSort.{is_value};
 ghost use Rattle.evaluator.specs.Value as meanings;
-ghost use Rattle.evaluator.specs.Value.{as_value, sort_of_part};
+ghost use Rattle.evaluator.specs.Value.{as_value, sort_of_part, value, in_range};
 ghost use Rattle.evaluator.specs.Operators.{in_truth, as_truth, other_truth, minus_of, operated};
 ghost use Rattle.evaluator.specs.Calls.{call_of, called_with, called_with_two, called_with_list, have_children};
-ghost use Rattle.evaluator.specs.Env.{env_of, Suits};
+ghost use Rattle.evaluator.specs.Members.{member};
+ghost use Rattle.evaluator.specs.Env.{env_of, variable, capture, Suits};
 ghost use Rattle.evaluator.specs.Mean.{mean, given as meant, values};
 ghost use Rattle.evaluator.specs.Holds.{outcome, outcome_of};
 ghost use Rattle.evaluator.specs.Working.Parts.{value_of, part_of, argument_value};
@@ -32,35 +33,75 @@ fn part<'a>(arena: &'a Bump, expr: &'a Expr, env: &Env<'a>) -> Result<Part<'a>, 
     ensures erred { IsErrOf result Stop.Erred → mean (view expr.now) (env_of env.now) ≡ None }
 {
     match expr {
-        Expr::Number(number) => Ok(Part::Value(wanted(literal(*number))?)),
+        Expr::Number(number) => number_part(*number),
         Expr::Text(text) => Ok(Part::Value(Value::Words(text.as_str()))),
         Expr::True => Ok(Part::Value(Value::Truth(true))),
         Expr::False => Ok(Part::Value(Value::Truth(false))),
         Expr::Null => Ok(Part::Value(Value::Null)),
-        Expr::Variable(name) => wanted(variable(name.as_str(), env)),
-        Expr::Capture(name) => wanted(capture(name.as_str(), env)),
+        Expr::Variable(name) => variable_part(name.as_str(), env),
+        Expr::Capture(name) => capture_part(name.as_str(), env),
         Expr::Group(inner) => part(arena, inner, env),
-        Expr::Member(receiver, name) => {
-            let receiver = part(arena, receiver, env)?;
-            wanted(member(name.as_str(), receiver))
-        }
+        Expr::Member(receiver, name) => member_part(arena, receiver, name.as_str(), env),
         Expr::Call(receiver, name, given) => {
             let receiver = part(arena, receiver, env)?;
             call(arena, receiver, name.as_str(), given.as_slice(), env)
         }
-        Expr::Not(inner) => Ok(Part::Value(other_truth(arena, inner, env)?)),
-        Expr::Negate(inner) => Ok(Part::Value(opposite(arena, inner, env)?)),
+        Expr::Not(inner) => other_truth(arena, inner, env),
+        Expr::Negate(inner) => opposite(arena, inner, env),
         Expr::Operation(operator, left, right) => {
-            let first = value(arena, left, env)?;
-            let both = operation(arena, *operator, first, right, env)?;
-            Ok(Part::Value(both))
+            let left = value(arena, left, env)?;
+            operation(arena, *operator, left, right, env)
         }
         Expr::Choice(condition, yes, no) => {
             let b = truth(arena, condition, env)?;
-            let chosen = if b { yes } else { no };
-            Ok(Part::Value(value(arena, chosen, env)?))
+            value_part(arena, if b { yes } else { no }, env)
         }
     }
+}
+
+fn number_part<'a>(number: u64) -> Result<Part<'a>, Stop>
+    ensures value { IfOk result (λ p. option_map value (in_range (pos number)) ≡ Some (part_of p)) }
+    ensures erred { IsErrOf result Stop.Erred → option_map value (in_range (pos number)) ≡ None }
+{
+    Ok(Part::Value(wanted(literal(number))?))
+}
+
+fn variable_part<'a>(name: &str, env: &Env<'a>) -> Result<Part<'a>, Stop>
+    ensures value { IfOk result (λ p. variable name.now (env_of env.now) ≡ Some (part_of p)) }
+    ensures erred { IsErrOf result Stop.Erred → variable name.now (env_of env.now) ≡ None }
+{
+    wanted(variable(name, env))
+}
+
+fn capture_part<'a>(name: &str, env: &Env<'a>) -> Result<Part<'a>, Stop>
+    ensures value { IfOk result (λ p. capture name.now (env_of env.now) ≡ Some (part_of p)) }
+    ensures erred { IsErrOf result Stop.Erred → capture name.now (env_of env.now) ≡ None }
+{
+    wanted(capture(name, env))
+}
+
+// What a name behind a dot means.
+#[cycle(evaluation)]
+fn member_part<'a>(
+    arena: &'a Bump,
+    receiver: &'a Expr,
+    name: &str,
+    env: &Env<'a>,
+) -> Result<Part<'a>, Stop>
+    ensures value { IfOk result (λ p. option_and_then (member name.now) (mean (view receiver.now) (env_of env.now)) ≡ Some (part_of p)) }
+    ensures erred { IsErrOf result Stop.Erred → option_and_then (member name.now) (mean (view receiver.now) (env_of env.now)) ≡ None }
+{
+    let receiver = part(arena, receiver, env)?;
+    wanted(member(name, receiver))
+}
+
+// Its value as a part, where one is wanted.
+#[cycle(evaluation)]
+fn value_part<'a>(arena: &'a Bump, expr: &'a Expr, env: &Env<'a>) -> Result<Part<'a>, Stop>
+    ensures value { IfOk result (λ p. option_map value (as_value (mean (view expr.now) (env_of env.now))) ≡ Some (part_of p)) }
+    ensures erred { IsErrOf result Stop.Erred → option_map value (as_value (mean (view expr.now) (env_of env.now))) ≡ None }
+{
+    Ok(Part::Value(value(arena, expr, env)?))
 }
 
 // Its value, where one is wanted.
@@ -85,27 +126,43 @@ fn truth<'a>(arena: &'a Bump, expr: &'a Expr, env: &Env<'a>) -> Result<bool, Sto
 
 // The other boolean.
 #[cycle(evaluation)]
-fn other_truth<'a>(arena: &'a Bump, expr: &'a Expr, env: &Env<'a>) -> Result<Value<'a>, Stop>
-    ensures value { IfOk result (λ v. other_truth (as_value (mean (view expr.now) (env_of env.now))) ≡ Some (value_of v)) }
-    ensures erred { IsErrOf result Stop.Erred → other_truth (as_value (mean (view expr.now) (env_of env.now))) ≡ None }
+fn other_truth<'a>(arena: &'a Bump, expr: &'a Expr, env: &Env<'a>) -> Result<Part<'a>, Stop>
+    ensures value { IfOk result (λ p. option_map value (other_truth (as_value (mean (view expr.now) (env_of env.now)))) ≡ Some (part_of p)) }
+    ensures erred { IsErrOf result Stop.Erred → option_map value (other_truth (as_value (mean (view expr.now) (env_of env.now)))) ≡ None }
 {
     let b = truth(arena, expr, env)?;
-    Ok(Value::Truth(!b))
+    Ok(Part::Value(Value::Truth(!b)))
 }
 
 // The number with the other sign.
 #[cycle(evaluation)]
-fn opposite<'a>(arena: &'a Bump, expr: &'a Expr, env: &Env<'a>) -> Result<Value<'a>, Stop>
-    ensures value { IfOk result (λ v. option_and_then minus_of (as_value (mean (view expr.now) (env_of env.now))) ≡ Some (value_of v)) }
-    ensures erred { IsErrOf result Stop.Erred → option_and_then minus_of (as_value (mean (view expr.now) (env_of env.now))) ≡ None }
+fn opposite<'a>(arena: &'a Bump, expr: &'a Expr, env: &Env<'a>) -> Result<Part<'a>, Stop>
+    ensures value { IfOk result (λ p. option_map value (option_and_then minus_of (as_value (mean (view expr.now) (env_of env.now)))) ≡ Some (part_of p)) }
+    ensures erred { IsErrOf result Stop.Erred → option_map value (option_and_then minus_of (as_value (mean (view expr.now) (env_of env.now)))) ≡ None }
 {
     let number = value(arena, expr, env)?;
-    wanted(minus_of(number))
+    let other = wanted(minus_of(number))?;
+    Ok(Part::Value(other))
+}
+
+// What an operator gives behind its left value, as a part.
+#[cycle(evaluation)]
+fn operation<'a>(
+    arena: &'a Bump,
+    operator: Operator,
+    left: Value<'a>,
+    right: &'a Expr,
+    env: &Env<'a>,
+) -> Result<Part<'a>, Stop>
+    ensures value { IfOk result (λ p. option_map value (operated operator (Some (value_of left.entry)) (as_value (mean (view right.now) (env_of env.now)))) ≡ Some (part_of p)) }
+    ensures erred { IsErrOf result Stop.Erred → option_map value (operated operator (Some (value_of left.entry)) (as_value (mean (view right.now) (env_of env.now)))) ≡ None }
+{
+    Ok(Part::Value(operated(arena, operator, left, right, env)?))
 }
 
 // What an operator gives behind its left value. Where that decides, the right operand is not evaluated.
 #[cycle(evaluation)]
-fn operation<'a>(
+fn operated<'a>(
     arena: &'a Bump,
     operator: Operator,
     left: Value<'a>,
@@ -152,11 +209,27 @@ fn call<'a>(
         [only] => call_with(arena, receiver, name, only, env),
         [first, second] => {
             let first = argument_of(arena, first, env)?;
-            let second = argument_of(arena, second, env)?;
-            called_with_two(arena, name, receiver, first, second)
+            call_with_second(arena, receiver, name, first, second, env)
         }
         _ => Err(Stop::Erred),
     }
+}
+
+// What a call with two arguments gives, behind the value of the first.
+#[cycle(evaluation)]
+fn call_with_second<'a>(
+    arena: &'a Bump,
+    receiver: Part<'a>,
+    name: &str,
+    first: Value<'a>,
+    second: &'a Argument,
+    env: &Env<'a>,
+) -> Result<Part<'a>, Stop>
+    ensures value { IfOk result (λ p. option_and_then (called_with_two name.now (part_of receiver.entry) (value_of first.entry)) (argument_value (view_argument second.now) (env_of env.now)) ≡ Some (part_of p)) }
+    ensures erred { IsErrOf result Stop.Erred → option_and_then (called_with_two name.now (part_of receiver.entry) (value_of first.entry)) (argument_value (view_argument second.now) (env_of env.now)) ≡ None }
+{
+    let second = argument_of(arena, second, env)?;
+    called_with_two(arena, name, receiver, first, second)
 }
 
 // What a call with one argument gives, a value or a list.

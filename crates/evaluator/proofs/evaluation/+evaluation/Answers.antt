@@ -58,14 +58,6 @@ call-returns-in_err-first-in-len2-clause-erred t c =
     let stops : argument_value (view_argument c.first-item.result) env ≡ None → call_of c.args.name.now p (given (arguments c.args.list.now) env) ≡ None = λ h. e ∙ ap (option_and_then (λ v. option_and_then (called_with_two c.args.name.now p v) (argument_value (view_argument c.second-item.result) env))) h in
     grind (arith, common_steps, stops)
 
-pub call-returns-in_err-second-in-len2-clause-erred : goal.call-returns-in_err-second-in-len2-clause-erred
-call-returns-in_err-second-in-len2-clause-erred t c =
-    let env = env_of c.args.env.now in
-    let p = part_of c.args.receiver in
-    let e = two_are c.args.name.now p c.args.list.now c.first-item.result c.second-item.result env (omega arith) (omega arith) c.first-item.is c.second-item.is in
-    let stops : argument_value (view_argument c.second-item.result) env ≡ None → call_of c.args.name.now p (given (arguments c.args.list.now) env) ≡ None = λ h. e ∙ ap (option_and_then (λ v. option_and_then (called_with_two c.args.name.now p v) (argument_value (view_argument c.second-item.result) env))) c.in_ok-first-in-len2.ensures.value ∙ ap (option_and_then (called_with_two c.args.name.now p (value_of c.in_ok-first-in-len2.first))) h in
-    grind (arith, common_steps, stops)
-
 pub call-returns-in_default-clause-erred : goal.call-returns-in_default-clause-erred
 call-returns-in_default-clause-erred t c = λ _. ap (call_of c.args.name.now (part_of c.args.receiver)) (many_are c.args.list.now (env_of c.args.env.now) (omega arith))
 
@@ -84,20 +76,18 @@ call-returns-in-len1-clause-erred t c =
     let e = one_is c.args.name.now (part_of c.args.receiver) c.args.list.now c.only-item.result (env_of c.args.env.now) (omega arith) (omega arith) c.only-item.is in
     λ h. e ∙ c.call_with.ensures.erred h
 
-pub call-returns-in_ok-second-in-len2-clause-value : goal.call-returns-in_ok-second-in-len2-clause-value
-call-returns-in_ok-second-in-len2-clause-value t c =
+pub call-returns-in_ok-first-in-len2-clause-value : goal.call-returns-in_ok-first-in-len2-clause-value
+call-returns-in_ok-first-in-len2-clause-value t c =
     let env = env_of c.args.env.now in
     let p = part_of c.args.receiver in
     let e = two_are c.args.name.now p c.args.list.now c.first-item.result c.second-item.result env (omega arith) (omega arith) c.first-item.is c.second-item.is
-    ∙ ap (option_and_then (λ v. option_and_then (called_with_two c.args.name.now p v) (argument_value (view_argument c.second-item.result) env))) c.in_ok-first-in-len2.ensures.value
-    ∙ ap (option_and_then (called_with_two c.args.name.now p (value_of c.in_ok-first-in-len2.first))) c.in_ok-second-in-len2.ensures.value in
-    subst (λ (m : Option Part). IfOk c.called_with_two.result (λ q. m ≡ Some (part_of q))) (sym e) c.called_with_two.ensures.value
+    ∙ ap (option_and_then (λ v. option_and_then (called_with_two c.args.name.now p v) (argument_value (view_argument c.second-item.result) env))) c.in_ok-first-in-len2.ensures.value in
+    subst (λ (m : Option Part). IfOk c.call_with_second.result (λ q. m ≡ Some (part_of q))) (sym e) c.call_with_second.ensures.value
 
-pub call-returns-in_ok-second-in-len2-clause-erred : goal.call-returns-in_ok-second-in-len2-clause-erred
-call-returns-in_ok-second-in-len2-clause-erred t c =
+pub call-returns-in_ok-first-in-len2-clause-erred : goal.call-returns-in_ok-first-in-len2-clause-erred
+call-returns-in_ok-first-in-len2-clause-erred t c =
     let env = env_of c.args.env.now in
     let p = part_of c.args.receiver in
     let e = two_are c.args.name.now p c.args.list.now c.first-item.result c.second-item.result env (omega arith) (omega arith) c.first-item.is c.second-item.is
-    ∙ ap (option_and_then (λ v. option_and_then (called_with_two c.args.name.now p v) (argument_value (view_argument c.second-item.result) env))) c.in_ok-first-in-len2.ensures.value
-    ∙ ap (option_and_then (called_with_two c.args.name.now p (value_of c.in_ok-first-in-len2.first))) c.in_ok-second-in-len2.ensures.value in
-    λ h. e ∙ c.called_with_two.ensures.erred h
+    ∙ ap (option_and_then (λ v. option_and_then (called_with_two c.args.name.now p v) (argument_value (view_argument c.second-item.result) env))) c.in_ok-first-in-len2.ensures.value in
+    λ h. e ∙ c.call_with_second.ensures.erred h
