@@ -100,6 +100,21 @@ all_silent ask from (k ∷ rest) silent =
       ap (λ a. cons_option (option_map name_of (failing a)) (names_below ask from (k ∷ rest))) here ∙ below.1,
     )
 
+-- a walk along the keys of one path: none are left, nothing answers from the next one on, or it goes on below that
+pub along_end : (ask : Ask) (from keys : Path) → keys ≡ [] → holds (ask from) ≡ false → false ≡ granted_from ask from keys
+along_end ask from keys is own = sym (ap (granted_from ask from) is ∙ ap (λ b. b || false) own)
+
+pub along_silent : (ask : Ask) (from : Path) (k : Key) (rest keys : Path) → keys ≡ k ∷ rest → holds (ask from) ≡ false → ((r : Path) → ask (from ++ k ∷ r) ≡ None) → false ≡ granted_from ask from keys
+along_silent ask from k rest keys is own silent =
+    sym (ap (granted_from ask from) is ∙ ap (λ b. b || granted_below ask from (k ∷ rest)) own ∙ (all_silent ask (from ++ k ∷ []) rest (λ r. ap ask (append_assoc from (k ∷ []) r) ∙ silent r)).0)
+
+pub along_key : (ask : Ask) (from at : Path) (k : Key) (rest keys : Path) → keys ≡ k ∷ rest → holds (ask from) ≡ false → at ≡ from ++ k ∷ [] → granted_from ask at rest ≡ granted_from ask from keys
+along_key ask from at k rest keys is own there =
+    ap (λ p. granted_from ask p rest) there ∙ sym (ap (granted_from ask from) is ∙ ap (λ b. b || granted_below ask from (k ∷ rest)) own)
+
+pub along_held : (ask : Ask) (from keys : Path) → holds (ask from) ≡ true → true ≡ granted_from ask from keys
+along_held ask from keys own = sym (ap (λ b. b || granted_below ask from keys) own)
+
 pub refused_beyond : (ask : Ask) (from : Path) (k : Key) (d : ℕ) (ls : List Path) (denial : Denial) → ((r : Path) → ask (from ++ k ∷ r) ≡ None) → AllBegin k d ls → Some denial.location.now ≡ slice_get ls 0 → denial.seen.items ≡ [] → Refuses (granted_below ask from) (names_below ask from) d ls (Some denial)
 refused_beyond ask from k d [] denial silent begin first none = cc
 refused_beyond ask from k d (l ∷ ls) denial silent begin first none = (

@@ -1,6 +1,6 @@
 -- What the walks from the root say of reads and writes.
 use Rattle.std.proofs.Common.{◌≡◌, ◌≢◌, ℕ, ◌≤◌, ◌⊎◌, inl, inr, Bool, true, false, cond, not, List, [], ◌∷◌, map, length, Some, None, Option, sym, ap, ◌∙◌, subst, refl, arith}
-use Rattle.std.specs.Prelude.{Contains, find, MatchOption}
+use Rattle.std.specs.Prelude.{◌↔◌, Contains, find, MatchOption}
 use Rattle.std.specs.List.{AllByRecursion}
 use Rattle.std.specs.List.Sorted.{IsPermutation}
 use Rattle.std.specs.Cmp.{tied_itself}
@@ -28,7 +28,7 @@ use Rattle.judge.specs.declared.verdict.Verdict.TheVariants.{Granted, ReadDenied
 use Rattle.judge.specs.declared.grant.Denial.{Denial}
 use Rattle.judge.specs.declared.validate.Failure.{Failure}
 use Rattle.judge.specs.Working.Locations.{rests, PathsAscend}
-use Rattle.judge.specs.Working.Refused.{Ask, granted_from, names_from, seen_names, Refuses}
+use Rattle.judge.specs.Working.Refused.{Ask, granted, granted_from, names_from, seen_names, Refuses}
 use Rattle.judge.specs.Working.Found.{Found, FailsFrom, Near, place_of}
 use Rattle.std.specs.Borrow.{Bor}
 use Rattle.std.specs.FinMap as map_of
@@ -269,6 +269,13 @@ pub read_answer_some : (asking : Asking) (spot : Spot) (scene : Scene) (asked : 
 read_answer_some asking spot scene asked ls path o denial named f e root alone is same h =
     read_denied scene asked path denial named (subst (λ (q : Question). HasOneCapture q.scene.book) f root.here.at.one)
     (subst (λ (ms : List Path). Refuses (granted_from (answer_at (reading scene asked) Read) []) (names_from (answer_at (reading scene asked) Read) []) 0 ms (Some denial)) alone (refused_anew asking spot Read (reading scene asked) ls o (Some denial) root e f is h)) same
+
+pub may_read_answer : (asking : Asking) (spot : Spot) (scene : Scene) (asked : Asked) (path : Path) (found : Bool) → question_of asking ≡ reading scene asked → asking.kind ≡ Read → StandsAtRoot asking spot
+    → found ≡ granted_from (ask_of asking) (path_of spot) path → (found ≡ true) ↔ MayRead scene asked path
+may_read_answer asking spot scene asked path found f e root h =
+    let all : found ≡ granted (answer_at (reading scene asked) Read) path =
+    h ∙ (λ i. granted_from (answer_at (f i) (e i)) (root.root i) path) ∙ sym (granted_is (answer_at (reading scene asked) Read) path) in
+    subst (λ (b : Bool). (b ≡ true) ↔ MayRead scene asked path) (sym all) (granted_decides (reading scene asked) Read path (subst (λ (q : Question). HasOneCapture q.scene.book) f root.here.at.one))
 
 write_is_no_read : Write ≢ Read
 write_is_no_read e = cc

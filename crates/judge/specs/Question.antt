@@ -11,7 +11,7 @@ use Rattle.evaluator.specs.Identity.{Identity}
 use Rattle.evaluator.specs.Env.{Env, Access, reads, writes}
 use Rattle.judge.specs.declared.scene.Scene as code
 
--- what one step judges by: the rules in force, who asks, if somebody is signed in, the moment, and the whole tree before the step. (Reference, variables.)
+-- what is judged by: the rules in force, who asks, if somebody is signed in, the moment, and the whole tree that stands. For a read or a write this is the tree before the step; for a listener that is judged again it is the tree after it. (Reference, variables.)
 pub record Scene : Type 0 where
   pub book : Book
   pub who : Option Identity
@@ -33,7 +33,7 @@ abbrev pub access_at : Request → Path → Access
 access_at (read asked) path = reads asked
 access_at (write proposed) path = writes (proposed, path)
 
--- the environment of a rule of this pattern at a path: `root` and `data` are of the tree before the step, `newData` of the proposed tree, and a capture is the key of the path at its place. (Reference, variables; guide "Core syntax", using $ variables to capture path segments.)
+-- the environment of a rule of this pattern at a path: `root` and `data` are of the tree of the scene, `newData` of the proposed tree, and a capture is the key of the path at its place. (Reference, variables; guide "Core syntax", using $ variables to capture path segments.)
 abbrev pub env_at : Question → Pattern → Path → Env
 env_at q pattern path = record {
   who = q.scene.who;

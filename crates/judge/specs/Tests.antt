@@ -88,7 +88,7 @@ holds_at q kind path = list_any (holds_by q kind path) (patterns q.scene.book)
 unfoldable pub is_granted : Question → Kind → Path → Bool
 is_granted q kind path = list_any (holds_at q kind) (prefixes path)
 
--- the rules that a denial names: all of this kind at prefixes of the path and at the path, shortest first, each with the reason. Where none holds, these are all that stand there. (This project's profile.)
+-- the rules that a denial names: those of this kind that stand at a prefix of the path or at the path and do not hold there, shortest first, each with the reason. Where none holds, these are all of this kind that stand there. (This project's profile.)
 unfoldable pub named_rules : Question → Kind → Path → List Named
 named_rules q kind path = names (answer_at q kind) path
 

@@ -1,5 +1,5 @@
 //! Who may: the first location that no rule grants, and the rules that were asked for it.
-ghost use Rattle.std.specs.Prelude.{◌≡◌, ◌≤◌, ◌<◌, ◌++◌, ◌∷◌, [], None, length, drop, map, option_map, option_and_then, IfOk, OnOk};
+ghost use Rattle.std.specs.Prelude.{◌≡◌, ◌+◌, ◌≤◌, ◌<◌, ◌++◌, ◌∷◌, [], None, length, drop, map, option_map, option_and_then, IfOk, OnOk};
 ghost use Rattle.tree_model.specs.declared.limits.TheConstants.{MAX_DEPTH as most_keys};
 ghost use Rattle.rules_reader.specs.Part.{texts, Pattern as Parts};
 ghost use Rattle.judge.specs.Answers.{why_of};
@@ -110,6 +110,30 @@ pub(crate) fn refused_from<'a>(
     };
     let denial = with_rule(denial, spot.rule.pattern(), own)?;
     Ok(Some(denial))
+}
+
+/// Whether a rule holds at the spot or on the way along these keys. Each rule on the way is asked once, and
+/// none behind the first that holds.
+pub(crate) fn granted_along<'a>(
+    asking: &Asking<'a>,
+    spot: &Spot<'a>,
+    keys: &'a [Key],
+    captures: &mut Captures<'a>,
+) -> Result<bool, NoMemory>
+    requires here { Stands asking.now spot.now captures.old }
+    requires room { length (path_of spot.now) + length keys.now ≤ most_keys }
+    ensures { IfOk result (λ granted. granted ≡ granted_from (ask_of asking.now) (path_of spot.now) keys.now) }
+{
+    if holds(answer(asking, spot, captures)?) {
+        return Ok(true);
+    }
+    match keys {
+        [] => Ok(false),
+        [key, rest @ ..] => match enter(asking, spot, key, captures)? {
+            Some(below) => granted_along(asking, &below, rest, captures),
+            None => Ok(false),
+        },
+    }
 }
 
 // A location that no rule was asked for yet.

@@ -1,18 +1,18 @@
 //! Judging a read, and writes.
-ghost use Rattle.std.specs.Prelude.{◌≡◌, [], ◌∷◌, map, IfOk, MatchOption};
+ghost use Rattle.std.specs.Prelude.{◌≡◌, ◌↔◌, [], ◌∷◌, true, map, IfOk, MatchOption};
 ghost use Rattle.tree_model.specs.Write.{location, proposed};
 ghost use Rattle.path_capture.specs.Write.{tree_or_null};
 ghost use Rattle.evaluator.specs.Asked.{asked_of};
-ghost use Rattle.judge.specs.Question.{scene_of, access_at};
-ghost use Rattle.rules_reader.specs.declared.kind.Kind.TheVariants.{Write as WriteKind, Validate as ValidateKind};
+ghost use Rattle.judge.specs.Question.{scene_of, access_at, reading};
+ghost use Rattle.rules_reader.specs.declared.kind.Kind.TheVariants.{Read as ReadKind, Write as WriteKind, Validate as ValidateKind};
 ghost use Rattle.tree_model.specs.Tree.{IsLawful};
 ghost use Rattle.judge.specs.Failing.{IsValid};
-ghost use Rattle.judge.specs.Judging.{IsReadVerdict, IsWriteVerdict, MayWriteAll};
+ghost use Rattle.judge.specs.Judging.{IsReadVerdict, IsWriteVerdict, MayRead, MayWriteAll};
 ghost use Rattle.judge.specs.Working.Standing.{StandsAtRoot, AsksFor, question_of, coming_of};
 ghost use Rattle.evaluator.specs.Env.{access_of};
 ghost use Rattle.judge.specs.Working.Locations.{paths, PathsAscend};
 
-use crate::grant::{named, refused_from};
+use crate::grant::{granted_along, named, refused_from};
 use crate::locations::sort;
 use crate::scene::Scene;
 use crate::spot::{Asking, Spot};
@@ -57,12 +57,7 @@ fn judge_alone<'a>(
     ensures { IfOk result (IsReadVerdict (scene_of scene.now) (asked_of asked.now) path.now) }
 {
     let _path = path;
-    let asking = Asking {
-        bump,
-        scene,
-        access: Access::Reads(asked),
-        kind: Kind::Read,
-    };
+    let asking = reading(bump, scene, asked);
     let spot = at_root(&asking)?;
     let mut captures = Captures::new(alloc);
     let denial = refused_from(alloc, &asking, &spot, locations, &mut captures)?;
@@ -73,6 +68,25 @@ fn judge_alone<'a>(
         }
         None => Ok(Verdict::Granted),
     }
+}
+
+/// Whether a read of a path with this query is granted: what [`judge_read`] finds, where no names are
+/// wanted. Of d keys, d · log w in nodes of w children, and each rule on the way at most once, none behind
+/// the first that holds; the arena takes a place for each key and what expressions make, other memory the
+/// captures on the way. (Guide "Core syntax", `.read` and `.write` rules cascade.)
+pub fn may_read<'a>(
+    alloc: Global,
+    bump: &'a Bump,
+    scene: &'a Scene<'a>,
+    path: &'a Path,
+    asked: &'a Asked<'a>,
+) -> Result<bool, NoMemory>
+    ensures { IfOk result (λ granted. (granted ≡ true) ↔ MayRead (scene_of scene.now) (asked_of asked.now) path.now) }
+{
+    let asking = reading(bump, scene, asked);
+    let spot = at_root(&asking)?;
+    let mut captures = Captures::new(alloc);
+    granted_along(&asking, &spot, path.keys(), &mut captures)
 }
 
 /// Judges writes that propose this tree together: denied for write at the least location where no
@@ -186,6 +200,21 @@ fn validate_denied<'a>(
             Ok(Some(Verdict::ValidateDenied(place, pattern, why)))
         }
         None => Ok(None),
+    }
+}
+
+// What a read asks.
+fn reading<'a>(bump: &'a Bump, scene: &'a Scene<'a>, asked: &'a Asked<'a>) -> Asking<'a>
+    ensures question { question_of result ≡ reading (scene_of scene.now) (asked_of asked.now) }
+    ensures kind { result.kind ≡ ReadKind }
+    ensures asks { AsksFor result.kind (question_of result).request }
+    ensures root { access_of result.access ≡ access_at (question_of result).request [] }
+{
+    Asking {
+        bump,
+        scene,
+        access: Access::Reads(asked),
+        kind: Kind::Read,
     }
 }
 

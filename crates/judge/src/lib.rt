@@ -13,7 +13,7 @@ mod spot;
 mod validate;
 mod verdict;
 
-pub use judging::{judge_read, judge_write};
+pub use judging::{judge_read, judge_write, may_read};
 pub use laws::{
     a_grant_reaches_down, each_named_rule_does_not_hold, every_write_sees_the_whole,
     only_rules_above_grant, the_order_of_writes_changes_nothing, the_tests_decide,

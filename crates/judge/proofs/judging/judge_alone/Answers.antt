@@ -1,6 +1,4 @@
 use Rattle.std.proofs.Common.{refl, ap, ◌∙◌}
-use Rattle.rules_reader.specs.declared.kind.Kind.TheVariants.{Read}
-use Rattle.evaluator.specs.declared.env.Access.TheVariants.{Reads}
 use Rattle.evaluator.specs.Asked.{asked_of}
 use Rattle.judge.specs.Question.{scene_of}
 use Rattle.judge.specs.declared.spot.Asking.{Asking}
@@ -11,16 +9,16 @@ use Rattle.judge.proofs.judging.judge_alone.Goals as goal
 
 pub refused_from-requires : goal.refused_from-requires
 refused_from-requires c =
-    let asking : Asking = record { bump = c.args.bump; scene = c.args.scene; access = Reads c.args.asked; kind = Read } in
+    let asking : Asking = c.reading-asking.result in
     record { here = stands_anew asking c.in_ok-spot.spot c.new-captures.result c.new-captures.ensures c.in_ok-spot.ensures }
 
 pub returns-in-Some : goal.returns-in-Some
 returns-in-Some c =
-    let asking : Asking = record { bump = c.args.bump; scene = c.args.scene; access = Reads c.args.asked; kind = Read } in
-    read_answer_some asking c.in_ok-spot.spot (scene_of c.args.scene.now) (asked_of c.args.asked.now) (paths c.args.locations.now) c.args.path.now c.in_ok-denial.denial c.in-Some.denial _ refl refl c.in_ok-spot.ensures c.requires c.in-Some.is
+    let asking : Asking = c.reading-asking.result in
+    read_answer_some asking c.in_ok-spot.spot (scene_of c.args.scene.now) (asked_of c.args.asked.now) (paths c.args.locations.now) c.args.path.now c.in_ok-denial.denial c.in-Some.denial _ c.reading-asking.ensures.question c.reading-asking.ensures.kind c.in_ok-spot.ensures c.requires c.in-Some.is
     (c.in_ok-rules-in-Some.ensures ∙ ap seen_names c.as_slice.ensures.value) c.in_ok-denial.ensures.denial
 
 pub returns : goal.returns
 returns c =
-    let asking : Asking = record { bump = c.args.bump; scene = c.args.scene; access = Reads c.args.asked; kind = Read } in
-    read_answer_none asking c.in_ok-spot.spot (scene_of c.args.scene.now) (asked_of c.args.asked.now) (paths c.args.locations.now) c.args.path.now c.in_ok-denial.denial refl refl c.in_ok-spot.ensures c.requires c.in-None.is c.in_ok-denial.ensures.denial
+    let asking : Asking = c.reading-asking.result in
+    read_answer_none asking c.in_ok-spot.spot (scene_of c.args.scene.now) (asked_of c.args.asked.now) (paths c.args.locations.now) c.args.path.now c.in_ok-denial.denial c.reading-asking.ensures.question c.reading-asking.ensures.kind c.in_ok-spot.ensures c.requires c.in-None.is c.in_ok-denial.ensures.denial
