@@ -4,4 +4,6 @@ pub mod Headers
 pub mod Members
 pub mod Plain
 pub mod Reading
+pub mod Naming
+pub mod Notices
 pub mod Outlines

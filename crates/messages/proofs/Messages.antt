@@ -1,5 +1,5 @@
 -- What a message is, from what serde_json and the tree say of it.
-use Rattle.std.proofs.Common.{◌≡◌, ℕ, ◌≤◌, ◌<◌, Bool, true, false, cond, List, length, refl, ap, sym, ◌∙◌, Option, Some, None, Ok, Err, arith, nat_le}
+use Rattle.std.proofs.Common.{◌≡◌, ℕ, ◌≤◌, ◌<◌, Bool, true, false, cond, List, length, refl, ap, sym, subst, ◌∙◌, Option, Some, None, Ok, Err, arith, nat_le}
 use Rattle.std.specs.List.{list_all, list_any}
 use Rattle.std.specs.Str.{IsUtf8, is_utf8, bytes_eq}
 use Rattle.std.proofs.lemmas.Bool.Decides.{nat_tests}
@@ -9,11 +9,12 @@ use Rattle.serde_json.specs.Read.{read}
 use Rattle.tree_model.specs.declared.limits.TheConstants.{MAX_DEPTH, MAX_TEXT_BYTES}
 use Rattle.tree_model.specs.Primitive.{words}
 use Rattle.tree_model.specs.PathMap.{depth}
-use Rattle.tree_model.specs.Tree.{Tree, lone, non_null}
+use Rattle.tree_model.specs.Tree.{Tree, lone, non_null, IsLawful}
 use Rattle.tree_model.proofs.Existence.{by_null}
-use Rattle.json_tree.specs.Json.{is_lawful, of_json}
+use Rattle.json_tree.specs.Json.{is_lawful, of_json, value_of as written}
 use Rattle.json_tree.proofs.Heights.{depth-of_json}
 use Rattle.json_tree.proofs.Building.{some-lone}
+use Rattle.json_tree.proofs.Written.{of_json-value_of, is_lawful-value_of}
 use Rattle.json_tree.proofs.Limits.{is_text_from, is_text-utf8}
 use Rattle.path_capture.specs.Write.{tree_or_null}
 use Rattle.messages.specs.declared.message.MessageFault.TheVariants.{BadJson, BadValue, TooDeep, TooLarge}
@@ -53,6 +54,13 @@ told_by d lawful fits p q = (λ i. cond (p i) (cond (q i) (Ok (of_json d)) (Err 
 
 pub tree_told : (d : Data) (tree : Option Tree) → is_lawful d ≡ true → depth (of_json d) ≤ MAX_DEPTH → tree ≡ non_null (of_json d) → tree_of_value d ≡ Ok (tree_or_null tree)
 tree_told d tree lawful fits is = told_by d true true lawful (grind (arith, nat_tests)) ∙ ap (λ t. Ok t) (sym (tree_of_non_null (of_json d)) ∙ ap tree_or_null (sym is))
+
+-- what a lawful tree is written as is read as that tree
+pub read_back_told : (t : Tree) → IsLawful t → depth t ≤ MAX_DEPTH → tree_of_value (written t) ≡ Ok t
+read_back_told t h fits =
+    let same = of_json-value_of t h in
+    let within : depth (of_json (written t)) ≤ MAX_DEPTH = subst (λ u. depth u ≤ MAX_DEPTH) (sym same) fits in
+    told_by (written t) true true (is_lawful-value_of t h) (grind (arith, nat_tests)) ∙ ap (λ u. Ok u) same
 
 -- ---- the tree of a text
 

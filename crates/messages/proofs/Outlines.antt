@@ -36,25 +36,31 @@ pub put_one_more : (ms : List Member) (m : Member) (there : Members) → put_all
 put_one_more [] m there = refl
 put_one_more (x ∷ ms) m there = put_one_more ms m (put x.name.now (said_data x.said) there)
 
-put_at : (ms : List Member) (i : ℕ) (m : Member) → i < length ms → m ≡ get_or ms i m → put_all (take (i + 1) ms) no_members ≡ put m.name.now (said_data m.said) (put_all (take i ms) no_members)
-put_at ms i m within is =
-    ap (λ xs. put_all xs no_members) (take_more ms i m within)
-    ∙ ap (λ x. put_all (take i ms ++ x ∷ []) no_members) (sym is)
-    ∙ put_one_more (take i ms) m no_members
+-- the member at the end counts for its name
+pub last_here : (ms : List Member) (m : Member) (name : List ℕ) → bytes_eq m.name.now name ≡ true → get_member name (put_all (ms ++ m ∷ []) no_members) ≡ Some (said_data m.said)
+last_here ms m name same =
+    let before = put_all ms no_members in
+    ap (get_member name) (put_one_more ms m no_members)
+    ∙ subst (λ n. get_member n (put m.name.now (said_data m.said) before) ≡ Some (said_data m.said)) ((bytes_eq-Decides m.name.now name).0 same) (get_member-put m.name.now (said_data m.said) before)
+
+-- and changes nothing for another name
+pub last_other : (ms : List Member) (m : Member) (name : List ℕ) → bytes_eq m.name.now name ≡ false → get_member name (put_all (ms ++ m ∷ []) no_members) ≡ get_member name (put_all ms no_members)
+last_other ms m name differs =
+    let other : ¬ (name ≡ m.name.now) = (λ same. true≢false (sym ((bytes_eq-Decides m.name.now name).1 (sym same)) ∙ differs)) in
+    ap (get_member name) (put_one_more ms m no_members) ∙ get_member-put_other name m.name.now (said_data m.said) (put_all ms no_members) other
+
+-- those before an index, with the member there
+up_to : (ms : List Member) (i : ℕ) (m : Member) → i < length ms → m ≡ get_or ms i m → take (i + 1) ms ≡ take i ms ++ m ∷ []
+up_to ms i m within is = take_more ms i m within ∙ ap (λ x. take i ms ++ x ∷ []) (sym is)
 
 -- the member at i counts for its name, whatever stands before it
 pub said_here : (ms : List Member) (i : ℕ) (m : Member) (name : List ℕ) → i < length ms → m ≡ get_or ms i m → bytes_eq m.name.now name ≡ true → get_member name (put_all (take (i + 1) ms) no_members) ≡ Some (said_data m.said)
-said_here ms i m name within is same =
-    let before = put_all (take i ms) no_members in
-    ap (get_member name) (put_at ms i m within is)
-    ∙ subst (λ n. get_member n (put m.name.now (said_data m.said) before) ≡ Some (said_data m.said)) ((bytes_eq-Decides m.name.now name).0 same) (get_member-put m.name.now (said_data m.said) before)
+said_here ms i m name within is same = ap (λ xs. get_member name (put_all xs no_members)) (up_to ms i m within is) ∙ last_here (take i ms) m name same
 
 -- and changes nothing for another name
 pub said_before : (ms : List Member) (i : ℕ) (m : Member) (name : List ℕ) → i < length ms → m ≡ get_or ms i m → bytes_eq m.name.now name ≡ false
     → get_member name (put_all (take (i + 1) ms) no_members) ≡ get_member name (put_all (take i ms) no_members)
-said_before ms i m name within is differs =
-    let other : ¬ (name ≡ m.name.now) = (λ same. true≢false (sym ((bytes_eq-Decides m.name.now name).1 (sym same)) ∙ differs)) in
-    ap (get_member name) (put_at ms i m within is) ∙ get_member-put_other name m.name.now (said_data m.said) (put_all (take i ms) no_members) other
+said_before ms i m name within is differs = ap (λ xs. get_member name (put_all xs no_members)) (up_to ms i m within is) ∙ last_other (take i ms) m name differs
 
 -- all names pass a test that those of the list pass
 -- one more name stands among the others, or is one of them

@@ -1,16 +1,14 @@
 -- What tokens say: values, members and items, read one after another.
-use Rattle.std.proofs.Common.{◌≡◌, ℕ, ◌-◌, ◌<◌, ◌≤◌, List, [], ◌∷◌, ◌++◌, length, Option, Some, None, option_map, option_and_then, refl, sym, ap, ◌∙◌, arith}
+use Rattle.std.proofs.Common.{◌≡◌, ℕ, ◌-◌, ◌<◌, ◌≤◌, List, [], ◌∷◌, length, Option, Some, None, option_map, option_and_then, refl, sym, ap, ◌∙◌, arith}
 use Rattle.json.specs.Token.{Token}
 use Rattle.json.specs.Token as token
 use Rattle.json.specs.Lex.{tokens}
 use Rattle.json.specs.Json as json
 use Rattle.json.specs.Json.{Json, parse_map, after_end_array, read_key, items, members, value, if_last}
-use Rattle.json.proofs.Grammar.{value_is, value-begin_array, value-begin_object, read_key-shorter, items_end, items_more, members_end, members_more}
-use Rattle.serde_json.specs.Data.{Data, null, boolean, number, string, array, object, Items, no_items, item, Members, no_members, put}
-use Rattle.serde_json.specs.Read.{of_json, of_items, of_members, number_of, converted, read}
-use Rattle.serde_json.specs.View.{view, items_view}
-use Rattle.serde_json.specs.declared.value.Value.{Value}
-use Rattle.messages.specs.Working.Outline.{IsRead, read_on, Gives, items_on, GivesItems}
+use Rattle.json.proofs.Grammar.{value_is, value-begin_object, read_key-shorter, members_end, members_more}
+use Rattle.serde_json.specs.Data.{Data, null, boolean, number, string, object, Members, no_members, put}
+use Rattle.serde_json.specs.Read.{of_json, of_members, number_of, converted, read}
+use Rattle.messages.specs.Working.Outline.{IsRead, read_on, Gives}
 
 -- ---- what was converted
 
@@ -95,70 +93,6 @@ pub object_read : (depth : ℕ) (ts rest : List Token) (ms : Members) → 0 < de
 object_read depth ts rest ms some gives =
     let enough : length ts ≤ length ts = omega arith in
     ap (converted of_json) (value-begin_object depth ts some) ∙ converted_object (members (value (depth - 1)) (length ts) ts) ∙ ap (parse_map object) (gives (length ts) enough)
-
--- ---- items
-
--- these values before the items
-abbrev pub onto : List Value → Items → Items
-onto [] ds = ds
-onto (v ∷ vs) ds = item (view v) (onto vs ds)
-
-onto_none : (vs : List Value) → onto vs no_items ≡ items_view vs
-onto_none [] = refl
-onto_none (v ∷ vs) = ap (item (view v)) (onto_none vs)
-
-onto_one_more : (vs : List Value) (v : Value) (ds : Items) → onto (vs ++ v ∷ []) ds ≡ onto vs (item (view v) ds)
-onto_one_more [] v ds = refl
-onto_one_more (x ∷ vs) v ds = ap (item (view x)) (onto_one_more vs v ds)
-
--- reading has come from `all` to `now`, behind these values
-abbrev pub LeadsItems : ℕ → List Token → List Token → List Value → Type 0
-LeadsItems depth all now vs = (n : ℕ) → length all ≤ n → (m : ℕ) × (length now ≤ m) × (items_on depth n all ≡ parse_map (onto vs) (items_on depth m now))
-
-unchanged : (o : Option (Items × List Token)) → o ≡ parse_map (onto []) o
-unchanged None = refl
-unchanged (Some p) = refl
-
-pub items_at_first : (depth : ℕ) (all : List Token) → LeadsItems depth all all []
-items_at_first depth all = λ n h. (n, h, unchanged (items_on depth n all))
-
-with_item : (j : Json) (d : Data) → of_json j ≡ Some d → (o : Option (json.Items × List Token)) → converted of_items (parse_map (json.item j) o) ≡ parse_map (item d) (converted of_items o)
-with_item j d e None = refl
-with_item j d e (Some p) = rw e (mapped (item d) p.1 (of_items p.0))
-
-regrouped : (vs : List Value) (v : Value) (o : Option (Items × List Token)) → parse_map (onto vs) (parse_map (item (view v)) o) ≡ parse_map (onto (vs ++ v ∷ [])) o
-regrouped vs v None = refl
-regrouped vs v (Some p) = ap (λ ds. Some (ds, p.1)) (sym (onto_one_more vs v p.0))
-
-pub one_item_more : (depth : ℕ) (all now left after : List Token) (vs : List Value) (v : Value) (t : Token) → LeadsItems depth all now vs → after_end_array now ≡ None → now ≡ t ∷ left → IsRead depth t left (view v) after
-    → length after ≤ length left → LeadsItems depth all after (vs ++ v ∷ [])
-one_item_more depth all now left after vs v t leads going first is within = λ n h.
-    let so_far = leads n h in
-    let m = so_far.0 in
-    let room : length now ≤ m = so_far.1 in
-    let longer : length now ≡ length (t ∷ left) = ap length first in
-    let turns : 0 < m = omega arith in
-    let one = converted_from of_json (value depth (t ∷ left)) (view v) after is in
-    let found : value depth now ≡ Some (one.0, after) = ap (value depth) first ∙ one.1 in (
-      m - 1,
-      omega arith,
-      so_far.2 ∙ ap (λ o. parse_map (onto vs) (converted of_items o)) (items_more (value depth) m now after one.0 turns going found)
-          ∙ ap (parse_map (onto vs)) (with_item one.0 (view v) one.2 _) ∙ regrouped vs v _,
-    )
-
-pub items_at_last : (depth : ℕ) (all now rest : List Token) (vs : List Value) → LeadsItems depth all now vs → after_end_array now ≡ Some rest → GivesItems depth all (items_view vs) rest
-items_at_last depth all now rest vs leads closed = λ n h.
-    let so_far = leads n h in
-    so_far.2 ∙ ap (λ o. parse_map (onto vs) (converted of_items o)) (items_end (value depth) so_far.0 now rest so_far.1 closed) ∙ ap (λ ds. Some (ds, rest)) (onto_none vs)
-
-converted_array : (o : Option (json.Items × List Token)) → converted of_json (parse_map json.array o) ≡ parse_map array (converted of_items o)
-converted_array None = refl
-converted_array (Some p) = mapped array p.1 (of_items p.0)
-
-pub array_read : (depth : ℕ) (ts rest : List Token) (ds : Items) → 0 < depth → GivesItems (depth - 1) ts ds rest → IsRead depth token.begin_array ts (array ds) rest
-array_read depth ts rest ds some gives =
-    let enough : length ts ≤ length ts = omega arith in
-    ap (converted of_json) (value-begin_array depth ts some) ∙ converted_array (items (value (depth - 1)) (length ts) ts) ∙ ap (parse_map array) (gives (length ts) enough)
 
 -- ---- the whole text
 

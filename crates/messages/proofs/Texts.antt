@@ -1,17 +1,11 @@
 -- The texts of answers, from what serde_json says of them.
-use Rattle.std.proofs.Common.{◌≡◌, ℕ, zero, suc, ◌||◌, ◌++◌, Bool, false, List, [], ◌∷◌, map, Option, Some, None, ℤ, pos, negsuc, refl, sym, ap, ◌∙◌, append_assoc}
-use Rattle.std.specs.Option.{option_map_or}
-use Rattle.std.specs.FinMap as map_of
+use Rattle.std.proofs.Common.{◌≡◌, ℕ, ◌||◌, ◌++◌, Bool, false, List, Option, Some, None, refl, sym, ap, ◌∙◌, append_assoc}
 use Rattle.serde_json.specs.Data.{Data, number, string, object, member, no_members, unsigned}
-use Rattle.serde_json.specs.Find.{is_float, of_integer}
-use Rattle.serde_json.specs.Written.{has_float, members_have_float, items_have_float, compact_text}
+use Rattle.serde_json.specs.Written.{has_float, compact_text}
 use Rattle.serde_json.proofs.OnLiterals.{serde_json_on_literals}
 use Rattle.std.specs.Prelude.{codes, unwrap_or}
-use Rattle.tree_model.specs.Key.{Key}
-use Rattle.tree_model.specs.Primitive.{Primitive, truth, whole, words}
-use Rattle.tree_model.specs.PathMap.{get, depth}
-use Rattle.tree_model.specs.Tree.{Tree, null, children}
-use Rattle.json_tree.specs.Json.{data_of, members_of, object_of, value_within, value_of}
+use Rattle.tree_model.specs.Tree.{Tree, null}
+use Rattle.json_tree.specs.Json.{value_of}
 use Rattle.path_capture.specs.Write.{tree_or_null}
 use Rattle.rules_reader.specs.declared.fault.RulesFault.{RulesFault}
 use Rattle.rules_reader.specs.declared.fault.RulesFault.TheVariants as rules_faults
@@ -23,88 +17,14 @@ use Rattle.rules_reader.specs.Book.{kind_name}
 use Rattle.rules_reader.specs.declared.kind.Kind.{Kind}
 use Rattle.rules_reader.specs.Refusal.{left_out_name, Reason, no_json, bad_shape, too_many_rules, bad_rule, no_memory, reason}
 use Rattle.path_capture.specs.Path.{printed}
-use Rattle.judge.specs.declared.verdict.Named.{Named}
-use Rattle.rtdb_core.specs.declared.reply.Reply.{Reply}
-use Rattle.rtdb_core.specs.declared.reply.Reply.TheVariants.{Done, Value, News, Refused}
-use Rattle.rtdb_core.specs.declared.news.Notice.{Notice}
-use Rattle.rtdb_core.specs.declared.news.What.{What}
-use Rattle.rtdb_core.specs.declared.news.What.TheVariants.{Gone, Now}
-use Rattle.rtdb_core.specs.declared.reply.Refusal.{Refusal}
-use Rattle.rtdb_core.specs.declared.reply.Refusal.TheVariants as refusals
+use Rattle.rtdb_core.specs.declared.reply.Reply.TheVariants.{Done, Value}
 use Rattle.messages.specs.declared.code.Code.TheVariants as code
-use Rattle.messages.specs.AnswerText.{refusal_members, plain_data, placed_data, rules_fault_text, named_data, notice_data, items_of, refusal_data, reply_data, rule_fault_data, rules_fault_data, text}
+use Rattle.messages.specs.AnswerText.{refusal_members, plain_data, placed_data, rules_fault_text, rule_fault_data, rules_fault_data, text}
 
 -- ---- no answer has a float
 
 or_false : (a b : Bool) → a ≡ false → b ≡ false → (a || b) ≡ false
 or_false a b p q = ap (λ x. x || b) p ∙ q
-
-integer_is_no_float : (z : ℤ) → is_float (of_integer z) ≡ false
-integer_is_no_float (pos n) = refl
-integer_is_no_float (negsuc n) = refl
-
-primitive_is_no_float : (v : Primitive) → has_float (data_of v) ≡ false
-primitive_is_no_float (truth b) = refl
-primitive_is_no_float (whole z) = integer_is_no_float z
-primitive_is_no_float (words s) = refl
-
-at_root : (o : Option Primitive) (d : Data) → has_float d ≡ false → has_float (option_map_or data_of o d) ≡ false
-at_root None d h = h
-at_root (Some v) d h = primitive_is_no_float v
-
--- of members, each of which has no float
-members_are_no_float : (f : Tree → Data) → ((t : Tree) → has_float (f t) ≡ false) → (cs : List (Key × Tree)) → members_have_float (members_of (map (λ c. (c.0, f c.1)) cs)) ≡ false
-members_are_no_float f h [] = refl
-members_are_no_float f h (c ∷ cs) = or_false _ _ (h c.1) (members_are_no_float f h cs)
-
-object_is_no_float : (f : Tree → Data) → ((t : Tree) → has_float (f t) ≡ false) → (cs : List (Key × Tree)) → has_float (object_of (map (λ c. (c.0, f c.1)) cs)) ≡ false
-object_is_no_float f h [] = refl
-object_is_no_float f h (c ∷ cs) = members_are_no_float f h (c ∷ cs)
-
-within : (n : ℕ) (t : Tree) → has_float (value_within n t) ≡ false
-within zero t = at_root (get t []) _ refl
-within (suc n) t = at_root (get t []) _ (object_is_no_float (value_within n) (within n) (map_of.entries (children t)))
-
-tree_is_no_float : (t : Tree) → has_float (value_of t) ≡ false
-unfolding value_of
-tree_is_no_float t = within (depth t) t
-
-named_is_no_float : (named : List Named) → items_have_float (items_of (map named_data named)) ≡ false
-named_is_no_float [] = refl
-named_is_no_float (rule ∷ rules) = named_is_no_float rules
-
-pub refusal_is_no_float : (refusal : Refusal) → has_float (refusal_data refusal) ≡ false
-refusal_is_no_float refusals.SessionOpen = refl
-refusal_is_no_float refusals.TooManySessions = refl
-refusal_is_no_float refusals.NoSession = refl
-refusal_is_no_float refusals.NotAdmin = refl
-refusal_is_no_float refusals.EmptyUpdate = refl
-refusal_is_no_float refusals.Overlap = refl
-refusal_is_no_float refusals.DuplicateId = refl
-refusal_is_no_float refusals.TooManyListeners = refl
-refusal_is_no_float refusals.NoListener = refl
-refusal_is_no_float (refusals.ReadDenied named) = or_false _ false (named_is_no_float named) refl
-refusal_is_no_float (refusals.WriteDenied at named) = or_false _ false (named_is_no_float named) refl
-refusal_is_no_float (refusals.ValidateDenied at pattern why) = refl
-refusal_is_no_float refusals.TreeFull = refl
-refusal_is_no_float refusals.NoMemory = refl
-
-notice_is_no_float : (id : List ℕ) (what : What) → has_float (notice_data (record { id = id; what = what })) ≡ false
-notice_is_no_float id Gone = refl
-notice_is_no_float id (Now tree) = or_false _ false (tree_is_no_float (tree_or_null tree)) refl
-
-notices_are_no_float : (notices : List Notice) → items_have_float (items_of (map notice_data notices)) ≡ false
-notices_are_no_float [] = refl
-notices_are_no_float (notice ∷ notices) = or_false _ _ (notice_is_no_float notice.id notice.what) (notices_are_no_float notices)
-
-pub reply_is_no_float : (reply : Reply) → has_float (reply_data reply) ≡ false
-reply_is_no_float Done = refl
-reply_is_no_float (Value tree) = or_false _ false (tree_is_no_float (tree_or_null tree)) refl
-reply_is_no_float (News notices) = or_false _ false (notices_are_no_float notices) refl
-reply_is_no_float (Refused refusal) = refusal_is_no_float refusal
-
-pub news_is_no_float : (notices : List Notice) → has_float (reply_data (News notices)) ≡ false
-news_is_no_float notices = reply_is_no_float (News notices)
 
 rule_fault_is_no_float : (rule : RuleName) (fault : RuleFault) → has_float (rule_fault_data rule fault) ≡ false
 rule_fault_is_no_float rule (rule_faults.BadExpression byte) = refl
@@ -134,7 +54,7 @@ pub value_text : (tree : Option Tree) → codes "{\"ok\":true,\"value\":" ++ (co
 unfolding text serde_json_on_literals
 value_text tree = refl
 
-tree_is : (tree : Option Tree) → unwrap_or tree null ≡ tree_or_null tree
+pub tree_is : (tree : Option Tree) → unwrap_or tree null ≡ tree_or_null tree
 tree_is None = refl
 tree_is (Some t) = refl
 

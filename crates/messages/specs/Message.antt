@@ -48,7 +48,7 @@ Tells see (Err fault) said = (fault ≡ NoMemory) ⊎ (said ≡ Err fault)
 
 -- ---- JSON
 
--- the value of a message: of at most 1,048,576 bytes, and JSON. (This project's profile; RFC 8259.)
+-- the value of a message: of at most 1,048,576 bytes, which are UTF-8 and JSON. Else it is too large, or bad JSON. (This project's profile; RFC 8259.)
 unfoldable pub value_of : List ℕ → Result Data MessageFault
 value_of bytes = if nat_le (length bytes) MAX_MESSAGE_BYTES then (if is_utf8 bytes then or_fault BadJson (read bytes) else Err BadJson) else Err TooLarge
 

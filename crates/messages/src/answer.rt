@@ -3,15 +3,16 @@
 ghost use Rattle.std.specs.Prelude.{◌≡◌, ◌++◌, codes, option_map, IfOk};
 ghost use Rattle.serde_json.specs.View.{view};
 ghost use Rattle.serde_json.specs.Written.{compact_text};
-ghost use Rattle.messages.specs.AnswerText.{text, fault_text, rules_fault_text, bad_tokens_text, unknown_token_text, line_fault_text, accepted_text, message_code, plain_data, placed_data, notice_data, notices_data, reply_data, accepted_data, rule_data, byte_data, what_data, rule_fault_data, rules_fault_data};
+ghost use Rattle.messages.specs.AnswerText.{text, fault_text, rules_fault_text, bad_tokens_text, unknown_token_text, line_fault_text, accepted_text, message_code, plain_data, placed_data, accepted_data, rule_data, byte_data, what_data, rule_fault_data, rules_fault_data};
 
 use crate::ask::LineFault;
 use crate::code::Code;
 use crate::message::MessageFault;
+use crate::news::write_news;
 use crate::refusal::{put_plain, put_refusal};
 use json::Writer;
-use json_tree::{NoMemory, Node, to_json, write_json};
-use rtdb_core::{News, Notice, Refusal, Reply, What};
+use json_tree::{NoMemory, Node, write_json};
+use rtdb_core::{Refusal, Reply};
 use rules_reader::{RuleFault, RuleName, RulesFault};
 use serde_json::{Value, json};
 use std::alloc::Global;
@@ -120,45 +121,6 @@ pub fn write_value(alloc: Global, tree: Option<&Node>) -> Result<Vec<u8>, NoMemo
     let mut bytes = write_json(front, tree)?;
     bytes.push(b'}')?;
     Ok(bytes)
-}
-
-// The text of news.
-#[tactic(auto, unfolding(crate::specs::AnswerText::text), using(crate::proofs::Texts::text_of_view, crate::proofs::Texts::news_is_no_float))]
-fn write_news(alloc: Global, news: &News) -> Result<Vec<u8>, NoMemory>
-    ensures { IfOk result (λ bytes. bytes.items ≡ text (Reply.News news.now)) }
-{
-    let value = value_of_news(alloc, news)?;
-    Ok(value.to_vec(alloc)?)
-}
-
-fn value_of_news(alloc: Global, news: &News) -> Result<Value, NoMemory>
-    ensures { IfOk result (λ value. view value ≡ reply_data (Reply.News news.now)) }
-{
-    let notices = values_of_notices(alloc, news.as_slice())?;
-    Ok(json!(in alloc; {"news": notices, "ok": true})?)
-}
-
-fn values_of_notices(alloc: Global, notices: &[Notice]) -> Result<Value, NoMemory>
-    ensures { IfOk result (λ value. view value ≡ notices_data notices.now) }
-{
-    let mut values = Vec::with_capacity(alloc, notices.len())?;
-    for notice in notices {
-        values.push(value_of_notice(alloc, notice)?)?;
-    }
-    Ok(Value::Array(values))
-}
-
-fn value_of_notice(alloc: Global, notice: &Notice) -> Result<Value, NoMemory>
-    ensures { IfOk result (λ value. view value ≡ notice_data notice.now) }
-{
-    let id = notice.id.text();
-    match &notice.what {
-        What::Gone => Ok(json!(in alloc; {"cancelled": true, "id": id})?),
-        What::Now(tree) => {
-            let value = to_json(alloc, tree.as_ref())?;
-            Ok(json!(in alloc; {"id": id, "value": value})?)
-        }
-    }
 }
 
 /// The text of a refusal, in one pass over what it names.

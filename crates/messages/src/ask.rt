@@ -1,9 +1,10 @@
 //! What a message asks of the database: the event that it comes to.
-ghost use Rattle.std.specs.Prelude.{◌≡◌, ◌≤◌, IfOk};
+ghost use Rattle.std.specs.Prelude.{◌≡◌, ◌<◌, ◌≤◌, length, IfOk, IsErrOf};
 ghost use Rattle.tokens.specs.Tokens.{Tokens as Secrets};
 ghost use Rattle.messages.specs.Ask.{IsAsked};
 ghost use Rattle.messages.specs.Message.{IsWithin};
 ghost use Rattle.messages.specs.Working.Asking.{IsComing};
+ghost use Rattle.messages.specs.declared.limits.TheConstants.{MAX_MESSAGE_BYTES};
 ghost use Rattle.messages.specs.declared.ask.LineFault.TheVariants.{Message as of_message, Rules as of_rules};
 
 use crate::message::{Form, MessageFault, Stamp, Wanted};
@@ -58,6 +59,7 @@ pub fn read_asked(
 ) -> Result<Asked, LineFault>
     ensures asked { IsAsked tokens.now form bytes.now result }
     ensures moment { IfOk result (λ asked. IsWithin form → asked.stamp.now ≤ MAX_MOMENT) }
+    ensures too_large { MAX_MESSAGE_BYTES < length bytes.now → IsErrOf result (LineFault.Message MessageFault.TooLarge) }
 {
     MessageReader::new(alloc).read_asked(tokens, bytes, form)
 }
@@ -74,6 +76,7 @@ impl MessageReader {
     ) -> Result<Asked, LineFault>
         ensures asked { IsAsked tokens.now form bytes.now result }
         ensures moment { IfOk result (λ asked. IsWithin form → asked.stamp.now ≤ MAX_MOMENT) }
+        ensures too_large { MAX_MESSAGE_BYTES < length bytes.now → IsErrOf result (LineFault.Message MessageFault.TooLarge) }
     {
         let request = self.read_request(bytes, form)?;
         let stamp = request.stamp;

@@ -11,11 +11,13 @@ mod code;
 mod header;
 mod limits;
 mod message;
+mod named;
+mod news;
 mod outline;
 mod reader;
 mod refusal;
 mod source;
-mod value;
+mod trees;
 
 pub use answer::{
     write_accepted, write_bad_tokens, write_fault, write_line_fault, write_refusal, write_reply,

@@ -1,5 +1,5 @@
 //! Messages: what a line of a script or a message of a socket wants.
-ghost use Rattle.std.specs.Prelude.{◌≡◌, ◌≤◌, ◌++◌, ◌∷◌, [], Some, option_map, IfOk, IfSome, OnOk};
+ghost use Rattle.std.specs.Prelude.{◌≡◌, ◌<◌, ◌≤◌, ◌++◌, ◌∷◌, [], Some, length, option_map, IfOk, IfSome, OnOk, IsErrOf};
 ghost use Rattle.std.specs.List.{list_all, list_any};
 ghost use Rattle.std.specs.Str.{bytes_eq};
 ghost use Rattle.serde_json.specs.Data.{string};
@@ -10,12 +10,12 @@ ghost use Rattle.messages.specs.Message.{Tells, value_of, whole_at, verb_named, 
 ghost use Rattle.messages.specs.declared.message.MessageFault.TheVariants.{BadRequest};
 ghost use Rattle.messages.specs.declared.message.MessageFault.TheVariants.{NoMemory as no_memory};
 ghost use Rattle.messages.specs.Working.Faults.{fault_of_path};
-ghost use Rattle.messages.specs.Working.Outline.{part_data, source_data};
+ghost use Rattle.messages.specs.Working.Outline.{said_data, part_data, object_data, source_data, message_data};
 
 use crate::limits::MAX_MESSAGE_BYTES;
-use crate::outline::{Member, Part};
+use crate::outline::{Member, Part, Said};
 use crate::reader::MessageReader;
-use crate::source::Source;
+use crate::source::{Message, Object, Source};
 use json_tree::{Leaf, NoMemory, Node, ValueFault, from_json};
 use listeners::{ListenerId, Query, QueryFault};
 use path_capture::{Path, PathFault, Write};
@@ -152,6 +152,7 @@ impl From<NoMemory> for MessageFault {
 pub fn read_request(alloc: Global, bytes: &[u8], form: Form) -> Result<Request, MessageFault>
     ensures asked { Tells (λ request. request) result (asks form bytes.now) }
     ensures moment { IfOk result (λ request. IsWithin form → request.stamp.now ≤ MAX_MOMENT) }
+    ensures too_large { MAX_MESSAGE_BYTES < length bytes.now → IsErrOf result MessageFault.TooLarge }
 {
     MessageReader::new(alloc).read_request(bytes, form)
 }
@@ -159,7 +160,8 @@ pub fn read_request(alloc: Global, bytes: &[u8], form: Form) -> Result<Request, 
 /// The value of a message.
 #[tactic(auto, unfolding(crate::specs::Message::value_of))]
 pub(crate) fn read_value(alloc: Global, bytes: &[u8]) -> Result<Value, MessageFault>
-    ensures { Tells view result (value_of bytes.now) }
+    ensures value { Tells view result (value_of bytes.now) }
+    ensures too_large { MAX_MESSAGE_BYTES < length bytes.now → IsErrOf result MessageFault.TooLarge }
 {
     if bytes.len() > MAX_MESSAGE_BYTES {
         return Err(MessageFault::TooLarge);
@@ -178,11 +180,12 @@ pub(crate) fn read_value(alloc: Global, bytes: &[u8]) -> Result<Value, MessageFa
 pub(crate) fn request_of(
     alloc: Global,
     form: Form,
-    source: Source<'_>,
+    message: &mut Message<'_>,
 ) -> Result<Request, MessageFault>
-    ensures asked { Tells (λ request. request) result (request_of form (source_data source.entry)) }
+    ensures asked { Tells (λ request. request) result (request_of form (message_data message.old)) }
     ensures moment { IfOk result (λ request. IsWithin form → request.stamp.now ≤ MAX_MOMENT) }
 {
+    let source = message.source();
     let Some(verb) = verb_in(form, source) else {
         return Err(MessageFault::BadRequest);
     };
@@ -192,7 +195,7 @@ pub(crate) fn request_of(
     let Some(stamp) = stamp_of(form, source) else {
         return Err(MessageFault::BadRequest);
     };
-    let wanted = wanted_by(alloc, verb, source)?;
+    let wanted = wanted_by(alloc, verb, message)?;
     Ok(Request { stamp, wanted })
 }
 
@@ -326,9 +329,10 @@ fn whole_at(source: Source<'_>, name: &str) -> Option<u64>
     }
 }
 
-fn wanted_by(alloc: Global, verb: Verb, source: Source<'_>) -> Result<Wanted, MessageFault>
-    ensures { Tells (λ wanted. wanted) result (wanted_by verb (source_data source.entry)) }
+fn wanted_by(alloc: Global, verb: Verb, message: &mut Message<'_>) -> Result<Wanted, MessageFault>
+    ensures { Tells (λ wanted. wanted) result (wanted_by verb (message_data message.old)) }
 {
+    let source = message.source();
     match verb {
         Verb::Open => Ok(Wanted::Step(Event::Open)),
         Verb::Close => Ok(Wanted::Step(Event::Close)),
@@ -338,12 +342,12 @@ fn wanted_by(alloc: Global, verb: Verb, source: Source<'_>) -> Result<Wanted, Me
         }
         Verb::SignOut => Ok(Wanted::Step(Event::SignOut)),
         Verb::Get => get_of(alloc, source),
-        Verb::Set => set_of(alloc, source),
+        Verb::Set => set_of(alloc, message),
         Verb::Remove => {
             let path = path_in(alloc, source)?;
             Ok(Wanted::Step(Event::Remove(path)))
         }
-        Verb::Update => update_of(alloc, source),
+        Verb::Update => update_of(alloc, message),
         Verb::Listen => listen_of(alloc, source),
         Verb::Unlisten => {
             let Some(id) = id_at(source) else {
@@ -418,8 +422,8 @@ fn id_at(source: Source<'_>) -> Option<ListenerId>
 }
 
 // The member `query`, None inside where it is left out.
-fn query_at(source: Source<'_>) -> Option<Option<&Value>>
-    ensures { option_map (λ said. option_map (λ query. view query.now) said) result ≡ query_at (source_data source.entry) }
+fn query_at(source: Source<'_>) -> Option<Option<Object<'_>>>
+    ensures { option_map (λ said. option_map object_data said) result ≡ query_at (source_data source.entry) }
 {
     match source.get("query") {
         Some(said) => Some(Some(said.object()?)),
@@ -427,11 +431,15 @@ fn query_at(source: Source<'_>) -> Option<Option<&Value>>
     }
 }
 
-fn query_said(alloc: Global, said: Option<&Value>) -> Result<Option<Query>, MessageFault>
-    ensures { Tells (λ query. query) result (query_said (option_map (λ query. view query.now) said.entry)) }
+fn query_said(alloc: Global, said: Option<Object<'_>>) -> Result<Option<Query>, MessageFault>
+    ensures { Tells (λ query. query) result (query_said (option_map object_data said.entry)) }
 {
     match said {
-        Some(value) => query_of(alloc, value),
+        Some(Object::Named(named)) => {
+            let value = named.value(alloc)?;
+            query_of(alloc, &value)
+        }
+        Some(Object::Held(value)) => query_of(alloc, value),
         None => Ok(None),
     }
 }
@@ -446,38 +454,40 @@ fn query_of(alloc: Global, value: &Value) -> Result<Option<Query>, MessageFault>
     }
 }
 
-fn set_of(alloc: Global, source: Source<'_>) -> Result<Wanted, MessageFault>
-    ensures { Tells (λ wanted. wanted) result (wanted_by Verb.Set (source_data source.entry)) }
+fn set_of(alloc: Global, message: &mut Message<'_>) -> Result<Wanted, MessageFault>
+    ensures { Tells (λ wanted. wanted) result (wanted_by Verb.Set (message_data message.old)) }
 {
+    let source = message.source();
     let Some(text) = source.text_at("path") else {
         return Err(MessageFault::BadRequest);
     };
-    let Some(written) = source.get("value") else {
+    if source.get("value").is_none() {
         return Err(MessageFault::BadRequest);
-    };
+    }
     let path = path_of(alloc, text)?;
-    let tree = tree_of(alloc, written)?;
+    let tree = message.take_tree(alloc, "value")?;
     let write = write_at(path, tree)?;
     Ok(Wanted::Step(Event::Set(write)))
 }
 
-fn update_of(alloc: Global, source: Source<'_>) -> Result<Wanted, MessageFault>
-    ensures { Tells (λ wanted. wanted) result (wanted_by Verb.Update (source_data source.entry)) }
+fn update_of(alloc: Global, message: &mut Message<'_>) -> Result<Wanted, MessageFault>
+    ensures { Tells (λ wanted. wanted) result (wanted_by Verb.Update (message_data message.old)) }
 {
+    let source = message.source();
     let Some(text) = source.text_at("path") else {
         return Err(MessageFault::BadRequest);
     };
-    let Some(members) = source.get("values").and_then(Part::as_object) else {
+    if source.get("values").and_then(Part::object).is_none() {
         return Err(MessageFault::BadRequest);
-    };
+    }
     let path = path_of(alloc, text)?;
-    let writes = writes_below(alloc, &path, members)?;
+    let writes = message.take_writes(alloc, "values", &path)?;
     Ok(Wanted::Step(Event::Update(Writes::of_vec(writes))))
 }
 
 // The writes of an update, whose members stand in the byte order of their names.
 #[tactic(auto, using(crate::proofs::Members::at_first, crate::proofs::Members::at_last, crate::proofs::Members::one_more, crate::proofs::Members::at_fault))]
-fn writes_below(
+pub(crate) fn writes_below(
     alloc: Global,
     path: &Path,
     members: &Map<String, Value>,
@@ -492,13 +502,13 @@ fn writes_below(
     Ok(writes)
 }
 
-fn with_room(alloc: Global, count: usize) -> Result<Vec<Write>, NoMemory>
+pub(crate) fn with_room(alloc: Global, count: usize) -> Result<Vec<Write>, NoMemory>
     ensures { IfOk result (λ writes. writes.items ≡ []) }
 {
     Ok(Vec::with_capacity(alloc, count)?)
 }
 
-fn keep(writes: &mut Vec<Write>, write: Write) -> Result<(), NoMemory>
+pub(crate) fn keep(writes: &mut Vec<Write>, write: Write) -> Result<(), NoMemory>
     ensures { OnOk result (writes.new.items ≡ writes.old.items ++ write ∷ []) }
 {
     writes.push(write)?;
@@ -513,7 +523,7 @@ fn write_below(alloc: Global, path: &Path, name: &str, value: &Value) -> Result<
     write_at(at, tree)
 }
 
-fn path_below(alloc: Global, path: &Path, name: &str) -> Result<Path, MessageFault>
+pub(crate) fn path_below(alloc: Global, path: &Path, name: &str) -> Result<Path, MessageFault>
     ensures { Tells (λ at. at) result (path_below path.now name.now) }
 {
     let mut below = path_of(alloc, name)?;
@@ -543,16 +553,17 @@ fn fault_of_path(fault: PathFault) -> MessageFault
     }
 }
 
-// The tree of a member.
-fn tree_of(alloc: Global, part: Part<'_>) -> Result<Option<Node>, MessageFault>
-    ensures { Tells tree_or_null result (tree_of_value (part_data part.entry)) }
+/// The tree of a member of an outline.
+pub(crate) fn tree_of(alloc: Global, said: Said<'_>) -> Result<Option<Node>, MessageFault>
+    ensures { Tells tree_or_null result (tree_of_value (said_data said.entry)) }
 {
-    match part {
-        Part::Null => tree_of_value(alloc, &Value::Null),
-        Part::Truth(truth) => tree_of_value(alloc, &Value::Bool(truth)),
-        Part::Whole(whole) => tree_of_value(alloc, &Value::from(whole)),
-        Part::Words(text) => tree_of_text(alloc, text),
-        Part::Held(value) => tree_of_value(alloc, value),
+    match said {
+        Said::Null => tree_of_value(alloc, &Value::Null),
+        Said::Truth(truth) => tree_of_value(alloc, &Value::Bool(truth)),
+        Said::Whole(whole) => tree_of_value(alloc, &Value::from(whole)),
+        Said::Negative(negative) => tree_of_value(alloc, &Value::from(negative)),
+        Said::Words(text) => tree_of_text(alloc, text),
+        Said::Named(named) => named.into_tree(alloc),
     }
 }
 
@@ -579,7 +590,7 @@ pub(crate) fn tree_of_value(alloc: Global, value: &Value) -> Result<Option<Node>
     }
 }
 
-fn write_at(path: Path, tree: Option<Node>) -> Result<Write, MessageFault>
+pub(crate) fn write_at(path: Path, tree: Option<Node>) -> Result<Write, MessageFault>
     ensures { Tells (λ write. write) result (write_at path (tree_or_null tree)) }
 {
     match Write::new(path, tree) {

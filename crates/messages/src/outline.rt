@@ -1,5 +1,5 @@
 //! The outline of a message: its members, read in one pass. Their names and texts are borrowed from the
-//! line, and only what nests takes memory.
+//! line, and only trees take memory.
 ghost use Rattle.std.specs.Prelude.{◌≡◌, ◌≤◌, Some, IfSome, length, option_map};
 ghost use Rattle.json.specs.Reads.{token_of};
 ghost use Rattle.serde_json.specs.Data.{no_members, object};
@@ -7,7 +7,8 @@ ghost use Rattle.serde_json.specs.Find.{get_member};
 ghost use Rattle.serde_json.specs.Read.{read};
 ghost use Rattle.messages.specs.Working.Outline.{said_data, part_data, put_all, IsRead, Gives};
 
-use crate::value::{value_from, value_of_negative, whole_of};
+use crate::named::Named;
+use crate::trees::{named_from, negative_of, whole_of};
 use arrayvec::ArrayVec;
 use json::{Reader, Scratch, Token};
 use serde_json::Value;
@@ -27,9 +28,11 @@ pub(crate) enum Said<'a> {
     Truth(bool),
     /// A whole number from 0 to 2^64 - 1.
     Whole(u64),
+    /// A whole number below 0.
+    Negative(i64),
     Words(&'a str),
-    /// Any other value.
-    Held(Value),
+    /// An object of trees.
+    Named(Named<'a>),
 }
 
 /// What a member of a message is, borrowed.
@@ -39,7 +42,11 @@ pub(crate) enum Part<'a> {
     Truth(bool),
     /// A whole number from 0 to 2^64 - 1.
     Whole(u64),
+    /// A whole number below 0.
+    Negative(i64),
     Words(&'a str),
+    /// An object of trees.
+    Named(&'a Named<'a>),
     /// Any value.
     Held(&'a Value),
 }
@@ -52,8 +59,9 @@ impl Said<'_> {
             Said::Null => Part::Null,
             Said::Truth(truth) => Part::Truth(*truth),
             Said::Whole(whole) => Part::Whole(*whole),
+            Said::Negative(negative) => Part::Negative(*negative),
             Said::Words(text) => Part::Words(text),
-            Said::Held(value) => Part::Held(value),
+            Said::Named(named) => Part::Named(named),
         }
     }
 }
@@ -73,7 +81,7 @@ pub(crate) struct Outline<'a> {
 
 impl<'a> Outline<'a> {
     /// The outline of a text. None where it is no object, where it has more members than fit, and where
-    /// one of them is no value, has a number that is not a whole one of 64 bits, or wants memory.
+    /// one of them is no value, is one that [`named_from`] leaves, or wants memory.
     pub fn read(alloc: Global, text: &'a str, scratch: &'a mut Scratch) -> Option<Outline<'a>>
         ensures { IfSome result (λ outline. read text.now ≡ Some (object (put_all outline.members.items no_members))) }
     {
@@ -93,6 +101,18 @@ impl<'a> Outline<'a> {
         ensures { result.now ≡ self.now.members.items }
     {
         self.members.as_slice()
+    }
+
+    /// Takes out what the last member of this name is: a look at each. Those behind it go too.
+    pub fn take(&mut self, name: &str) -> Option<Said<'a>>
+        ensures { option_map said_data result ≡ get_member name.now (put_all self.old.members.items no_members) }
+    {
+        'members: while let Some(member) = self.members.pop() {
+            if member.name == name {
+                return Some(member.said);
+            }
+        }
+        None
     }
 }
 
@@ -120,14 +140,15 @@ fn said_from<'a>(alloc: Global, reader: &mut Reader<'a>, token: Token<'a>) -> Op
         Token::String(text) => Some(Said::Words(text)),
         Token::Number(text) => match whole_of(text) {
             Some(whole) => Some(Said::Whole(whole)),
-            None => Some(Said::Held(value_of_negative(text)?)),
+            None => Some(Said::Negative(negative_of(text)?)),
         },
         Token::Bool(truth) => Some(Said::Truth(truth)),
         Token::Null => Some(Said::Null),
-        _ => {
-            let value = value_from(alloc, reader, token, MAX_MEMBER_LEVELS)?;
-            Some(Said::Held(value))
+        Token::BeginObject => {
+            let named = named_from(alloc, reader, MAX_MEMBER_LEVELS - 1)?;
+            Some(Said::Named(named))
         }
+        _ => None,
     }
 }
 

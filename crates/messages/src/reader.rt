@@ -1,5 +1,5 @@
 //! Who reads messages, one after another.
-ghost use Rattle.std.specs.Prelude.{◌≡◌, ◌≤◌, Ok, IfOk, IfSome};
+ghost use Rattle.std.specs.Prelude.{◌≡◌, ◌<◌, ◌≤◌, Ok, length, IfOk, IfSome, IsErrOf, IsSome};
 ghost use Rattle.serde_json.specs.Data.{no_members, object};
 ghost use Rattle.messages.specs.Message.{Tells, IsWithin, value_of, asks};
 ghost use Rattle.messages.specs.Working.Outline.{put_all};
@@ -7,7 +7,7 @@ ghost use Rattle.messages.specs.Working.Outline.{put_all};
 use crate::limits::MAX_MESSAGE_BYTES;
 use crate::message::{Form, MessageFault, Request, read_value, request_of};
 use crate::outline::Outline;
-use crate::source::Source;
+use crate::source::Message;
 use json::Scratch;
 use rtdb_core::MAX_MOMENT;
 use std::alloc::Global;
@@ -35,26 +35,28 @@ impl MessageReader {
     }
 
     /// What a message asks, or its first fault: as [`crate::read_request`]. It is one pass over the bytes,
-    /// in which what is wanted takes memory, a value that is an object or an array, and no more. Where
-    /// that does not lead to members, by a number that is not whole or too many members or since the
-    /// message is none, the bytes are read once more, as a value.
+    /// in which what is wanted takes memory, and the list of each object's members. Where that does not
+    /// lead to members, by a number that is not whole, an array, a null that is no member of an update, or
+    /// since the message is none, the bytes are read once more, as a value.
     #[tactic(auto, unfolding(crate::specs::Message::asks))]
     pub fn read_request(&mut self, bytes: &[u8], form: Form) -> Result<Request, MessageFault>
         ensures asked { Tells (λ request. request) result (asks form bytes.now) }
         ensures moment { IfOk result (λ request. IsWithin form → request.stamp.now ≤ MAX_MOMENT) }
+        ensures too_large { MAX_MESSAGE_BYTES < length bytes.now → IsErrOf result MessageFault.TooLarge }
     {
         let alloc = self.alloc;
         if let Some(outline) = outline_of(alloc, &mut self.scratch, bytes) {
-            return request_of(alloc, form, Source::Outline(outline.members()));
+            return request_of(alloc, form, &mut Message::Outlined(outline));
         }
         let value = read_value(alloc, bytes)?;
-        request_of(alloc, form, Source::Held(&value))
+        request_of(alloc, form, &mut Message::Held(value))
     }
 }
 
 // The outline of a message that is not too large.
 fn outline_of<'a>(alloc: Global, scratch: &'a mut Scratch, bytes: &'a [u8]) -> Option<Outline<'a>>
-    ensures { IfSome result (λ outline. value_of bytes.now ≡ Ok (object (put_all outline.members.items no_members))) }
+    ensures value { IfSome result (λ outline. value_of bytes.now ≡ Ok (object (put_all outline.members.items no_members))) }
+    ensures fits { IsSome result → length bytes.now ≤ MAX_MESSAGE_BYTES }
 {
     if bytes.len() > MAX_MESSAGE_BYTES {
         return None;

@@ -1,17 +1,87 @@
 //! Where the members of a message are read: in its outline, or in the value that its bytes are.
-ghost use Rattle.std.specs.Prelude.{◌≡◌, option_map, option_and_then};
+ghost use Rattle.std.specs.Prelude.{◌≡◌, option_map, option_and_then, unwrap_or};
+ghost use Rattle.serde_json.specs.Data.{null, no_members};
 ghost use Rattle.serde_json.specs.Find.{get, as_str, as_number, as_u64, as_object};
 ghost use Rattle.serde_json.specs.View.{view, members_view};
+ghost use Rattle.path_capture.specs.Write.{tree_or_null};
 ghost use Rattle.tokens.specs.Tokens.{text_at};
-ghost use Rattle.messages.specs.Working.Outline.{part_data, source_data};
+ghost use Rattle.messages.specs.Message.{Tells, tree_of_value, writes_below};
+ghost use Rattle.messages.specs.Working.Outline.{part_data, object_data, source_data, message_data};
 
-use crate::outline::{Member, Part, part_at};
-use serde_json::{Map, Value};
+use crate::message::{MessageFault, tree_of, tree_of_value, writes_below};
+use crate::named::Named;
+use crate::outline::{Member, Outline, Part, Said, part_at};
+use json_tree::Node;
+use path_capture::{Path, Write};
+use serde_json::Value;
+use std::alloc::Global;
+
+/// A message that was read: its outline, or the value that its bytes are.
+#[derive(Drop)]
+pub(crate) enum Message<'a> {
+    Outlined(Outline<'a>),
+    Held(Value),
+}
+
+impl<'a> Message<'a> {
+    /// Where its members are read.
+    pub fn source(&self) -> Source<'_>
+        ensures { source_data result ≡ message_data self.now }
+    {
+        match self {
+            Message::Outlined(outline) => Source::Outline(outline.members()),
+            Message::Held(value) => Source::Held(value),
+        }
+    }
+
+    /// The tree of a member, which is taken out of an outline; null where none has the name.
+    pub fn take_tree(&mut self, alloc: Global, name: &str) -> Result<Option<Node>, MessageFault>
+        ensures { Tells tree_or_null result (tree_of_value (unwrap_or (get name.now (message_data self.old)) null)) }
+    {
+        match self {
+            Message::Outlined(outline) => tree_of(alloc, outline.take(name).unwrap_or_default()),
+            Message::Held(value) => match value.get(name) {
+                Some(member) => tree_of_value(alloc, member),
+                None => tree_of_value(alloc, &Value::Null),
+            },
+        }
+    }
+
+    /// The writes of an update below a path, of which the members of a member are those, taken out of an
+    /// outline; none where it is no object.
+    pub fn take_writes(
+        &mut self,
+        alloc: Global,
+        name: &str,
+        path: &Path,
+    ) -> Result<Vec<Write>, MessageFault>
+        ensures { Tells (λ writes. writes.items) result
+            (writes_below path.now (unwrap_or (option_and_then as_object (get name.now (message_data self.old))) no_members)) }
+    {
+        match self {
+            Message::Outlined(outline) => match outline.take(name) {
+                Some(Said::Named(named)) => named.into_writes(alloc, path),
+                _ => Ok(Vec::new(alloc)),
+            },
+            Message::Held(value) => match value.get(name).and_then(Value::as_object) {
+                Some(members) => writes_below(alloc, path, members),
+                None => Ok(Vec::new(alloc)),
+            },
+        }
+    }
+}
 
 /// Where the members of a message are read.
 #[derive(Clone, Copy)]
 pub(crate) enum Source<'a> {
     Outline(&'a [Member<'a>]),
+    Held(&'a Value),
+}
+
+/// An object, borrowed.
+#[derive(Clone, Copy)]
+pub(crate) enum Object<'a> {
+    Named(&'a Named<'a>),
     Held(&'a Value),
 }
 
@@ -42,7 +112,8 @@ impl<'a> Part<'a> {
         match self {
             Part::Words(text) => Some(text),
             Part::Held(value) => value.as_str(),
-            Part::Null | Part::Truth(_) | Part::Whole(_) => None,
+            Part::Null | Part::Truth(_) | Part::Whole(_) | Part::Negative(_) | Part::Named(_) =>
+                None,
         }
     }
 
@@ -52,28 +123,25 @@ impl<'a> Part<'a> {
     {
         match self {
             Part::Whole(whole) => Some(whole),
+            Part::Negative(negative) => Value::from(negative).as_u64(),
             Part::Held(value) => value.as_u64(),
-            Part::Null | Part::Truth(_) | Part::Words(_) => None,
+            Part::Null | Part::Truth(_) | Part::Words(_) | Part::Named(_) => None,
         }
     }
 
-    /// The members of the object that it is.
-    pub fn as_object(self) -> Option<&'a Map<String, Value>>
-        ensures { option_map (λ members. members_view members.now.entries) result ≡ as_object (part_data self.entry) }
+    /// It, if it is an object.
+    pub fn object(self) -> Option<Object<'a>>
+        ensures { option_map object_data result ≡ option_map (λ members. part_data self.entry) (as_object (part_data self.entry)) }
     {
         match self {
-            Part::Held(value) => value.as_object(),
-            Part::Null | Part::Truth(_) | Part::Whole(_) | Part::Words(_) => None,
-        }
-    }
-
-    /// The value itself, if it is an object.
-    pub fn object(self) -> Option<&'a Value>
-        ensures { option_map (λ value. view value.now) result ≡ option_map (λ members. part_data self.entry) (as_object (part_data self.entry)) }
-    {
-        match self {
-            Part::Held(value) => if value.is_object() { Some(value) } else { None },
-            Part::Null | Part::Truth(_) | Part::Whole(_) | Part::Words(_) => None,
+            Part::Named(named) => Some(Object::Named(named)),
+            Part::Held(value) => if value.is_object() {
+                Some(Object::Held(value))
+            } else {
+                None
+            },
+            Part::Null | Part::Truth(_) | Part::Whole(_) | Part::Negative(_) | Part::Words(_) =>
+                None,
         }
     }
 }

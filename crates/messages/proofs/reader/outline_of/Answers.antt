@@ -7,8 +7,8 @@ use Rattle.messages.specs.Working.Outline.{put_all}
 use Rattle.messages.proofs.Messages.{value_is}
 use Rattle.messages.proofs.reader.outline_of.Goals as goal
 
-pub returns : goal.returns
-returns c =
+pub returns-clause-value : goal.returns-clause-value
+returns-clause-value c =
     let bytes = c.args.bytes.now in
     let text : (c.in_ok-text.text.now ≡ bytes) × IsUtf8 bytes = grind arith in
     IfSome_then c.read.result c.read.ensures (λ outline is. value_is bytes (object (put_all outline.members.items no_members)) c.if-bytes-gt-MAX_MESSAGE_BYTES.false text.1 (ap read (sym text.0) ∙ is))

@@ -1,7 +1,7 @@
 use Rattle.std.proofs.Common.{◌≡◌, get_or, drop, true, ◌==◌, ◌∙◌, ap, sym, arith, rules, take_all, length-drop}
 use Rattle.fast_float.specs.Text.{scan}
 use Rattle.serde_json.specs.Read.{number_of, number_from}
-use Rattle.messages.proofs.value.negative_of.Goals as goal
+use Rattle.messages.proofs.trees.negative_of.Goals as goal
 
 pub returns : goal.returns
 unfolding number_of

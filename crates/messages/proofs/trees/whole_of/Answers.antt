@@ -1,6 +1,6 @@
 use Rattle.std.proofs.Common.{◌≡◌, get_or, false, ◌==◌, ◌∙◌, ap, sym, ne_eqb}
 use Rattle.serde_json.specs.Read.{number_of, number_from}
-use Rattle.messages.proofs.value.whole_of.Goals as goal
+use Rattle.messages.proofs.trees.whole_of.Goals as goal
 
 pub returns : goal.returns
 unfolding number_of

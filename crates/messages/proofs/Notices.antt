@@ -1,0 +1,74 @@
+-- The text of news, notice by notice.
+use Rattle.std.proofs.Common.{◌≡◌, ℕ, ◌+◌, ◌<◌, Bool, false, true, List, ◌++◌, map, length, get_or, drop, sym, ap, ◌∙◌, refl, append_assoc}
+use Rattle.std.specs.Prelude.{codes, unwrap_or, Option}
+use Rattle.json.specs.Print.{quoted}
+use Rattle.serde_json.specs.Written.{compact_text, items_text, comma_if}
+use Rattle.serde_json.proofs.OnLiterals.{serde_json_on_literals}
+use Rattle.tree_model.specs.Tree.{Tree, null}
+use Rattle.json_tree.specs.Json.{value_of}
+use Rattle.json_tree.proofs.Lists.{drop_next}
+use Rattle.path_capture.specs.Write.{tree_or_null}
+use Rattle.rtdb_core.specs.declared.news.Notice.{Notice}
+use Rattle.rtdb_core.specs.declared.news.What.TheVariants.{Gone, Now}
+use Rattle.rtdb_core.specs.declared.reply.Reply.TheVariants.{News}
+use Rattle.messages.specs.AnswerText.{notice_data, items_of, text}
+use Rattle.messages.proofs.Texts.{tree_is}
+
+-- the notices that are left, with the closing bracket
+abbrev pub left_text : Bool → List Notice → List ℕ
+left_text later notices = items_text later (items_of (map notice_data notices))
+
+regrouped : (a b c d : List ℕ) → ((a ++ b) ++ c) ++ d ≡ a ++ (b ++ (c ++ d))
+regrouped a b c d = append_assoc (a ++ b) c d ∙ append_assoc a b (c ++ d)
+
+-- one notice more is told
+pub told_next : (notices : List Notice) (i : ℕ) (n : Notice) (later : Bool) (told front next all : List ℕ) → i < length notices → n ≡ get_or notices i n → told ++ left_text later (drop i notices) ≡ all
+    → front ≡ told ++ comma_if later → next ≡ front ++ compact_text (notice_data n) → next ++ left_text true (drop (i + 1) notices) ≡ all
+told_next notices i n later told front next all within is so_far comma notice =
+    ap (λ s. s ++ left_text true (drop (i + 1) notices)) (notice ∙ ap (λ s. s ++ compact_text (notice_data n)) comma)
+    ∙ regrouped told (comma_if later) (compact_text (notice_data n)) (left_text true (drop (i + 1) notices))
+    ∙ ap (λ ns. told ++ left_text later ns) (sym (drop_next notices i n within is))
+    ∙ so_far
+
+-- ---- a notice
+
+gone_text : (id : List ℕ) → codes "{\"cancelled\":true,\"id\":" ++ (quoted id ++ codes "}") ≡ compact_text (notice_data (record { id = id; what = Gone }))
+unfolding serde_json_on_literals
+gone_text id = refl
+
+now_text : (id : List ℕ) (tree : Option Tree) → codes "{\"id\":" ++ (quoted id ++ (codes ",\"value\":" ++ (compact_text (value_of (tree_or_null tree)) ++ codes "}"))) ≡ compact_text (notice_data (record { id = id; what = Now tree }))
+unfolding serde_json_on_literals
+now_text id tree = refl
+
+pub gone_told : (bytes front named all id : List ℕ) (notice : Notice) → id ≡ notice.id → notice.what ≡ Gone → front ≡ bytes ++ codes "{\"cancelled\":true,\"id\":" → named ≡ front ++ quoted id → all ≡ named ++ codes "}" → all ≡ bytes ++ compact_text (notice_data notice)
+gone_told bytes front named all id notice same gone begins goes_on closes =
+    closes
+    ∙ ap (λ s. s ++ codes "}") (goes_on ∙ ap (λ s. s ++ quoted id) begins)
+    ∙ regrouped bytes (codes "{\"cancelled\":true,\"id\":") (quoted id) (codes "}")
+    ∙ ap (λ s. bytes ++ s) (gone_text id ∙ (λ i. compact_text (notice_data (record { id = same i; what = sym gone i }))))
+
+pub now_told : (bytes front named middle valued all id : List ℕ) (tree : Option Tree) (notice : Notice) → id ≡ notice.id → notice.what ≡ Now tree → front ≡ bytes ++ codes "{\"id\":" → named ≡ front ++ quoted id
+    → middle ≡ named ++ codes ",\"value\":" → valued ≡ middle ++ compact_text (value_of (unwrap_or tree null)) → all ≡ valued ++ codes "}" → all ≡ bytes ++ compact_text (notice_data notice)
+now_told bytes front named middle valued all id tree notice same now begins goes_on parts value closes =
+    let text = compact_text (value_of (tree_or_null tree)) in
+    closes
+    ∙ ap (λ s. s ++ codes "}") (value ∙ ap (λ t. middle ++ compact_text (value_of t)) (tree_is tree))
+    ∙ append_assoc middle text (codes "}")
+    ∙ ap (λ s. s ++ (text ++ codes "}")) parts
+    ∙ append_assoc named (codes ",\"value\":") (text ++ codes "}")
+    ∙ ap (λ s. s ++ (codes ",\"value\":" ++ (text ++ codes "}"))) (goes_on ∙ ap (λ s. s ++ quoted id) begins)
+    ∙ regrouped bytes (codes "{\"id\":") (quoted id) (codes ",\"value\":" ++ (text ++ codes "}"))
+    ∙ ap (λ s. bytes ++ s) (now_text id tree ∙ (λ i. compact_text (notice_data (record { id = same i; what = sym now i }))))
+
+-- the text of news round that of the notices
+pub news_text : (notices : List Notice) → codes "{\"news\":[" ++ (left_text false notices ++ codes ",\"ok\":true}") ≡ text (News notices)
+unfolding text serde_json_on_literals
+news_text notices = refl
+
+pub news_closed : (notices : List Notice) (front told bytes : List ℕ) → front ≡ codes "{\"news\":[" → told ++ codes "]" ≡ front ++ left_text false notices → bytes ≡ told ++ codes "],\"ok\":true}" → bytes ≡ text (News notices)
+news_closed notices front told bytes begins is closes =
+    closes
+    ∙ sym (append_assoc told (codes "]") (codes ",\"ok\":true}"))
+    ∙ ap (λ s. s ++ codes ",\"ok\":true}") (is ∙ ap (λ s. s ++ left_text false notices) begins)
+    ∙ append_assoc (codes "{\"news\":[") (left_text false notices) (codes ",\"ok\":true}")
+    ∙ news_text notices
