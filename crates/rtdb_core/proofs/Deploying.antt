@@ -1,21 +1,26 @@
 -- Each deployment is judged.
-use Rattle.std.proofs.Common.{◌≡◌, ◌≢◌, ℕ, Bool, true, false, cond, not, refl, sym, ◌∙◌}
+use Rattle.std.proofs.Common.{◌≡◌, ◌||◌, ℕ, Bool, true, false, cond, not, refl, sym, ap, ◌∙◌}
 use Rattle.std.proofs.lemmas.Bool.{false≢true}
 use Rattle.rules_reader.specs.Book.{Book}
+use Rattle.rtdb_core.specs.declared.event.Event.TheVariants.{Deploy}
 use Rattle.rtdb_core.specs.declared.reply.Refusal.TheVariants.{NoSession, NotAdmin, NoMemory}
 use Rattle.rtdb_core.specs.declared.reply.Reply.TheVariants.{Done}
 use Rattle.rtdb_core.specs.State.{State, is_open, identity_of, is_admin}
-use Rattle.rtdb_core.specs.Step.{Outcome, refused, deployed, deploys}
+use Rattle.rtdb_core.specs.Step.{Outcome, refused, deployed, deploys, takes_no_memory}
 use Rattle.rtdb_core.specs.Headline.{IsDeployJudged}
 
 module _ (old : State) (now session : ℕ) (rules : Book) where
   abbrev pub DeployJudged : Outcome → Type 0
   DeployJudged o = IsDeployJudged old now session rules o.reply o.after
 
-  pub deploy_for_memory : DeployJudged (refused old NoMemory)
-  deploy_for_memory = record {
+  -- who is no administrator is refused without memory
+  refused_at_once : is_open old session ≡ true → is_admin (identity_of old session) ≡ false → takes_no_memory old session (Deploy rules) ≡ true
+  refused_at_once opened none = ap (λ (b : Bool). not (is_open old session) || not b) none ∙ ap (λ (b : Bool). not b || true) opened
+
+  pub deploy_for_memory : takes_no_memory old session (Deploy rules) ≡ false → DeployJudged (refused old NoMemory)
+  deploy_for_memory wants = record {
     accepts = λ n _ _. absurd (n refl);
-    refuses = λ n _ _. absurd (n refl);
+    refuses = λ opened none. absurd (false≢true (sym wants ∙ refused_at_once opened none));
     accepted = λ e. cc;
     refused = λ e. cc;
   }
@@ -23,7 +28,7 @@ module _ (old : State) (now session : ℕ) (rules : Book) where
   deploy_closed : is_open old session ≡ false → DeployJudged (refused old NoSession)
   deploy_closed closed = record {
     accepts = λ _ opened _. absurd (false≢true (sym closed ∙ opened));
-    refuses = λ _ opened _. absurd (false≢true (sym closed ∙ opened));
+    refuses = λ opened _. absurd (false≢true (sym closed ∙ opened));
     accepted = λ e. cc;
     refused = λ e. cc;
   }
@@ -31,7 +36,7 @@ module _ (old : State) (now session : ℕ) (rules : Book) where
   deploy_refused : is_open old session ≡ true → is_admin (identity_of old session) ≡ false → DeployJudged (refused old NotAdmin)
   deploy_refused opened none = record {
     accepts = λ _ _ admin. absurd (false≢true (sym none ∙ admin));
-    refuses = λ _ _ _. refl;
+    refuses = λ _ _. refl;
     accepted = λ e. cc;
     refused = λ e. (opened, none);
   }
@@ -39,7 +44,7 @@ module _ (old : State) (now session : ℕ) (rules : Book) where
   deploy_done : is_open old session ≡ true → is_admin (identity_of old session) ≡ true → DeployJudged (record { reply = Done; after = deployed old now rules })
   deploy_done opened admin = record {
     accepts = λ _ _ _. (refl, refl);
-    refuses = λ _ _ none. absurd (false≢true (sym none ∙ admin));
+    refuses = λ _ none. absurd (false≢true (sym none ∙ admin));
     accepted = λ e. (opened, admin, refl);
     refused = λ e. cc;
   }

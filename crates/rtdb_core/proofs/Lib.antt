@@ -6,13 +6,16 @@ pub mod Slots
 pub mod Sameness
 pub mod Histories
 pub mod Outcomes
+pub mod Naming
 pub mod ReadJudging
 pub mod ListenJudging
 pub mod WriteJudging
 pub mod AnyOrder
 pub mod Deploying
+pub mod Stopping
 pub mod StepLaws
 pub mod RunLaws
+pub mod WorkedValues
 pub mod Kept
 pub mod Changes
 pub mod Polls

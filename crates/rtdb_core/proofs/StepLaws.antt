@@ -1,5 +1,6 @@
 -- What each step gives.
-use Rattle.std.proofs.Common.{Option, ◌≡◌, ◌≢◌, ◌==◌, ◌&&◌, ℕ, cond, inl, inr, List, refl, sym, ap, subst, ◌∙◌}
+use Rattle.std.proofs.Common.{Option, true, ◌≡◌, ◌≢◌, ◌==◌, ◌&&◌, ℕ, cond, inl, inr, List, refl, sym, ap, subst, ◌∙◌}
+use Rattle.std.proofs.lemmas.Bool.{false≢true}
 use Rattle.tree_model.specs.Path.{Path}
 use Rattle.tree_model.specs.Write.{Write}
 use Rattle.rules_reader.specs.Book.{Book}
@@ -12,12 +13,13 @@ use Rattle.rtdb_core.specs.declared.reply.Refusal.TheVariants.{NoMemory}
 use Rattle.rtdb_core.specs.declared.reply.Reply.{Reply}
 use Rattle.rtdb_core.specs.declared.reply.Reply.TheVariants.{Refused}
 use Rattle.rtdb_core.specs.State.{State, identity_of}
-use Rattle.rtdb_core.specs.Step.{Outcome, refused, removal, outcome, Step, Call}
-use Rattle.rtdb_core.specs.Headline.{AsksFor, IsReadJudged, IsListenJudged, IsPollJudged, IsWriteJudged, IsDeployJudged, is_done, rules_by, identity_by, IsJudged}
+use Rattle.rtdb_core.specs.Step.{Outcome, refused, removal, outcome, takes_no_memory, Step, Call}
+use Rattle.rtdb_core.specs.Headline.{AsksFor, IsStoppedRightly, Leaves, IsDoneRightly, IsReadJudged, IsListenJudged, IsPollJudged, IsWriteJudged, IsDeployJudged, is_done, rules_by, identity_by, IsJudged}
 use Rattle.rtdb_core.proofs.Deploying.{DeployJudged, deploy_for_memory, deploy_judged}
-use Rattle.rtdb_core.proofs.ListenJudging.{ListenJudged, listen_for_memory, listen_judged, poll_for_memory, poll_judged}
+use Rattle.rtdb_core.proofs.ListenJudging.{ListenJudged, listen_for_memory, listen_judged, PollJudged, poll_for_memory, poll_judged}
 use Rattle.rtdb_core.proofs.Outcomes.{fine}
 use Rattle.rtdb_core.proofs.ReadJudging.{ReadJudged, read_for_memory, read_judged}
+use Rattle.rtdb_core.proofs.Stopping.{stopped_rightly, stop_for_memory, done_rightly, done_for_memory}
 use Rattle.rtdb_core.proofs.WriteJudging.{WriteJudged, write_for_memory, set_judged, update_judged}
 
 -- ---- laws of every step
@@ -26,6 +28,12 @@ pub refused_stays : (old new : State) (now session : ℕ) (event : Event) (refus
 unfolding Step
 refused_stays old new now session event refusal (inl h) = sym (ap (λ (o : Outcome). o.after) h) ∙ (fine old now session event).stays refusal (ap (λ (o : Outcome). o.reply) h)
 refused_stays old new now session event refusal (inr h) = h.1
+
+-- what takes no memory is not answered by want of it
+pub answered : (old new : State) (now session : ℕ) (event : Event) (reply : Reply) → takes_no_memory old session event ≡ true → Step old now session event reply new → reply ≢ Refused NoMemory
+unfolding Step
+answered old new now session event reply none (inl h) = λ e. (fine old now session event).answers (ap (λ (o : Outcome). o.reply) h ∙ e)
+answered old new now session event reply none (inr h) = λ _. false≢true (sym h.2 ∙ none)
 
 pub rules_are : (old new : State) (now session : ℕ) (event : Event) (reply : Reply) → Step old now session event reply new → new.rules ≡ cond (is_done reply) (rules_by event old.rules) old.rules
 unfolding Step
@@ -62,20 +70,30 @@ one_answer old new other now session event reply another n m s t =
 for_memory : (old new : State) (reply : Reply) → reply ≡ Refused NoMemory → new ≡ old → ◌≡◌ {A = Outcome} (refused old NoMemory) (record { reply = reply; after = new })
 for_memory old new reply r n = λ i. record { reply = sym r i; after = sym n i }
 
-read_by : (old new : State) (now session : ℕ) (path : Path) (query : Option Query) (reply : Reply) → Step old now session (Get path query) reply new → IsReadJudged old now session path query reply new
+stopped_by : (old new : State) (now session : ℕ) (event : Event) (reply : Reply) → Step old now session event reply new → IsStoppedRightly old session event reply
 unfolding Step
-read_by old new now session path query reply (inl h) = subst (ReadJudged old now session path query) h (read_judged old now session path query)
-read_by old new now session path query reply (inr h) = subst (ReadJudged old now session path query) (for_memory old new reply h.0 h.1) (read_for_memory old now session path query)
+stopped_by old new now session event reply (inl h) = subst (λ (o : Outcome). IsStoppedRightly old session event o.reply) h (stopped_rightly old now session event)
+stopped_by old new now session event reply (inr h) = subst (IsStoppedRightly old session event) (sym h.0) (stop_for_memory old session event h.2)
 
-listened_by : (old new : State) (now session : ℕ) (id : List ℕ) (path : Path) (query : Option Query) (reply : Reply) → Step old now session (Listen id path query) reply new → IsListenJudged old now session id path query reply new
+done_by : (old new : State) (now session : ℕ) (event : Event) (left : State) (reply : Reply) → Leaves old now session event left → Step old now session event reply new → IsDoneRightly old session event left reply new
 unfolding Step
-listened_by old new now session id path query reply (inl h) = subst (ListenJudged old now session id path query) h (listen_judged old now session id path query)
-listened_by old new now session id path query reply (inr h) = subst (ListenJudged old now session id path query) (for_memory old new reply h.0 h.1) (listen_for_memory old now session id path query)
+done_by old new now session event left reply leaves (inl h) = subst (λ (o : Outcome). IsDoneRightly old session event left o.reply o.after) h (done_rightly old now session event left leaves)
+done_by old new now session event left reply leaves (inr h) = subst (λ (o : Outcome). IsDoneRightly old session event left o.reply o.after) (for_memory old new reply h.0 h.1) (done_for_memory old session event left)
 
-polled_by : (old new : State) (now session : ℕ) (reply : Reply) → Step old now session Poll reply new → IsPollJudged old now session reply
+read_by : (old new : State) (now session : ℕ) (path : Path) (query : Option Query) (reply : Reply) → HasOneCapture old.rules → Step old now session (Get path query) reply new → IsReadJudged old now session path query reply new
 unfolding Step
-polled_by old new now session reply (inl h) = subst (λ (o : Outcome). IsPollJudged old now session o.reply) h (poll_judged old now session)
-polled_by old new now session reply (inr h) = subst (IsPollJudged old now session) (sym h.0) (poll_for_memory old now session)
+read_by old new now session path query reply one (inl h) = subst (ReadJudged old now session path query) h (read_judged old now session path query one)
+read_by old new now session path query reply one (inr h) = subst (ReadJudged old now session path query) (for_memory old new reply h.0 h.1) (read_for_memory old now session path query)
+
+listened_by : (old new : State) (now session : ℕ) (id : List ℕ) (path : Path) (query : Option Query) (reply : Reply) → HasOneCapture old.rules → Step old now session (Listen id path query) reply new → IsListenJudged old now session id path query reply new
+unfolding Step
+listened_by old new now session id path query reply one (inl h) = subst (ListenJudged old now session id path query) h (listen_judged old now session id path query one)
+listened_by old new now session id path query reply one (inr h) = subst (ListenJudged old now session id path query) (for_memory old new reply h.0 h.1) (listen_for_memory old now session id path query)
+
+polled_by : (old new : State) (now session : ℕ) (reply : Reply) → Step old now session Poll reply new → IsPollJudged old now session reply new
+unfolding Step
+polled_by old new now session reply (inl h) = subst (PollJudged old now session) h (poll_judged old now session)
+polled_by old new now session reply (inr h) = subst (PollJudged old now session) (for_memory old new reply h.0 h.1) (poll_for_memory old now session)
 
 -- where the outcome of an event is that its writes are judged, so is its step
 step_judged : (old new : State) (now session : ℕ) (event : Event) (all : List Write) (reply : Reply) → WriteJudged old now session all (outcome old now session event) → Step old now session event reply new → IsWriteJudged old now session all reply new
@@ -86,7 +104,7 @@ step_judged old new now session event all reply judged (inr h) = subst (WriteJud
 deployed_by : (old new : State) (now session : ℕ) (rules : Book) (reply : Reply) → Step old now session (Deploy rules) reply new → IsDeployJudged old now session rules reply new
 unfolding Step
 deployed_by old new now session rules reply (inl h) = subst (DeployJudged old now session rules) h (deploy_judged old now session rules)
-deployed_by old new now session rules reply (inr h) = subst (DeployJudged old now session rules) (for_memory old new reply h.0 h.1) (deploy_for_memory old now session rules)
+deployed_by old new now session rules reply (inr h) = subst (DeployJudged old now session rules) (for_memory old new reply h.0 h.1) (deploy_for_memory old now session rules h.2)
 
 -- the writes that an event asks for are judged together
 write_judged : (old : State) (now session : ℕ) (event : Event) (all : List Write) → HasOneCapture old.rules → AsksFor event all → WriteJudged old now session all (outcome old now session event)
@@ -111,10 +129,13 @@ at_event old new call reply s event is = subst (λ (e : Event). Step old call.no
 pub judged : (old new : State) (call : Call) (reply : Reply) → HasOneCapture old.rules → Step old call.now call.session call.event reply new → IsJudged old call reply new
 judged old new call reply one s = record {
   step = s;
-  read = λ path query is. read_by old new call.now call.session path query reply (at_event old new call reply s _ is);
-  listen = λ id path query is. listened_by old new call.now call.session id path query reply (at_event old new call reply s _ is);
+  stopped = stopped_by old new call.now call.session call.event reply s;
+  done = λ left leaves. done_by old new call.now call.session call.event left reply leaves s;
+  read = λ path query is. read_by old new call.now call.session path query reply one (at_event old new call reply s _ is);
+  listen = λ id path query is. listened_by old new call.now call.session id path query reply one (at_event old new call reply s _ is);
   poll = λ is. polled_by old new call.now call.session reply (at_event old new call reply s _ is);
   write = λ all asks. step_judged old new call.now call.session call.event all reply (write_judged old call.now call.session call.event all one asks) s;
   deploy = λ rules is. deployed_by old new call.now call.session rules reply (at_event old new call reply s _ is);
   refused = λ refusal told. refused_stays old new call.now call.session call.event refusal (subst (λ (r : Reply). Step old call.now call.session call.event r new) told s);
+  memory = λ none. answered old new call.now call.session call.event reply none s;
 }

@@ -9,6 +9,8 @@ use Rattle.path_capture.specs.Pattern as parts
 use Rattle.path_capture.specs.Pattern.{part_of_text}
 use Rattle.rules_reader.specs.Part.{Pattern, texts}
 use Rattle.rules_reader.specs.Place.{HasOneCapture}
+use Rattle.rules_reader.specs.declared.kind.Kind.TheVariants.{Write as write_rules}
+use Rattle.judge.specs.Question.{Question, writing}
 use Rattle.judge.specs.Answers.{why_of}
 use Rattle.judge.specs.Judging.{IsWriteVerdict}
 use Rattle.judge.specs.declared.verdict.Named.{Named}
@@ -24,7 +26,8 @@ use Rattle.rtdb_core.specs.declared.reply.Reply.{Reply}
 use Rattle.rtdb_core.specs.declared.reply.Reply.TheVariants.{Done, Value, News, Refused}
 use Rattle.rtdb_core.specs.State.{State, is_open, scene_at}
 use Rattle.rtdb_core.specs.Step.{Outcome, refused, unless_refused, denial, full, or_full, tree_with, verdict_on, write_refusal, written_to, makes, sets, updates}
-use Rattle.rtdb_core.specs.Headline.{AreJudged, GrantsAll, Validates, IsLeastDenied, named_for_write, FailsFirst, Fits, Overflows, IsWriteJudged}
+use Rattle.rtdb_core.specs.Headline.{AreOwed, AreJudged, GrantsAll, Validates, IsLeastDenied, named_for_write, FailsFirst, Fits, Overflows, IsWriteJudged}
+use Rattle.rtdb_core.proofs.Naming.{names_owed}
 
 -- the reply comes of judging writes
 abbrev is_judgement : Reply → Bool
@@ -53,6 +56,10 @@ module _ (old : State) (now session : ℕ) (all : List Write) where
   abbrev IsVerdict : Verdict → Type 0
   IsVerdict v = IsWriteVerdict (scene_at old now session) (tree_with old all) (map location all) v
 
+  -- what is asked of the rules
+  abbrev asked : Question
+  asked = writing (scene_at old now session) (tree_with old all)
+
   abbrev done : Outcome
   done = record { reply = Done; after = written_to old now all }
 
@@ -67,6 +74,7 @@ module _ (old : State) (now session : ℕ) (all : List Write) where
     overflows = λ n j _ _ _. absurd (none n j);
     made = λ e. absurd (never Done e refl);
     denied = λ at named e. absurd (never (Refused (WriteDenied at named)) e refl);
+    owes = λ at named e. absurd (never (Refused (WriteDenied at named)) e refl);
     failed = λ at pattern why e. absurd (never (Refused (ValidateDenied at pattern why)) e refl);
     overflowed = λ e. absurd (never (Refused TreeFull) e refl);
   }
@@ -97,6 +105,7 @@ module _ (old : State) (now session : ℕ) (all : List Write) where
       overflows = λ _ _ _ _ over. absurd (omega arith);
       made = λ e. (j, granted, valid, fits, refl);
       denied = λ at named e. cc;
+      owes = λ at named e. cc;
       failed = λ at pattern why e. cc;
       overflowed = λ e. cc;
     }
@@ -109,18 +118,20 @@ module _ (old : State) (now session : ℕ) (all : List Write) where
       overflows = λ _ _ _ _ _. refl;
       made = λ e. cc;
       denied = λ at named e. cc;
+      owes = λ at named e. cc;
       failed = λ at pattern why e. cc;
       overflowed = λ e. (j, granted, valid, over);
     }
 
-    write_denied : (at : Path) (named : List Named) → IsVerdict (verdicts.WriteDenied at named) → ((w : Verdict) → IsVerdict w → w ≡ verdicts.WriteDenied at named) → WriteJudged (refused old (WriteDenied at named))
-    write_denied at named h only = record {
+    write_denied : HasOneCapture old.rules → (at : Path) (named : List Named) → IsVerdict (verdicts.WriteDenied at named) → ((w : Verdict) → IsVerdict w → w ≡ verdicts.WriteDenied at named) → WriteJudged (refused old (WriteDenied at named))
+    write_denied one at named h only = record {
       makes = λ _ _ granted _ _. absurd (h.0.refused (granted at h.0.among));
       denies = λ _ _ other l. sym (same (only (verdicts.WriteDenied other (named_for_write old now session all other)) (l, refl)));
       fails = λ _ _ granted _ _ _ _. absurd (h.0.refused (granted at h.0.among));
       overflows = λ _ _ granted _ _. absurd (h.0.refused (granted at h.0.among));
       made = λ e. cc;
       denied = λ other ns e. told other ns (place other ns e) (names other ns e);
+      owes = λ other ns e. subst (λ (p : Path). AreOwed asked write_rules p ns) (place other ns e) (subst (AreOwed asked write_rules at) (sym h.1 ∙ names other ns e) (names_owed asked write_rules at one));
       failed = λ other pattern why e. cc;
       overflowed = λ e. cc;
     }
@@ -145,6 +156,7 @@ module _ (old : State) (now session : ℕ) (all : List Write) where
       overflows = λ _ _ _ valid _. absurd (no_failure valid at (texts pattern) why h.1);
       made = λ e. cc;
       denied = λ other named e. cc;
+      owes = λ other named e. cc;
       failed = λ other p w e. (j, h.0, told other p w e);
       overflowed = λ e. cc;
     }
@@ -168,16 +180,16 @@ module _ (old : State) (now session : ℕ) (all : List Write) where
         within true e = write_made granted valid (leb-true (count (tree_with old all)) MAX_LOCATIONS e)
         within false e = write_full granted valid (leb-false (count (tree_with old all)) MAX_LOCATIONS e)
 
-    by_verdict : (v : Verdict) → IsVerdict v → ((w : Verdict) → IsVerdict w → w ≡ v) → WriteJudged (unless_refused old (or_full (denial v) (tree_with old all)) done)
-    by_verdict verdicts.Granted h only = by_room h.0 h.1
-    by_verdict (verdicts.ReadDenied named) h only = absurd h
-    by_verdict (verdicts.WriteDenied at named) h only = write_denied at named h only
-    by_verdict (verdicts.ValidateDenied at pattern why) h only = write_failed at pattern why h only
+    by_verdict : HasOneCapture old.rules → (v : Verdict) → IsVerdict v → ((w : Verdict) → IsVerdict w → w ≡ v) → WriteJudged (unless_refused old (or_full (denial v) (tree_with old all)) done)
+    by_verdict one verdicts.Granted h only = by_room h.0 h.1
+    by_verdict one (verdicts.ReadDenied named) h only = absurd h
+    by_verdict one (verdicts.WriteDenied at named) h only = write_denied one at named h only
+    by_verdict one (verdicts.ValidateDenied at pattern why) h only = write_failed at pattern why h only
 
     pub makes_judged : HasOneCapture old.rules → WriteJudged (makes old now session all)
     unfolding write_refusal
     makes_judged one =
-        by_verdict (verdict_on old now session all)
+        by_verdict one (verdict_on old now session all)
         (writes_decided (scene_at old now session) (tree_with old all) (map location all) (verdict_on old now session all) refl)
         (λ w h. one_verdict (scene_at old now session) (tree_with old all) (map location all) w one h)
 

@@ -5,4 +5,5 @@ pub mod Step
 pub mod Headline
 pub mod Marks
 pub mod Ends
+pub mod Worked
 pub mod Working

@@ -22,6 +22,7 @@ mod session;
 mod step_laws;
 mod telling;
 mod trees;
+mod worked;
 
 pub use evaluator::MAX_MOMENT;
 pub use event::{Event, Writes};
@@ -29,7 +30,7 @@ pub use judge::{Named, NamedRules, Why};
 pub use limits::{MAX_LOCATIONS, MAX_SESSIONS, the_limits};
 pub use listener_laws::{
     a_failed_grant_is_the_end, a_poll_hands_out_what_was_marked, marks_are_history,
-    what_a_grant_hangs_on_changes_where_it_is_judged,
+    the_tests_of_listeners_decide, what_a_grant_hangs_on_changes_where_it_is_judged,
 };
 pub use machine::{Core, TooLarge};
 pub use news::{News, Notice, What};
@@ -38,4 +39,8 @@ pub use run_laws::{
     a_run_changes_identities_by_their_sessions, a_run_changes_the_rules_by_deployments,
     every_call_of_a_run_is_judged_by_the_rules_in_force,
 };
-pub use step_laws::{a_refused_event_changes_nothing, a_step_is_a_function, every_step_is_judged};
+pub use step_laws::{
+    a_refused_event_changes_nothing, a_step_is_a_function, every_step_is_judged,
+    what_takes_no_memory_is_answered,
+};
+pub use worked::{what_reads_are_answered, what_writes_are_answered};

@@ -3,14 +3,15 @@ ghost use Rattle.std.specs.Prelude.{◌≡◌, ◌↔◌, ℕ, ◌&&◌, List, [
 ghost use Rattle.tree_model.specs.Path.{Path};
 ghost use Rattle.tree_model.specs.Tree.{Tree, non_null};
 ghost use Rattle.listeners.specs.Query.{Query};
+ghost use Rattle.judge.specs.Judging.{MayRead};
+ghost use Rattle.judge.specs.Question.{Scene};
 ghost use Rattle.rules_reader.specs.Book.{Book};
 ghost use Rattle.rtdb_core.specs.declared.event.Event.{Event};
 ghost use Rattle.rtdb_core.specs.declared.news.Notice.{Notice};
 ghost use Rattle.rtdb_core.specs.declared.reply.Reply.{Reply};
 ghost use Rattle.rtdb_core.specs.State.{State, opening, scene_at, listeners_of};
-ghost use Rattle.rtdb_core.specs.Rejudged.{hears, selected_at, moves};
+ghost use Rattle.rtdb_core.specs.Rejudged.{asked_for, hears, selected_at, moves};
 ghost use Rattle.rtdb_core.specs.Step.{Call, Step, Run};
-ghost use Rattle.rtdb_core.specs.Headline.{GrantsRead};
 ghost use Rattle.rtdb_core.specs.Marks.{Taken, steps_after, judges, grants, IsHistory};
 ghost use Rattle.rtdb_core.specs.Ends.{IsStep, IsEnd, IsUntouched, handed_out};
 
@@ -39,9 +40,10 @@ pub fn what_a_grant_hangs_on_changes_where_it_is_judged()
     ensures { (t : Taken) (session : ℕ) → IsStep t → judges session t ≡ false → IsUntouched session t }
 {}
 
-/// What judges listeners again are tests, and this is what they decide: whether the rules grant the read,
-/// and whether what is selected of two trees differs.
+/// What judges listeners again are tests, and this is what they decide, whatever the rules, the tree, the
+/// moment and who is signed in: whether the rules grant the read, and whether what is selected of two
+/// trees differs.
 pub fn the_tests_of_listeners_decide()
-    ensures heard { (state : State) (now session : ℕ) (path : Path) (query : Option Query) → (hears (scene_at state now session) path query ≡ true) ↔ GrantsRead state now session path query }
+    ensures heard { (scene : Scene) (path : Path) (query : Option Query) → (hears scene path query ≡ true) ↔ MayRead scene (asked_for query) path }
     ensures moved { (old new : Tree) (path : Path) (query : Option Query) → (moves old new path query ≡ false) ↔ (selected_at old path query ≡ selected_at new path query) }
 {}

@@ -10,7 +10,7 @@ ghost use Rattle.listeners.specs.Selection.{selection};
 ghost use Rattle.judge.specs.Question.{scene_of};
 ghost use Rattle.rtdb_core.specs.Rejudged.{hears, moves, same_tree};
 ghost use Rattle.rtdb_core.specs.Working.Fates.{scene_by, fate_of};
-ghost use Rattle.rtdb_core.specs.Working.Passages.{IsPassage, tree_before, tree_after, who_of, is_granted};
+ghost use Rattle.rtdb_core.specs.Working.Passages.{IsPassage, tree_before, tree_after, who_of};
 
 use crate::fates::Fate;
 use crate::selected::{asked_for, stored};
@@ -18,7 +18,7 @@ use arena_snapshot::{View, is_changed, same};
 use bumpalo::Bump;
 use evaluator::{Identity, MAX_MOMENT, Moment};
 use json_tree::{NoMemory, Node};
-use judge::{Scene, Verdict, judge_read};
+use judge::{Scene, may_read};
 use listeners::{Listener, Query, select};
 use path_capture::{Path, Write};
 use rules_reader::Rules;
@@ -55,8 +55,8 @@ impl<'a> Passage<'a> {
     }
 }
 
-/// What becomes of a listener of whoever is signed in. It takes memory for what its rules make, for a
-/// denial, and, where its query's selection may have moved, for that before and after the step.
+/// What becomes of a listener of whoever is signed in. It takes memory for what its rules make and bind,
+/// and, where its query's selection may have moved, for that before and after the step.
 pub(crate) fn fate_of(
     alloc: Global,
     arena: &Bump,
@@ -92,8 +92,7 @@ fn hears(
 {
     let asked = asked_for(listener.query);
     let scene = scene(passage, who);
-    let verdict = judge_read(alloc, arena, &scene, listener.path, &asked)?;
-    Ok(is_granted(&verdict))
+    may_read(alloc, arena, &scene, listener.path, &asked)
 }
 
 fn scene<'a>(passage: &'a Passage<'a>, who: Option<&'a Identity>) -> Scene<'a>
@@ -114,17 +113,6 @@ pub(crate) fn shared<'a>(view: &Option<View<'a>>) -> Option<View<'a>>
     match view {
         Some(view) => Some(view.share()),
         None => None,
-    }
-}
-
-fn is_granted(verdict: &Verdict) -> bool
-    ensures { result ≡ is_granted verdict.now }
-{
-    match verdict {
-        Verdict::Granted => true,
-        Verdict::ReadDenied(_) | Verdict::WriteDenied(_, _) | Verdict::ValidateDenied(_, _, _) => {
-            false
-        }
     }
 }
 

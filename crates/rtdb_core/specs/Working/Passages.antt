@@ -1,5 +1,5 @@
 -- What listeners are judged by, as the code holds it. No public clause stands on these words.
-use Rattle.std.specs.Prelude.{◌≡◌, ◌≤◌, Bool, true, false, Option, option_map}
+use Rattle.std.specs.Prelude.{◌≡◌, ◌≤◌, false, Option, option_map}
 use Rattle.std.specs.Borrow.{Bor}
 use Rattle.tree_model.specs.Tree.{Tree}
 use Rattle.tree_model.specs.Write.{overlaps, proposed}
@@ -7,8 +7,6 @@ use Rattle.path_capture.specs.Write.{tree_or_null}
 use Rattle.arena_snapshot.specs.View.{node_or_null}
 use Rattle.evaluator.specs.Identity.{Identity}
 use Rattle.evaluator.specs.declared.env.TheConstants.{MAX_MOMENT}
-use Rattle.judge.specs.declared.verdict.Verdict.{Verdict}
-use Rattle.judge.specs.declared.verdict.Verdict.TheVariants as verdicts
 use Rattle.rtdb_core.specs.declared.passage.Passage.{Passage}
 
 -- the tree is what the writes propose
@@ -25,9 +23,3 @@ tree_after p = proposed (node_or_null p.base) p.writes.now
 
 abbrev pub who_of : Option (Bor Identity) → Option Identity
 who_of who = option_map (λ (one : Bor Identity). one.now) who
-
-abbrev pub is_granted : Verdict → Bool
-is_granted verdicts.Granted = true
-is_granted (verdicts.ReadDenied named) = false
-is_granted (verdicts.WriteDenied at named) = false
-is_granted (verdicts.ValidateDenied at pattern why) = false
