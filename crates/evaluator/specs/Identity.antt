@@ -26,10 +26,11 @@ pub record Identity : Type 0 where
   pub admin : Bool
   pub claims : Claims
 
--- the texts and the values of the claims are lawful primitives. (This project's profile.)
+-- the values of the claims are lawful primitives. (This project's profile.)
 abbrev pub AreLawfulClaims : Claims → Type 0
 AreLawfulClaims claims = AllByRecursion (λ c. is_primitive c.1 ≡ true) claims
 
+-- its `uid` and its provider are lawful texts, and the values of its claims lawful primitives. (This project's profile.)
 pub record IsLawfulIdentity (who : Identity) : Type 0 where
   pub uid : is_text who.uid ≡ true
   pub provider : is_text who.provider ≡ true

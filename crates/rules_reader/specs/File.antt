@@ -118,7 +118,7 @@ only_rules (member name d (member other e ms)) = None
 abbrev pub top : Data → Option Data
 top d = option_and_then only_rules (as_object d)
 
--- the JSON value of a text that is not too long. (This project's profile.)
+-- the JSON value of bytes that are not too many and are UTF-8. (This project's profile; RFC 8259.)
 unfoldable pub json_of : List ℕ → Option Data
 json_of bytes = if nat_le (length bytes) MAX_FILE_BYTES && is_utf8 bytes then read bytes else None
 

@@ -36,7 +36,7 @@ captured part = if is_capture part then Some (bare_name part) else None
 abbrev pub capture_names : Pattern → List (List ℕ)
 capture_names at = filter_map captured at
 
--- a checked expression may stand in a rule of this kind at this pattern: it was checked for such rules, and names only captures of the pattern. (Reference, variables.)
+-- a checked expression may stand in a rule of this kind at this pattern: it was checked for such rules, and is a value below the captures of the pattern, so that it names no others. (Reference, variables.)
 pub record IsLawful (at : Pattern) (kind : Kind) (checked : Checked) : Type 0 where
   pub place : checked.place ≡ place_of kind
   pub sorted : HasValue (place_of kind) (capture_names at) checked.tree

@@ -105,7 +105,7 @@ tokens_of d = option_and_then tokens_of_members (as_object d)
 abbrev pub top : Data → Option Data
 top d = if has_only (codes "tokens" ∷ []) d then get (codes "tokens") d else None
 
--- the JSON value of a file's bytes. (RFC 8259.)
+-- the JSON value of a file's bytes, which are UTF-8. (RFC 8259.)
 unfoldable pub json_of : List ℕ → Option Data
 json_of bytes = if is_utf8 bytes then read bytes else None
 
