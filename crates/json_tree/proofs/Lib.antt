@@ -17,3 +17,4 @@ pub mod Edits
 pub mod Proposing
 pub mod ChildEdits
 pub mod Undoing
+pub mod Fronts

@@ -5,3 +5,4 @@ pub mod Levels
 pub mod Members
 pub mod Changed
 pub mod Held
+pub mod Front

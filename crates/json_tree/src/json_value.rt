@@ -213,7 +213,7 @@ fn sort(children: &mut Vec<Child>)
     ensures permutation { IsPermutation children.old.items children.new.items }
     ensures ascending { IsSortedBy (λ a b. is_lt (key_cmp a.0 b.0)) children.new.items }
 {
-    children.sort_unstable_by(|a, b| a.key().compare(b.key().text()));
+    children.sort_unstable_by(|a, b| a.compare_keys(b));
 }
 
 // The tree of one primitive.

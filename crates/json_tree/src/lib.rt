@@ -5,6 +5,7 @@
 //! says exactly why there is none.
 #![tactic(auto)]
 
+mod front;
 mod json_laws;
 mod json_text;
 mod json_value;

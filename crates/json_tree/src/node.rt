@@ -11,10 +11,12 @@ ghost use Rattle.tree_model.specs.Tree.{null, lone, count, non_null, children, c
 ghost use Rattle.tree_model.specs.Children.{graft, AreChildren, IsLawfulChild};
 ghost use Rattle.json_tree.specs.Leaf.{primitive_of};
 
+use crate::front::{Front, Sought};
 use crate::key::Key;
 use crate::leaf::Leaf;
 use crate::memory::NoMemory;
 use std::alloc::Global;
+use std::cmp::Ordering;
 use std::marker::Model;
 use tree_model::MAX_DEPTH;
 
@@ -37,11 +39,13 @@ pub(crate) enum Kind {
 }
 
 /// A child of a node: its key, and its tree. Both lie in a growth of their own, so that where a child comes
-/// or goes, those behind it are moved by a pointer each. Contracts see the pair. (Guide "Structure Your
-/// Database", how data is structured.)
+/// or goes, those behind it are moved by 16 bytes each; beside it stands the front of the key, so that a search
+/// mostly looks at the list alone. Contracts see the pair. (Guide "Structure Your Database", how data is
+/// structured.)
 #[cycle(node)]
 #[derive(Debug, Drop)]
 pub struct Child {
+    front: Front,
     pub(crate) held: Box<(Key, Node)>,
 }
 
@@ -64,7 +68,11 @@ impl Model for Child {
 
     ghost coded = { coded× (coded_list coded_ℕ) tree_code };
 
+    ghost use Rattle.json_tree.specs.Working.Front.{IsFrontOf};
+
     ghost view = { λ child. child.held.value };
+
+    ghost invariant = { λ child. IsFrontOf child.held.value.0 child.front.0 };
 
     ghost size = { λ child. depth_of child.1 + depth_of child.1 + 1 };
 
@@ -78,7 +86,9 @@ impl Child {
     pub fn new(alloc: Global, key: Key, node: Node) -> Result<Child, NoMemory>
         ensures { IfOk result (λ child. child ≡ (key, node)) }
     {
+        let front = Front::of(key.text());
         Ok(Child {
+            front,
             held: Box::new(alloc, (key, node))?,
         })
     }
@@ -95,6 +105,26 @@ impl Child {
         ensures { result.now ≡ self.now.1 }
     {
         &self.held.1
+    }
+
+    // Where the key stands beside a text: the fronts tell, and where they are the same, the key.
+    fn compare(&self, sought: &Sought<'_>) -> Ordering
+        ensures { result ≡ key_cmp self.now.0 sought.now }
+    {
+        match self.front.compare(sought.front) {
+            Ordering::Equal => self.key().compare(sought.text),
+            apart => apart,
+        }
+    }
+
+    // Where the key stands beside that of another child, in the same way.
+    pub(crate) fn compare_keys(&self, other: &Child) -> Ordering
+        ensures { result ≡ key_cmp self.now.0 other.now.0 }
+    {
+        match self.front.compare(other.front) {
+            Ordering::Equal => self.key().compare(other.key().text()),
+            apart => apart,
+        }
     }
 
     #[cycle(copy)]
@@ -328,7 +358,8 @@ pub(crate) fn index_of(children: &Vec<Child>, name: &str) -> Result<usize, usize
     ensures position { IsBinarySearchResult (λ child. key_cmp child.0 name.now)
         children.now.items result }
 {
-    children.binary_search_by(|child| child.key().compare(name))
+    let sought = Sought::of(name);
+    children.binary_search_by(|child| child.compare(&sought))
 }
 
 fn key_of(children: &Vec<Child>, i: usize) -> Option<&Key>
