@@ -7,3 +7,5 @@ pub mod Top
 pub mod Knots
 pub mod Placed
 pub mod Refusals
+pub mod Ends
+pub mod Answered

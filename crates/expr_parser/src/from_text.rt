@@ -1,5 +1,5 @@
 //! From a text to its expression.
-ghost use Rattle.std.specs.Prelude.{◌≡◌, ◌≢◌, ◌-◌, ◌<◌, ◌≤◌, ℕ, List, length, nat_eq, if◌then◌else◌, slice_index, IfOk, IfErr};
+ghost use Rattle.std.specs.Prelude.{◌≡◌, ◌≢◌, ◌⊎◌, ◌-◌, ◌<◌, ◌≤◌, ℕ, List, length, nat_eq, if◌then◌else◌, slice_index, IfOk, IfErr};
 ghost use Rattle.expr_tokens.specs.declared.fault.ExprFault.{ExprFault};
 ghost use Rattle.expr_parser.specs.Tree.{Tree};
 ghost use Rattle.expr_parser.specs.Text.{SpellsExpression, RefusedText};
@@ -46,6 +46,11 @@ pub fn one_expression()
 pub fn one_refusal()
     ensures one { (text : List ℕ) (one other : ExprFault) → RefusedText text one → RefusedText text other → one ≢ ExprFault.NoMemory → other ≢ ExprFault.NoMemory → one ≡ other }
     ensures none { (text : List ℕ) (tree : Tree) (fault : ExprFault) → SpellsExpression text tree → RefusedText text fault → fault ≡ ExprFault.NoMemory }
+{}
+
+/// A text spells an expression, or is refused, and not for want of memory.
+pub fn each_text_is_read_or_refused()
+    ensures { (text : List ℕ) → ((tree : Tree) × SpellsExpression text tree) ⊎ ((fault : ExprFault) × RefusedText text fault × (fault ≢ ExprFault.NoMemory)) }
 {}
 
 // Where the first of the tokens begins of which so many are left, or else where the text ends.

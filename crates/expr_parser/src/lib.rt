@@ -12,6 +12,8 @@ mod parser;
 
 pub use expr::{Argument, Expr};
 pub use expr_tokens::{Excluded, ExprFault, Name, Operator, Text, Token, tokens};
-pub use from_text::{one_expression, one_refusal, parse};
+pub use from_text::{each_text_is_read_or_refused, one_expression, one_refusal, parse};
 pub use limits::{MAX_LEVELS, the_limit_of_levels};
-pub use parser::{ParseFault, expression, one_expression_of_tokens};
+pub use parser::{
+    ParseFault, each_list_of_tokens_is_read_or_refused, expression, one_expression_of_tokens,
+};

@@ -1,5 +1,5 @@
 //! From tokens to an expression: by descent, and by climbing the operators' levels.
-ghost use Rattle.std.specs.Prelude.{◌≡◌, ◌<◌, ◌≤◌, List, length, IfOk, IfErr};
+ghost use Rattle.std.specs.Prelude.{◌≡◌, ◌≢◌, ◌<◌, ◌≤◌, ◌⊎◌, List, length, IfOk, IfErr};
 ghost use Rattle.expr_parser.specs.Grammar.{level, Spells};
 ghost use Rattle.expr_parser.specs.Stopping.{Refused};
 ghost use Rattle.expr_parser.specs.Working.Reading.{Whole, Climb, Unary, Items, read, arg, call, dotted, group, parts, postfix, primary};
@@ -8,6 +8,7 @@ ghost use Rattle.expr_parser.specs.View.{view, view_argument, views, arguments};
 ghost use Rattle.expr_parser.specs.Working.Gives.{Gives};
 ghost use Rattle.expr_tokens.specs.Answers.{AnswersThis};
 ghost use Rattle.expr_tokens.specs.declared.token.Token.{Token};
+ghost use Rattle.expr_parser.specs.declared.parser.ParseFault.{ParseFault};
 ghost use Rattle.expr_parser.specs.declared.parser.ParseFault.TheVariants.{NoMemory as no_memory};
 
 use crate::expr::{Argument, Expr};
@@ -78,6 +79,11 @@ pub fn expression(alloc: Global, tokens: &[Token]) -> Result<Expr, ParseFault>
 /// Tokens spell at most one expression.
 pub fn one_expression_of_tokens()
     ensures { (tokens : List Token) (x y : Tree) → Spells tokens x → Spells tokens y → x ≡ y }
+{}
+
+/// Tokens spell an expression, or are refused, and not for want of memory.
+pub fn each_list_of_tokens_is_read_or_refused()
+    ensures { (tokens : List Token) → ((tree : Tree) × Spells tokens tree) ⊎ ((fault : ParseFault) × Refused tokens fault × (fault ≢ no_memory)) }
 {}
 
 // expr := or [ '?' expr ':' expr ]

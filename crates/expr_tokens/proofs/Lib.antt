@@ -6,3 +6,4 @@ pub mod Same
 pub mod Whole
 pub mod Said
 pub mod Escapes
+pub mod Answered

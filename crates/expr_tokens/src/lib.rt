@@ -22,7 +22,7 @@ pub use limits::{MAX_EXPRESSION_BYTES, MAX_NUMBER, the_limits};
 pub use name::Name;
 pub use operator::Operator;
 pub use quoted::{Quoted, one_meaning_of_escapes};
-pub use scanner::{Scanned, one_fault, one_list, scan, tokens};
+pub use scanner::{Scanned, each_text_has_tokens_or_a_fault, one_fault, one_list, scan, tokens};
 pub use text::Text;
 pub use token::Token;
 pub use word::Word;

@@ -50,6 +50,11 @@ pub fn one_fault()
     ensures none { (text : List ℕ) (us : List Token) (fault : ExprFault) → SpellsTokens text us → ¬ (IsEarliest text fault) }
 {}
 
+/// A text spells tokens, or has an earliest fault.
+pub fn each_text_has_tokens_or_a_fault()
+    ensures { (text : List ℕ) → ((us : List Token) × SpellsTokens text us) ⊎ ((fault : ExprFault) × IsEarliest text fault) }
+{}
+
 /// The same as [`tokens`], with the byte where each token begins.
 pub fn scan<'a>(alloc: Global, text: &'a str) -> Result<Scanned<'a>, ExprFault>
     ensures found { IfOk result (λ found. SpellsTokens text.now found.tokens.items) }

@@ -19,8 +19,7 @@ use Rattle.tree_model.proofs.Existence.{found_at_or_below}
 use Rattle.tree_model.proofs.Grafts.{child_of, spread}
 use Rattle.rules_reader.specs.Part.{PartText, Pattern, is_capture}
 use Rattle.rules_reader.specs.declared.kind.Kind.TheVariants.{Read, Write, Validate}
-use Rattle.expr_types.specs.Checked.{Checked}
-use Rattle.rules_reader.specs.Book.{Stated, BookOf, Book, rules, stated, own_rules, stated_count}
+use Rattle.rules_reader.specs.Book.{Stated, BookOf, rules, stated, own_rules, stated_count}
 use Rattle.rules_reader.specs.Node.{grown}
 use Rattle.rules_reader.specs.Place.{HasOneCapture, one_capture_at_most}
 use Rattle.rules_reader.proofs.Books.{sub-grown}
@@ -127,19 +126,19 @@ module _ {A : Type 0} where
 
 -- ---- captures
 
-exists-empty : (q : Pattern) → exists {X = Stated Checked} map_of.empty q ≡ true → ⊥
-exists-empty q h = let found = found_at_or_below map_of.empty q h in none_is_not_some _ (get-empty (q ++ found.0)) found.1
+exists-empty : (A : Type 0) (q : Pattern) → exists {X = Stated A} map_of.empty q ≡ true → ⊥
+exists-empty A q h = let found = found_at_or_below map_of.empty q h in none_is_not_some _ (get-empty (q ++ found.0)) found.1
 
 -- a part below which something exists is among the parts
-pub exists_found : (parts : List (PartText × Book)) (part : PartText) (q : Pattern) → exists (child_of part parts) q ≡ true → (b : Book) × (find key_cmp part parts ≡ Some b) × (exists b q ≡ true)
-exists_found parts part q h =
-    elim (find key_cmp part parts) as (λ o. find key_cmp part parts ≡ o → exists (unwrap_or o map_of.empty) q ≡ true → (b : Book) × (find key_cmp part parts ≡ Some b) × (exists b q ≡ true)) [
-      | None ↦ λ _ g. absurd (exists-empty q g)
+pub exists_found : {A : Type 0} (parts : List (PartText × BookOf A)) (part : PartText) (q : Pattern) → exists (child_of part parts) q ≡ true → (b : BookOf A) × (find key_cmp part parts ≡ Some b) × (exists b q ≡ true)
+exists_found {A} parts part q h =
+    elim (find key_cmp part parts) as (λ o. find key_cmp part parts ≡ o → exists (unwrap_or o map_of.empty) q ≡ true → (b : BookOf A) × (find key_cmp part parts ≡ Some b) × (exists b q ≡ true)) [
+      | None ↦ λ _ g. absurd (exists-empty A q g)
       | (Some b) ↦ λ e g. (b, e, g)
     ] refl h
 
 -- what holds of each part holds of a part that is found
-found_has : (P : Book → Type 0) (parts : List (PartText × Book)) (part : PartText) (b : Book) → AllByRecursion (λ c. P c.1) parts → find key_cmp part parts ≡ Some b → P b
+found_has : {A : Type 0} (P : BookOf A → Type 0) (parts : List (PartText × BookOf A)) (part : PartText) (b : BookOf A) → AllByRecursion (λ c. P c.1) parts → find key_cmp part parts ≡ Some b → P b
 found_has P [] part b h e = cc
 found_has P (c ∷ parts) part b h e =
     elim (eq_by_cmp key_cmp part c.0) as (λ t. cond t (Some c.1) (find key_cmp part parts) ≡ Some b → P b) [
@@ -147,11 +146,11 @@ found_has P (c ∷ parts) part b h e =
       | false ↦ λ g. found_has P parts part b h.1 g
     ] e
 
-abbrev names : List (PartText × Book) → List PartText
+abbrev names : {A : Type 0} → List (PartText × BookOf A) → List PartText
 names parts = map (λ c. c.0) parts
 
 -- a capture that is found is among the captures
-found_capture : (parts : List (PartText × Book)) (a : PartText) → is_capture a ≡ true → IsSome (find key_cmp a parts) → (xs ys : List PartText) × (filter is_capture (names parts) ≡ xs ++ a ∷ ys)
+found_capture : {A : Type 0} (parts : List (PartText × BookOf A)) (a : PartText) → is_capture a ≡ true → IsSome (find key_cmp a parts) → (xs ys : List PartText) × (filter is_capture (names parts) ≡ xs ++ a ∷ ys)
 found_capture [] a h s = absurd (false≢true s)
 found_capture (c ∷ parts) a h s =
     elim (eq_by_cmp key_cmp a c.0) as (λ t. (t ≡ true → a ≡ c.0) → IsSome (cond t (Some c.1) (find key_cmp a parts)) → (xs ys : List PartText) × (filter is_capture (names (c ∷ parts)) ≡ xs ++ a ∷ ys)) [
@@ -168,8 +167,8 @@ short_is_one a b [] ys [] ws zs e f l = let heads : a ∷ ys ≡ b ∷ ws = sym 
 short_is_one a b (x ∷ xs) ys vs ws zs e f l = absurd (omega (arith, ap length e, length-append xs (a ∷ ys)))
 short_is_one a b [] ys (v ∷ vs) ws zs e f l = absurd (omega (arith, ap length f, length-append vs (b ∷ ws)))
 
-pub HasOneCapture-grown : (own : Stated Checked) (parts : List (PartText × Book)) → is_sorted key_cmp parts ≡ true → AllByRecursion (λ c. HasOneCapture c.1) parts → one_capture_at_most (names parts) ≡ true → HasOneCapture (grown own parts)
-HasOneCapture-grown own parts sorted each few = record { one = one }
+pub HasOneCapture-grown : {A : Type 0} (own : Stated A) (parts : List (PartText × BookOf A)) → is_sorted key_cmp parts ≡ true → AllByRecursion (λ c. HasOneCapture c.1) parts → one_capture_at_most (names parts) ≡ true → HasOneCapture (grown own parts)
+HasOneCapture-grown {A} own parts sorted each few = record { one = one }
   where
     below : (c : PartText) (q : Pattern) → exists (grown own parts) (c ∷ q) ≡ true → exists (child_of c parts) q ≡ true
     below c q h = ap (λ b. exists b q) (sym (sub-grown own parts c sorted)) ∙ exists-below (grown own parts) (c ∷ []) q ∙ h
@@ -187,5 +186,5 @@ HasOneCapture-grown own parts sorted each few = record { one = one }
         let same : fa.0 ≡ fb.0 = some_same fa.0 fb.0 (sym fa.1 ∙ fb.1) in
         (found_has HasOneCapture parts c fa.0 each fa.1).one before a b ca cb fa.2 (ap (λ x. exists x (before ++ b ∷ [])) same ∙ fb.2)
       where
-        some_same : (x y : Book) → Some x ≡ Some y → x ≡ y
+        some_same : (x y : BookOf A) → Some x ≡ Some y → x ≡ y
         some_same x y e = cc

@@ -19,3 +19,6 @@ pub mod Unreads
 pub mod CaptureNames
 pub mod Compiled
 pub mod Decided
+pub mod InOrder
+pub mod OneCapture
+pub mod Answered

@@ -70,11 +70,11 @@ new_capture at (sign ∷ name) d s h =
     let dollar : sign ≡ 36 = eqb-true sign 36 (first_so (sign == 36) (is_name name) h) in
     ap (λ x. list_any (bytes_eq (x ∷ name)) at) dollar ∙ new_after_sign at name d (second_so (sign == 36) (is_name name) h) (ap (λ x. is_sound_member at (x ∷ name) d) (sym dollar) ∙ s)
 
-first_none : {A : Type 0} (xs ys : List A) → xs ++ ys ≡ [] → xs ≡ []
+pub first_none : {A : Type 0} (xs ys : List A) → xs ++ ys ≡ [] → xs ≡ []
 first_none [] ys h = refl
 first_none (x ∷ xs) ys h = cc
 
-second_none : {A : Type 0} (xs ys : List A) → xs ++ ys ≡ [] → ys ≡ []
+pub second_none : {A : Type 0} (xs ys : List A) → xs ++ ys ≡ [] → ys ≡ []
 second_none [] ys h = h
 second_none (x ∷ xs) ys h = cc
 

@@ -300,7 +300,8 @@ blamed_write at t read validate fault h g b =
 
 -- ---- the captures of a pattern, each once
 
-there : (at : Pattern) (o : Option (Stated (List ℕ))) (p : Option (Stated Checked)) → SpellsObject at o p → is_some p ≡ true → is_some o ≡ true
+-- what has rules has texts
+pub there : (at : Pattern) (o : Option (Stated (List ℕ))) (p : Option (Stated Checked)) → SpellsObject at o p → is_some p ≡ true → is_some o ≡ true
 there at None None h e = absurd cc
 there at None (Some c) h e = absurd h
 there at (Some t) p h e = refl

@@ -4,6 +4,7 @@ ghost use Rattle.serde_json.specs.View.{view};
 ghost use Rattle.rules_reader.specs.File.{is_object, json_of, ReadsAs, top, States};
 ghost use Rattle.rules_reader.specs.Refusal.{Refuses, reason};
 ghost use Rattle.rules_reader.specs.Book.{Book};
+ghost use Rattle.rules_reader.specs.Place.{HasOneCapture};
 ghost use Rattle.rules_reader.specs.declared.fault.RulesFault.{RulesFault as RulesFaultValue};
 
 use crate::fault::RulesFault;
@@ -87,4 +88,11 @@ pub fn a_file_has_one_answer()
     ensures one_book { (bytes : List ℕ) (a b : Book) → States bytes a → States bytes b → a ≡ b }
     ensures one_reason { (bytes : List ℕ) (d e : RulesFaultValue) → Refuses bytes d → Refuses bytes e → d ≢ RulesFault.NoMemory → e ≢ RulesFault.NoMemory → reason d ≡ reason e }
     ensures never_both { (bytes : List ℕ) (book : Book) (fault : RulesFaultValue) → States bytes book → Refuses bytes fault → fault ≡ RulesFault.NoMemory }
+{}
+
+/// A file states a book, or is refused, and not for want of memory; and in each object of what it
+/// states at most one part is a capture. It does nothing.
+pub fn each_file_has_an_answer()
+    ensures some { (bytes : List ℕ) → ((book : Book) × States bytes book) ⊎ ((fault : RulesFaultValue) × Refuses bytes fault × (fault ≢ RulesFault.NoMemory)) }
+    ensures one_capture { (bytes : List ℕ) (book : Book) → States bytes book → HasOneCapture book }
 {}

@@ -18,7 +18,7 @@ mod rules;
 mod shape;
 
 pub use fault::{LeftOut, RuleFault, RuleName, RulesFault};
-pub use file::{a_file_has_one_answer, compile};
+pub use file::{a_file_has_one_answer, compile, each_file_has_an_answer};
 pub use kind::Kind;
 pub use limits::{MAX_FILE_BYTES, MAX_RULES, the_limits};
 pub use node::RuleNode;
