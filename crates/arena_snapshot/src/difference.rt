@@ -11,7 +11,7 @@ use crate::proposal::stored;
 use crate::sameness::same;
 use crate::view::View;
 use json_tree::{Key, Node};
-use path_capture::{Path, Write};
+use path_capture::{Path, Write, is_prefix_of};
 
 /// Whether another tree stands at a path once these writes are made. It takes no memory. What no
 /// write reaches is not looked at: for n writes it takes 2 · n comparisons of paths, whatever is
@@ -25,9 +25,20 @@ pub fn is_changed(base: Option<&Node>, writes: &[Write], path: &Path) -> bool
     ensures unchanged { OnFalse result (sub (proposed (node_or_null base.entry) writes.now) path.now
         ≡ sub (node_or_null base.entry) path.now) }
 {
+    is_changed_at(base, writes, path.keys())
+}
+
+/// [`is_changed`] of the path of these keys, which may be the front of a longer one.
+pub fn is_changed_at(base: Option<&Node>, writes: &[Write], keys: &[Key]) -> bool
+    requires { overlaps writes.now ≡ false }
+    ensures changed { OnTrue result (sub (proposed (node_or_null base.entry) writes.now) keys.now
+        ≢ sub (node_or_null base.entry) keys.now) }
+    ensures unchanged { OnFalse result (sub (proposed (node_or_null base.entry) writes.now) keys.now
+        ≡ sub (node_or_null base.entry) keys.now) }
+{
     law_of(base);
     for write in writes {
-        if changes(base, write, path) {
+        if changes(base, write, keys) {
             return true;
         }
     }
@@ -44,29 +55,29 @@ fn law_of(base: Option<&Node>)
     }
 }
 
-// Whether the write puts something else at, above or below the path than what stands there.
-fn changes(base: Option<&Node>, write: &Write, path: &Path) -> bool
+// Whether the write puts something else at, above or below the path of these keys than what stands there.
+fn changes(base: Option<&Node>, write: &Write, keys: &[Key]) -> bool
     ensures lawful { IsLawfulWrite write.now }
-    ensures changes { OnTrue result (Leaves (node_or_null base.entry) path.now write.now → ⊥) }
-    ensures leaves { OnFalse result (Leaves (node_or_null base.entry) path.now write.now) }
+    ensures changes { OnTrue result (Leaves (node_or_null base.entry) keys.now write.now → ⊥) }
+    ensures leaves { OnFalse result (Leaves (node_or_null base.entry) keys.now write.now) }
 {
-    let at = write.at();
-    if path.is_prefix(at) {
-        return !are_same(&stored_at(base, at.keys()), &stored(write.tree()));
+    let at = write.at().keys();
+    if is_prefix_of(keys, at) {
+        return !are_same(&stored_at(base, at), &stored(write.tree()));
     }
-    if !at.is_prefix(path) {
+    if !is_prefix_of(at, keys) {
         return false;
     }
-    let put = stored_at(write.tree(), rest_of(path, at));
-    !are_same(&stored_at(base, path.keys()), &put)
+    let put = stored_at(write.tree(), rest_of(keys, at));
+    !are_same(&stored_at(base, keys), &put)
 }
 
-// The keys of a path behind as many as those of another.
-fn rest_of<'a>(path: &'a Path, prefix: &Path) -> &'a [Key]
-    requires { length prefix.now ≤ length path.now }
-    ensures { result.now ≡ drop (length prefix.now) path.now }
+// The keys behind as many as those of a front.
+fn rest_of<'a>(keys: &'a [Key], front: &[Key]) -> &'a [Key]
+    requires { length front.now ≤ length keys.now }
+    ensures { result.now ≡ drop (length front.now) keys.now }
 {
-    &path.keys()[prefix.keys().len()..]
+    &keys[front.len()..]
 }
 
 // What stands below these keys.

@@ -17,7 +17,7 @@ mod sizes;
 mod view;
 
 pub use copies::copy_out;
-pub use difference::is_changed;
+pub use difference::{is_changed, is_changed_at};
 pub use overlapping::overlaps;
 pub use proposal::overlay;
 pub use sameness::same;

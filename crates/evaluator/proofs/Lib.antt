@@ -6,3 +6,5 @@ pub mod Replacing
 pub mod Names
 pub mod Lists
 pub mod Sorted
+pub mod Beneath
+pub mod Depends

@@ -92,11 +92,15 @@ proper : (p r : Path) → is_root r ≡ false → is_proper_prefix p (p ++ r) �
 proper p r h = ap (λ o. option_map_or (λ rest. not (is_root rest)) o false) (strip-append p r) ∙ ap not h
 
 -- a pair properly below, where there are children
-pair_below : (s : Snapshot) → has_children_at s ≡ true → (r : Path) × (is_root r ≡ false) × IsSome (get s.0 (s.1 ++ r))
+pub pair_below : (s : Snapshot) → has_children_at s ≡ true → (r : Path) × (is_root r ≡ false) × IsSome (get s.0 (s.1 ++ r))
 pair_below s h =
     let pair = pair_of (is_proper_prefix s.1) (map_of.entries s.0) h in
     let left = left_below s.1 pair.0 pair.1 in
     (left.0, left.2, ap (λ q. is_some (get s.0 q)) (sym left.1) ∙ ap is_some (map_of.get-entries s.0 pair.0) ∙ pair.2)
+
+-- children, where there is a pair properly below
+pub children_above : (s : Snapshot) (r : Path) → is_root r ≡ false → IsSome (get s.0 (s.1 ++ r)) → has_children_at s ≡ true
+children_above s r low some = key_of (is_proper_prefix s.1) (s.1 ++ r) (map_of.keys s.0) (proper s.1 r low) (sym (map_of.contains_key-keys s.0 (s.1 ++ r)) ∙ some)
 
 pub no_children : (s : Snapshot) → None ≡ non_null (sub s.0 s.1) → false ≡ has_children_at s
 no_children s e =

@@ -10,5 +10,6 @@ pub mod Env
 pub mod Mean
 pub mod Holds
 pub mod Sorted
+pub mod Scoped
 pub mod Worked
 pub mod Working

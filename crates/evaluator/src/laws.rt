@@ -6,8 +6,11 @@ ghost use Rattle.expr_types.specs.declared.place.Place.{Place};
 ghost use Rattle.expr_types.specs.declared.sort.Sort.{Sort};
 ghost use Rattle.expr_types.specs.HasSort.{HasSort, HasSomeSort};
 ghost use Rattle.expr_types.specs.Checked.{Checked, IsChecked};
+ghost use Rattle.expr_types.specs.Scope.{scope_of};
 ghost use Rattle.evaluator.specs.Env.{Env, is_for, Suits};
 ghost use Rattle.evaluator.specs.Mean.{mean};
+ghost use Rattle.evaluator.specs.Holds.{outcome};
+ghost use Rattle.evaluator.specs.Scoped.{LookSame};
 ghost use Rattle.evaluator.specs.Sorted.{IsOfSort, StandsIn};
 
 /// What has a sort means a part of that sort, or errs: so no snapshot stands where a value is wanted, and
@@ -23,4 +26,9 @@ pub fn what_has_a_sort_means_that_or_errs()
 /// law above is true of all of them. It does nothing.
 pub fn all_parts_of_what_is_checked_have_sorts()
     ensures { (checked : Checked) (env : Env) (x : Tree) → IsChecked checked → Suits checked env → StandsIn x checked.tree → HasSomeSort checked.place (names env.captures) x }
+{}
+
+/// An expression gives the same in two environments that look the same to its scope. It does nothing.
+pub fn what_an_expression_depends_on()
+    ensures { (x : Tree) (one other : Env) → LookSame (scope_of x) one other → outcome x one ≡ outcome x other }
 {}

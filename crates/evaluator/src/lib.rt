@@ -22,6 +22,9 @@ pub use asked::Asked;
 pub use env::{Access, Env, MAX_MOMENT, Moment};
 pub use evaluation::{Outcome, evaluate};
 pub use identity::{Claims, Identity};
-pub use laws::{all_parts_of_what_is_checked_have_sorts, what_has_a_sort_means_that_or_errs};
+pub use laws::{
+    all_parts_of_what_is_checked_have_sorts, what_an_expression_depends_on,
+    what_has_a_sort_means_that_or_errs,
+};
 pub use snapshot::Snapshot;
 pub use worked::{what_auth_gives, what_operators_give, what_snapshots_give, what_texts_give};

@@ -1,5 +1,6 @@
 pub mod Names
 pub mod HasSort
 pub mod Faults
+pub mod Scope
 pub mod Checked
 pub mod Working

@@ -2,8 +2,10 @@
 ghost use Rattle.std.specs.Prelude.{◌≡◌};
 ghost use Rattle.expr_parser.specs.View.{view};
 ghost use Rattle.expr_types.specs.Checked.{IsChecked};
+ghost use Rattle.expr_types.specs.Scope.{scope_of};
 
 use crate::place::Place;
+use crate::scope::{Scope, scope_of};
 use expr_parser::Expr;
 use std::marker::Model;
 
@@ -13,11 +15,14 @@ use std::marker::Model;
 pub struct Checked {
     expr: Expr,
     place: Place,
+    scope: Scope,
 }
 
 impl Model for Checked {
+    ghost use Rattle.std.specs.Prelude.{◌≡◌};
     ghost use Rattle.expr_types.specs.Checked as checked;
     ghost use Rattle.expr_types.specs.Checked.{checked_code, IsChecked};
+    ghost use Rattle.expr_types.specs.Scope.{scope_of as scope_of_tree};
     ghost use Rattle.expr_parser.specs.View.{view as tree_of};
 
     ghost Value = { checked.Checked };
@@ -26,7 +31,7 @@ impl Model for Checked {
 
     ghost view = { λ c. record { tree = tree_of c.expr; place = c.place } };
 
-    ghost invariant = { λ c. IsChecked (record { tree = tree_of c.expr; place = c.place }) };
+    ghost invariant = { λ c. IsChecked (record { tree = tree_of c.expr; place = c.place }) × (c.scope ≡ scope_of_tree (tree_of c.expr)) };
 }
 
 impl Checked {
@@ -44,6 +49,13 @@ impl Checked {
         self.place
     }
 
+    /// What its meaning can depend on, in constant time.
+    pub fn scope(&self) -> Scope
+        ensures { result ≡ scope_of self.now.tree }
+    {
+        self.scope
+    }
+
     /// A checked expression may stand in a rule for its place, below the captures that it names. It
     /// does nothing.
     pub fn law(&self)
@@ -57,6 +69,7 @@ impl Checked {
         requires { IsChecked (record { tree = view expr; place = place }) }
         ensures { result ≡ record { tree = view expr; place = place } }
     {
-        Checked { expr, place }
+        let scope = scope_of(&expr);
+        Checked { expr, place, scope }
     }
 }

@@ -13,6 +13,7 @@ mod laws;
 mod names;
 mod place;
 mod rows;
+mod scope;
 mod sort;
 
 pub use checked::Checked;
@@ -24,4 +25,5 @@ pub use laws::{
     more_captures_change_no_sort, never_both, one_answer, one_first_fault, one_sort,
 };
 pub use place::Place;
+pub use scope::Scope;
 pub use sort::Sort;

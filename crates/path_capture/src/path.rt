@@ -196,7 +196,9 @@ fn keys_of(alloc: Global, text: &str, count: usize) -> Result<Vec<Key>, NoMemory
     Ok(keys)
 }
 
-fn is_prefix_of(front: &[Key], keys: &[Key]) -> bool
+/// Whether the first of these lists of keys is a prefix of the other one, or the same. It takes no
+/// memory, and time linear in the bytes that it compares.
+pub fn is_prefix_of(front: &[Key], keys: &[Key]) -> bool
     ensures { result ≡ is_prefix front.now keys.now }
 {
     front.len() <= keys.len()

@@ -11,26 +11,28 @@ use Rattle.arena_snapshot.proofs.Tests.{other_of, same_of}
 use Rattle.arena_snapshot.proofs.difference.changes.Goals as goal
 
 pub rest_of-requires : goal.rest_of-requires
-rest_of-requires c = prefix_short c.at-at.result.now c.args.path.now (sym c.is_prefix-2.ensures ∙ c.if-not-is_prefix.false)
+rest_of-requires c = prefix_short c.keys-at.result.now c.args.keys.now (sym c.is_prefix_of-2.ensures ∙ c.if-not-is_prefix_of.false)
 
 -- ---- a location at or below the path
 
-pub returns-then-is_prefix-clause-changes : goal.returns-then-is_prefix-clause-changes
-returns-then-is_prefix-clause-changes c =
+pub returns-then-is_prefix_of-clause-changes : goal.returns-then-is_prefix_of-clause-changes
+returns-then-is_prefix_of-clause-changes c =
     let t = node_or_null c.args.base in
     let w = c.args.write.now in
-    let here = c.stored_at.ensures ∙ ap (λ q. non_null (sub t q)) (c.keys.ensures.keys ∙ c.at-at.ensures.path) in
+    let at = c.keys-at.ensures.keys ∙ c.at.ensures.path in
+    let here = c.stored_at.ensures ∙ ap (λ q. non_null (sub t q)) at in
     let put = c.stored.ensures ∙ ap non_null (child_is c.tree.result (written w) c.tree.ensures) in
-    let below = ap (is_prefix c.args.path.now) (sym c.at-at.ensures.path) ∙ sym c.is_prefix.ensures ∙ c.if-is_prefix.true in
+    let below = ap (is_prefix c.args.keys.now) (sym at) ∙ sym c.is_prefix_of.ensures ∙ c.if-is_prefix_of.true in
     other_of c.are_same.result _ _ c.are_same.ensures.differs (λ leaves. here ∙ ap non_null (leaves.below below) ∙ sym put)
 
-pub returns-then-is_prefix-clause-leaves : goal.returns-then-is_prefix-clause-leaves
-returns-then-is_prefix-clause-leaves c =
+pub returns-then-is_prefix_of-clause-leaves : goal.returns-then-is_prefix_of-clause-leaves
+returns-then-is_prefix_of-clause-leaves c =
     let t = node_or_null c.args.base in
     let w = c.args.write.now in
-    let here = c.stored_at.ensures ∙ ap (λ q. non_null (sub t q)) (c.keys.ensures.keys ∙ c.at-at.ensures.path) in
+    let at = c.keys-at.ensures.keys ∙ c.at.ensures.path in
+    let here = c.stored_at.ensures ∙ ap (λ q. non_null (sub t q)) at in
     let put = c.stored.ensures ∙ ap non_null (child_is c.tree.result (written w) c.tree.ensures) in
-    let below = ap (is_prefix c.args.path.now) (sym c.at-at.ensures.path) ∙ sym c.is_prefix.ensures ∙ c.if-is_prefix.true in
+    let below = ap (is_prefix c.args.keys.now) (sym at) ∙ sym c.is_prefix_of.ensures ∙ c.if-is_prefix_of.true in
     same_of c.are_same.result _ _ c.are_same.ensures.same (λ same. record {
       below = λ _. same_from_non_null (sub t (location w)) (written w) (sym here ∙ same ∙ put);
       above = λ no _. absurd (true_is_not_false _ below no);
@@ -42,23 +44,25 @@ pub returns-clause-changes : goal.returns-clause-changes
 returns-clause-changes c =
     let t = node_or_null c.args.base in
     let w = c.args.write.now in
-    let p = c.args.path.now in
-    let here = c.stored_at-2.ensures ∙ ap (λ q. non_null (sub t q)) c.keys-2.ensures.keys in
-    let rest = c.rest_of.ensures ∙ ap (λ l. drop (length l) p) c.at-at.ensures.path in
+    let p = c.args.keys.now in
+    let at = c.keys-at.ensures.keys ∙ c.at.ensures.path in
+    let here = c.stored_at-2.ensures in
+    let rest = c.rest_of.ensures ∙ ap (λ l. drop (length l) p) at in
     let put = c.stored_at-put.ensures ∙ ap (λ u. non_null (sub u c.rest_of.result.now)) (child_is c.tree-2.result (written w) c.tree-2.ensures) ∙ ap (λ q. non_null (sub (written w) q)) rest in
-    let not_below = ap (is_prefix p) (sym c.at-at.ensures.path) ∙ sym c.is_prefix.ensures ∙ c.if-is_prefix.false in
-    let above = ap (λ l. is_prefix l p) (sym c.at-at.ensures.path) ∙ sym c.is_prefix-2.ensures ∙ c.if-not-is_prefix.false in
+    let not_below = ap (is_prefix p) (sym at) ∙ sym c.is_prefix_of.ensures ∙ c.if-is_prefix_of.false in
+    let above = ap (λ l. is_prefix l p) (sym at) ∙ sym c.is_prefix_of-2.ensures ∙ c.if-not-is_prefix_of.false in
     other_of c.are_same-2.result _ _ c.are_same-2.ensures.differs (λ leaves. here ∙ ap non_null (leaves.above not_below above) ∙ sym put)
 
 pub returns-clause-leaves : goal.returns-clause-leaves
 returns-clause-leaves c =
     let t = node_or_null c.args.base in
     let w = c.args.write.now in
-    let p = c.args.path.now in
-    let here = c.stored_at-2.ensures ∙ ap (λ q. non_null (sub t q)) c.keys-2.ensures.keys in
-    let rest = c.rest_of.ensures ∙ ap (λ l. drop (length l) p) c.at-at.ensures.path in
+    let p = c.args.keys.now in
+    let at = c.keys-at.ensures.keys ∙ c.at.ensures.path in
+    let here = c.stored_at-2.ensures in
+    let rest = c.rest_of.ensures ∙ ap (λ l. drop (length l) p) at in
     let put = c.stored_at-put.ensures ∙ ap (λ u. non_null (sub u c.rest_of.result.now)) (child_is c.tree-2.result (written w) c.tree-2.ensures) ∙ ap (λ q. non_null (sub (written w) q)) rest in
-    let not_below = ap (is_prefix p) (sym c.at-at.ensures.path) ∙ sym c.is_prefix.ensures ∙ c.if-is_prefix.false in
+    let not_below = ap (is_prefix p) (sym at) ∙ sym c.is_prefix_of.ensures ∙ c.if-is_prefix_of.false in
     same_of c.are_same-2.result _ _ c.are_same-2.ensures.same (λ same. record {
       below = λ yes. absurd (true_is_not_false _ yes not_below);
       above = λ _ _. same_from_non_null (sub t p) (sub (written w) (drop (length (location w)) p)) (sym here ∙ same ∙ put);
