@@ -12,3 +12,5 @@ pub mod Verdicts
 pub mod Tops
 pub mod Reaching
 pub mod Coming
+pub mod Looking
+pub mod Depending

@@ -41,7 +41,7 @@ answered : (f : Stated Checked → Option Checked) (o : Option (Stated Checked))
 answered f None r h = cc
 answered f (Some s) r h = cc
 
-stated_here : (book : Book) (node : Point) (path : Path) (kind : Kind) (r : Option Checked) → Reached book node path → option_map (stated_for kind) (get node.book []) ≡ Some r → option_and_then (stated_for kind) (get book node.at) ≡ r
+pub stated_here : (book : Book) (node : Point) (path : Path) (kind : Kind) (r : Option Checked) → Reached book node path → option_map (stated_for kind) (get node.book []) ≡ Some r → option_and_then (stated_for kind) (get book node.at) ≡ r
 stated_here book node path kind r reached h =
     ap (option_and_then (stated_for kind)) (sym (ap (λ b. get b []) reached.below ∙ get-sub book node.at [] ∙ ap (get book) (append-nil node.at)))
     ∙ answered (stated_for kind) (get node.book []) r h
@@ -125,7 +125,7 @@ suits q kind node here access bound rule at asks lawful there = record {
 
 -- ---- one key further
 
-take-all : (xs ys : Path) → take (length xs) (xs ++ ys) ≡ xs
+pub take-all : (xs ys : Path) → take (length xs) (xs ++ ys) ≡ xs
 take-all [] ys = refl
 take-all (x ∷ xs) ys = ap (λ zs. x ∷ zs) (take-all xs ys)
 
@@ -138,7 +138,7 @@ within [] y ys = omega arith
 within (x ∷ xs) y ys = let shorter = within xs y ys in omega arith
 
 -- where no part matches the next key, nothing stands from there on
-none_beyond : (book : Book) (node : Point) (p : Path) (key : Key) (r : Path) (pattern : Pattern) → HasOneCapture book → Reached book node p → NoneMatches node.book key → StandsAt book pattern (p ++ key ∷ r) → ⊥
+pub none_beyond : (book : Book) (node : Point) (p : Path) (key : Key) (r : Path) (pattern : Pattern) → HasOneCapture book → Reached book node p → NoneMatches node.book key → StandsAt book pattern (p ++ key ∷ r) → ⊥
 none_beyond book node p key r pattern one reached none s =
     not_reached book node (p ++ key ∷ r) (length p) key pattern one (within p key r) (sym (at-next p key key r)) (subst (Reached book node) (sym (take-all p (key ∷ r))) reached) none s
 
@@ -150,7 +150,7 @@ take-next : (xs : Path) (y : Key) → take (suc (length xs)) (xs ++ y ∷ []) �
 take-next [] y = refl
 take-next (x ∷ xs) y = ap (λ zs. x ∷ zs) (take-next xs y)
 
-reached_next : (book : Book) (node to : Point) (p : Path) (key : Key) → Reached book node p → Steps node key to → Reached book to (p ++ key ∷ [])
+pub reached_next : (book : Book) (node to : Point) (p : Path) (key : Key) → Reached book node p → Steps node key to → Reached book to (p ++ key ∷ [])
 reached_next book node to p key r s =
     subst (Reached book to) (ap (λ n. take n (p ++ key ∷ [])) (add-one (length p)) ∙ take-next p key)
     (reached_step book node to (p ++ key ∷ []) (length p) key (within p key []) (sym (at-next p key key [])) (subst (Reached book node) (sym (take-all p (key ∷ []))) r) s)

@@ -4,4 +4,5 @@ pub mod Granting
 pub mod Failing
 pub mod Tests
 pub mod Judging
+pub mod Watching
 pub mod Working

@@ -3,3 +3,4 @@ pub mod Standing
 pub mod Locations
 pub mod Refused
 pub mod Found
+pub mod Watched

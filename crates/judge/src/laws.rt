@@ -12,7 +12,8 @@ ghost use Rattle.evaluator.specs.Env.{writes};
 ghost use Rattle.judge.specs.Question.{Scene, Question, writing, env_at};
 ghost use Rattle.judge.specs.Answers.{Holds};
 ghost use Rattle.judge.specs.Granting.{IsGranted};
-ghost use Rattle.judge.specs.Judging.{IsReadVerdict, IsWriteVerdict, IsToBeNamed};
+ghost use Rattle.judge.specs.Judging.{MayRead, IsReadVerdict, IsWriteVerdict, IsToBeNamed};
+ghost use Rattle.judge.specs.Watching.{IsWatched};
 ghost use Rattle.judge.specs.Tests.{is_granted, named_rules, read_verdict, write_verdict};
 ghost use Rattle.judge.specs.declared.verdict.Named.{Named as AnyNamed};
 ghost use Rattle.judge.specs.declared.verdict.Verdict.{Verdict as AnyVerdict};
@@ -57,4 +58,10 @@ pub fn the_tests_decide()
 pub fn each_named_rule_does_not_hold()
     ensures named { (q : Question) (kind : Kind) (path : Path) (named : AnyNamed) → Contains (named_rules q kind path) named → IsToBeNamed q kind path named }
     ensures all { (q : Question) (kind : Kind) (path : Path) (named : AnyNamed) → HasOneCapture q.scene.book → IsToBeNamed q kind path named → Contains (named_rules q kind path) named }
+{}
+
+/// A read is granted as before where its rules, who asks and what stands at the place that is watched are
+/// as before, at whatever moment. It does nothing. ([`watched`](crate::watched) finds the place.)
+pub fn what_a_read_depends_on()
+    ensures { (one other : Scene) (asked : Asked) (path place : Path) → IsWatched one.book path place → other.book ≡ one.book → other.who ≡ one.who → sub other.old place ≡ sub one.old place → MayRead one asked path → MayRead other asked path }
 {}

@@ -12,11 +12,14 @@ mod scene;
 mod spot;
 mod validate;
 mod verdict;
+mod watching;
 
 pub use judging::{judge_read, judge_write, may_read};
 pub use laws::{
     a_grant_reaches_down, each_named_rule_does_not_hold, every_write_sees_the_whole,
     only_rules_above_grant, the_order_of_writes_changes_nothing, the_tests_decide,
+    what_a_read_depends_on,
 };
 pub use scene::Scene;
 pub use verdict::{Named, NamedRules, Verdict, Why};
+pub use watching::watched;

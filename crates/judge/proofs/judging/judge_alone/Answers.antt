@@ -1,4 +1,4 @@
-use Rattle.std.proofs.Common.{refl, ap, ◌∙◌}
+use Rattle.std.proofs.Common.{ap, ◌∙◌}
 use Rattle.evaluator.specs.Asked.{asked_of}
 use Rattle.judge.specs.Question.{scene_of}
 use Rattle.judge.specs.declared.spot.Asking.{Asking}
