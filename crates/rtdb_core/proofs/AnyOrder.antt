@@ -5,7 +5,7 @@ use Rattle.std.proofs.lemmas.Bool.{false≢true}
 use Rattle.std.proofs.lemmas.List.Sorted.{IsPermutation-map, IsPermutation-sym}
 use Rattle.tree_model.specs.Path.{Path}
 use Rattle.tree_model.specs.Tree.{Tree}
-use Rattle.tree_model.specs.Write.{Write, location, overlaps, proposed}
+use Rattle.tree_model.specs.Write.{Write, location, overlaps}
 use Rattle.tree_model.proofs.Order.{overlaps-permutation, proposed-permutation}
 use Rattle.rules_reader.specs.Place.{HasOneCapture}
 use Rattle.judge.specs.Question.{Scene}

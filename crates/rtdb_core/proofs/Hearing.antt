@@ -1,7 +1,6 @@
 -- Whether a listener's read is granted.
-use Rattle.std.proofs.Common.{◌≡◌, Bool, true, false, Option, ap, ◌∙◌, sym, refl}
+use Rattle.std.proofs.Common.{◌≡◌, Bool, true, false, Option, ◌∙◌, sym, refl}
 use Rattle.std.specs.Prelude.{◌↔◌}
-use Rattle.std.proofs.lemmas.Bool.{false≢true}
 use Rattle.tree_model.specs.Path.{Path}
 use Rattle.rules_reader.specs.declared.kind.Kind.TheVariants.{Read}
 use Rattle.evaluator.specs.Asked.{Asked}

@@ -25,6 +25,8 @@ pub mod Fatings
 pub mod Passing
 pub mod Without
 pub mod Hearing
+pub mod Staying
+pub mod Heard
 pub mod Collecting
 pub mod Seating
 pub mod Ending

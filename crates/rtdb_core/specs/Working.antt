@@ -1,3 +1,4 @@
 -- Words of private contracts. No public clause stands on them.
 pub mod Fates
 pub mod Passages
+pub mod Heard

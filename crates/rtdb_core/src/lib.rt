@@ -5,6 +5,7 @@
 //! step.
 #![tactic(auto)]
 
+mod database;
 mod event;
 mod fates;
 mod judged;
@@ -24,6 +25,7 @@ mod telling;
 mod trees;
 mod worked;
 
+pub use database::{Core, TooLarge};
 pub use evaluator::MAX_MOMENT;
 pub use event::{Event, Writes};
 pub use judge::{Named, NamedRules, Why};
@@ -32,7 +34,6 @@ pub use listener_laws::{
     a_failed_grant_is_the_end, a_poll_hands_out_what_was_marked, marks_are_history,
     the_tests_of_listeners_decide, what_a_grant_hangs_on_changes_where_it_is_judged,
 };
-pub use machine::{Core, TooLarge};
 pub use news::{News, Notice, What};
 pub use reply::{Refusal, Reply};
 pub use run_laws::{

@@ -13,8 +13,10 @@ ghost use Rattle.rtdb_core.specs.State.{opening, is_open, identity_of, listeners
 ghost use Rattle.rtdb_core.specs.Rejudged.{selected_at};
 ghost use Rattle.rtdb_core.specs.Step.{opened, closed, closes, with_session, signs, tree_with, makes, read_refusal, write_refusal, listening, unlistens, polls, news_of, ticks, deployed, deploys, outcome, takes_no_memory, Step};
 ghost use Rattle.rtdb_core.specs.Working.Fates.{sparse, settled, fate_of, fates_of, all_sessions, with_settled, with_tree, with_rules, IsJudgedWrite, listen_refusal};
+ghost use Rattle.rtdb_core.specs.Working.Heard.{AreHeard, AllHeardIn, AllHeard};
 ghost use Rattle.rtdb_core.specs.Working.Passages.{IsPassage, tree_before, tree_after, who_of};
 
+use crate::database::TooLarge;
 use crate::event::{Event, Writes};
 use crate::fates::{Decision, Decisions, Docket};
 use crate::judged::Judged;
@@ -41,24 +43,18 @@ use std::collections::BTreeMap;
 use std::marker::Model;
 use std::slice;
 
-/// A database: a tree, the rules in force, and the sessions that are open. It keeps the allocator
-/// that it was made with. Contracts see the three.
+/// What answers the events of a [`Core`](crate::Core): its tree, the rules in force, and the sessions
+/// that are open. Of the listeners it takes from its caller that they were granted what they listen to.
+/// It keeps the allocator that it was made with. Contracts see the three.
 #[derive(Drop)]
-pub struct Core {
+pub(crate) struct Machine {
     alloc: Global,
     rules: Rules,
     tree: Option<Node>,
     sessions: BTreeMap<u64, Session>,
 }
 
-/// The tree has more than [`MAX_LOCATIONS`] locations. Rules and tree are handed back.
-#[derive(Drop)]
-pub struct TooLarge {
-    pub rules: Rules,
-    pub tree: Option<Node>,
-}
-
-impl Model for Core {
+impl Model for Machine {
     ghost use Rattle.std.specs.Prelude.{◌≤◌};
     ghost use Rattle.std.specs.FinMap as map_of;
     ghost use Rattle.path_capture.specs.Write.{tree_or_null};
@@ -70,23 +66,22 @@ impl Model for Core {
 
     ghost coded = { state_code };
 
-    ghost view = { λ core. record { tree = tree_or_null core.tree; rules = core.rules; sessions = map_of.from_entries core.sessions.entries } };
+    ghost view = { λ machine. record { tree = tree_or_null machine.tree; rules = machine.rules; sessions = map_of.from_entries machine.sessions.entries } };
 
-    ghost invariant = { λ core. count (tree_or_null core.tree) ≤ MAX_LOCATIONS };
+    ghost invariant = { λ machine. count (tree_or_null machine.tree) ≤ MAX_LOCATIONS };
 }
 
-impl Core {
-    /// A database with these rules and this tree, null for None, in which no session is open, unless
-    /// the tree has too many locations. It takes no memory.
-    pub fn new(alloc: Global, rules: Rules, tree: Option<Node>) -> Result<Core, TooLarge>
-        ensures opens { IfOk result (λ core. core ≡ opening rules (tree_or_null tree)) }
+impl Machine {
+    /// What [`Core::new`](crate::Core::new) makes.
+    pub(crate) fn new(alloc: Global, rules: Rules, tree: Option<Node>) -> Result<Machine, TooLarge>
+        ensures opens { IfOk result (λ machine. machine ≡ opening rules (tree_or_null tree)) }
         ensures refused { IsErr result ↔ (MAX_LOCATIONS < count (tree_or_null tree)) }
         ensures handed_back { IfErr result (λ too_large. (too_large.rules ≡ rules) × (too_large.tree ≡ tree)) }
     {
         if count_of(&tree) > MAX_LOCATIONS {
             return Err(TooLarge { rules, tree });
         }
-        Ok(Core {
+        Ok(Machine {
             alloc,
             rules,
             tree,
@@ -94,18 +89,11 @@ impl Core {
         })
     }
 
-    /// Answers one event of a session, at a moment in milliseconds since 1970. A read costs one step
-    /// for each key of its path, log w of w children each, the rules on the way, and the answer, and a
-    /// listen the same; a write the same for each of its locations, and what is written. Nothing grows
-    /// with what is stored beside them. Opening, closing and unlistening cost a look-up among the
-    /// sessions, a deployment what the rules that were in force take to be dropped. A step that judges
-    /// listeners again costs a read of each that is live; what a query selects is looked at only where
-    /// the step has written at, above or below the listener's path, and has changed something there. The
-    /// arena is for what one event needs: it is reset before anything is placed in it, once no refusal
-    /// is left but those of the rules, of room and of memory; closing and unlistening leave it as it is.
+    /// Answers an event as [`Core::step`](crate::Core::step) does.
     #[tactic(auto, unfolding(crate::specs::Step::Step))]
-    pub fn step(&mut self, arena: &mut Bump, now: u64, session: u64, event: Event) -> Reply
-        requires { now ≤ MAX_MOMENT }
+    pub(crate) fn step(&mut self, arena: &mut Bump, now: u64, session: u64, event: Event) -> Reply
+        requires moment { now ≤ MAX_MOMENT }
+        requires heard { AllHeard self.old }
         ensures { Step self.old now session event result self.new }
     {
         match self.answer(arena, now, session, event) {
@@ -114,11 +102,9 @@ impl Core {
         }
     }
 
-    /// Answers a read as [`Core::step`] does, by the tree that stands there, which is borrowed: so a read
-    /// costs one step for each key of its path, log w of w children each, and the rules on the way, and
-    /// nothing grows with what it answers.
+    /// Answers a read as [`Core::read`](crate::Core::read) does.
     #[tactic(auto, unfolding(crate::specs::Step::Step, listeners::specs::Selection::selection))]
-    pub fn read(
+    pub(crate) fn read(
         &self,
         arena: &mut Bump,
         now: u64,
@@ -146,7 +132,8 @@ impl Core {
         session: u64,
         event: Event,
     ) -> Result<Reply, NoMemory>
-        requires { now ≤ MAX_MOMENT }
+        requires moment { now ≤ MAX_MOMENT }
+        requires heard { AllHeard self.old }
         ensures ok { IfOk result (λ reply. outcome self.old now session event ≡ record { reply = reply; after = self.new }) }
         ensures err { OnErr result (self.new ≡ self.old) }
         ensures later { OnErr result (takes_no_memory self.old session event ≡ false) }
@@ -169,7 +156,7 @@ impl Core {
     }
 
     /// The tree that is stored, None for null.
-    pub fn tree(&self) -> Option<&Node>
+    pub(crate) fn tree(&self) -> Option<&Node>
         ensures tree { option_map (λ node. node.now) result ≡ non_null self.now.tree }
         ensures room { count self.now.tree ≤ MAX_LOCATIONS }
     {
@@ -183,7 +170,7 @@ impl Core {
     }
 
     /// The rules in force. In each of their objects at most one part is a capture.
-    pub fn rules(&self) -> &Rules
+    pub(crate) fn rules(&self) -> &Rules
         ensures rules { result.now ≡ self.now.rules }
         ensures one { HasOneCapture self.now.rules }
     {
@@ -192,7 +179,7 @@ impl Core {
     }
 
     /// How many sessions are open.
-    pub fn sessions(&self) -> usize
+    pub(crate) fn sessions(&self) -> usize
         ensures { result ≡ map_of.len self.now.sessions }
     {
         self.sessions.len()
@@ -256,25 +243,28 @@ impl Core {
             return Ok(Reply::Refused(Refusal::NoSession));
         }
         reset(arena)?;
-        let decisions = self.decide_own(&*arena, now, session, who.as_ref())?;
+        let decisions = self.decide_own(&*arena, now, session, who.as_ref(), false)?;
         self.put_identity(session, who, &decisions.made);
         Ok(Reply::Done)
     }
 
-    // What becomes of what an open session listens to, where this is who is signed in on it.
+    // What becomes of what an open session listens to, where this is who is signed in on it, and whether
+    // that is who was granted it.
     fn decide_own<'a>(
         &self,
         arena: &'a Bump,
         now: u64,
         session: u64,
         who: Option<&Identity>,
+        was_heard: bool,
     ) -> Result<Decisions<'a>, NoMemory>
         requires moment { now ≤ MAX_MOMENT }
         requires open { is_open self.now session ≡ true }
+        requires heard { was_heard ≡ true → AreHeard self.now.rules self.now.tree (who_of who) (listeners_of self.now session) }
         ensures made { IfOk result (λ decisions. decisions.made.items ≡ sparse 0 (map (fate_of self.now.tree self.now.rules self.now.tree now (who_of who.entry)) (listeners_of self.now session))) }
         ensures fits { IfOk result (λ decisions. length (listeners_of self.now session) < 2 ^ 64) }
     {
-        let passage = Passage::staying(&self.rules, self.tree.as_ref(), now);
+        let passage = Passage::staying(&self.rules, self.tree.as_ref(), now, was_heard);
         match self.sessions.get(&session) {
             Some(open) => decide_own(self.alloc, arena, &passage, who, open.listeners()),
             None => unreachable!(),
@@ -379,7 +369,8 @@ impl Core {
     }
 
     fn poll(&mut self, arena: &mut Bump, now: u64, session: u64) -> Result<Reply, NoMemory>
-        requires { now ≤ MAX_MOMENT }
+        requires moment { now ≤ MAX_MOMENT }
+        requires heard { AllHeard self.old }
         ensures ok { IfOk result (λ reply. polls self.old now session ≡ record { reply = reply; after = self.new }) }
         ensures err { OnErr result (self.new ≡ self.old) }
         ensures later { OnErr result (is_open self.old session ≡ true) }
@@ -388,7 +379,7 @@ impl Core {
             return Ok(Reply::Refused(Refusal::NoSession));
         }
         reset(arena)?;
-        let decisions = self.decide_own(&*arena, now, session, self.identity_of(session))?;
+        let decisions = self.decide_own(&*arena, now, session, self.identity_of(session), true)?;
         let news = self.news_of(arena, session, &decisions.made)?;
         self.hand_out(session, &decisions.made);
         Ok(Reply::News(news))
@@ -424,12 +415,13 @@ impl Core {
     }
 
     fn tick(&mut self, arena: &mut Bump, now: u64) -> Result<Reply, NoMemory>
-        requires { now ≤ MAX_MOMENT }
+        requires moment { now ≤ MAX_MOMENT }
+        requires heard { AllHeard self.old }
         ensures ok { IfOk result (λ reply. ticks self.old now ≡ record { reply = reply; after = self.new }) }
         ensures err { OnErr result (self.new ≡ self.old) }
     {
         reset(arena)?;
-        let decisions = self.decide_by(&*arena, &self.rules, now)?;
+        let decisions = self.decide_by(&*arena, &self.rules, now, true)?;
         self.settle_all(&decisions.made);
         Ok(Reply::Done)
     }
@@ -453,22 +445,25 @@ impl Core {
             return Ok(Reply::Refused(Refusal::NotAdmin));
         }
         reset(arena)?;
-        let decisions = self.decide_by(&*arena, &rules, now)?;
+        let decisions = self.decide_by(&*arena, &rules, now, false)?;
         self.put_rules(rules, &decisions.made);
         Ok(Reply::Done)
     }
 
-    // What becomes of all listeners by these rules, where the tree stays.
+    // What becomes of all listeners by these rules, where the tree stays, and whether these are the rules
+    // that granted them.
     fn decide_by<'a>(
         &self,
         arena: &'a Bump,
         rules: &Rules,
         now: u64,
+        was_heard: bool,
     ) -> Result<Decisions<'a>, NoMemory>
-        requires { now ≤ MAX_MOMENT }
+        requires moment { now ≤ MAX_MOMENT }
+        requires heard { was_heard ≡ true → AllHeardIn rules.now self.now.tree self.now.sessions }
         ensures { IfOk result (λ decisions. with_settled (with_rules self.now rules.now) decisions.made.items ≡ deployed self.now now rules.now) }
     {
-        let passage = Passage::staying(rules, self.tree.as_ref(), now);
+        let passage = Passage::staying(rules, self.tree.as_ref(), now, was_heard);
         self.decide_all(arena, &passage)
     }
 
@@ -541,7 +536,8 @@ impl Core {
         session: u64,
         write: Write,
     ) -> Result<Reply, NoMemory>
-        requires { now ≤ MAX_MOMENT }
+        requires moment { now ≤ MAX_MOMENT }
+        requires heard { AllHeard self.old }
         ensures ok { IfOk result (λ reply. outcome self.old now session (Event.Set write) ≡ record { reply = reply; after = self.new }) }
         ensures err { OnErr result (self.new ≡ self.old) }
         ensures later { OnErr result (takes_no_memory self.old session (Event.Set write) ≡ false) }
@@ -567,7 +563,8 @@ impl Core {
         session: u64,
         writes: Writes,
     ) -> Result<Reply, NoMemory>
-        requires { now ≤ MAX_MOMENT }
+        requires moment { now ≤ MAX_MOMENT }
+        requires heard { AllHeard self.old }
         ensures ok { IfOk result (λ reply. outcome self.old now session (Event.Update writes) ≡ record { reply = reply; after = self.new }) }
         ensures err { OnErr result (self.new ≡ self.old) }
         ensures later { OnErr result (takes_no_memory self.old session (Event.Update writes) ≡ false) }
@@ -597,6 +594,7 @@ impl Core {
         writes: Vec<Write>,
     ) -> Result<Reply, NoMemory>
         requires moment { now ≤ MAX_MOMENT }
+        requires heard { AllHeard self.old }
         requires apart { overlaps writes.items ≡ false }
         ensures ok { IfOk result (λ reply. makes self.old now session writes.items ≡ record { reply = reply; after = self.new }) }
         ensures err { OnErr result (self.new ≡ self.old) }
@@ -657,6 +655,7 @@ impl Core {
         writes: &[Write],
     ) -> Result<Judged<'a>, NoMemory>
         requires moment { now ≤ MAX_MOMENT }
+        requires heard { AllHeard self.now }
         requires apart { overlaps writes.now ≡ false }
         ensures { IfOk result (IsJudgedWrite self.now now session writes.now) }
     {
@@ -670,6 +669,7 @@ impl Core {
             writes,
             coming,
             moment: now,
+            was_heard: true,
         };
         let decisions = self.decide_all(arena, &passage)?;
         Ok(Judged::Granted(decisions))
@@ -725,7 +725,8 @@ impl Core {
         arena: &'a Bump,
         passage: &Passage<'_>,
     ) -> Result<Decisions<'a>, NoMemory>
-        requires { IsPassage passage.now }
+        requires passage { IsPassage passage.now }
+        requires heard { passage.now.was_heard ≡ true → AllHeardIn passage.now.rules.now (tree_before passage.now) self.now.sessions }
         ensures made { IfOk result (λ decisions. decisions.made.items ≡ sparse 0 (fates_of (tree_before passage.now) passage.now.rules.now (tree_after passage.now) passage.now.moment (all_sessions self.now.sessions))) }
         ensures fits { IfOk result (λ decisions. length (fates_of (tree_before passage.now) passage.now.rules.now (tree_after passage.now) passage.now.moment (all_sessions self.now.sessions)) < 2 ^ 64) }
     {

@@ -1,5 +1,6 @@
 //! A step that judges listeners: the rules and the tree after it, and how the tree has changed.
 ghost use Rattle.std.specs.Prelude.{◌≡◌, ◌≤◌, Option, option_map, false, true, IfOk};
+ghost use Rattle.std.specs.Bool.{OnTrue};
 ghost use Rattle.tree_model.specs.Write.{overlaps, proposed};
 ghost use Rattle.tree_model.specs.PathMap.{sub};
 ghost use Rattle.tree_model.specs.Tree.{non_null};
@@ -10,22 +11,24 @@ ghost use Rattle.listeners.specs.Selection.{selection};
 ghost use Rattle.judge.specs.Question.{scene_of};
 ghost use Rattle.rtdb_core.specs.Rejudged.{hears, moves, same_tree};
 ghost use Rattle.rtdb_core.specs.Working.Fates.{scene_by, fate_of};
+ghost use Rattle.rtdb_core.specs.Working.Heard.{IsHeard, IsAsBefore};
 ghost use Rattle.rtdb_core.specs.Working.Passages.{IsPassage, tree_before, tree_after, who_of};
 
 use crate::fates::Fate;
 use crate::selected::{asked_for, stored};
-use arena_snapshot::{View, is_changed, same};
+use arena_snapshot::{View, is_changed, is_changed_at, same};
 use bumpalo::Bump;
 use evaluator::{Identity, MAX_MOMENT, Moment};
 use json_tree::{NoMemory, Node};
-use judge::{Scene, may_read};
+use judge::{Scene, may_read, watched};
 use listeners::{Listener, Query, select};
 use path_capture::{Path, Write};
 use rules_reader::Rules;
 use std::alloc::Global;
 
 /// What listeners are judged by: the rules in force after the step, the tree before it, the writes that
-/// it makes, the tree that they propose, and the moment.
+/// it makes, the tree that they propose, the moment, and whether each that is live was granted its read
+/// before, by the same rules and as the same person.
 #[derive(Drop)]
 pub(crate) struct Passage<'a> {
     pub rules: &'a Rules,
@@ -33,17 +36,24 @@ pub(crate) struct Passage<'a> {
     pub writes: &'a [Write],
     pub coming: Option<View<'a>>,
     pub moment: u64,
+    pub was_heard: bool,
 }
 
 impl<'a> Passage<'a> {
     /// A step by which the tree stays.
-    pub(crate) fn staying(rules: &'a Rules, base: Option<&'a Node>, now: u64) -> Passage<'a>
+    pub(crate) fn staying(
+        rules: &'a Rules,
+        base: Option<&'a Node>,
+        now: u64,
+        was_heard: bool,
+    ) -> Passage<'a>
         requires { now ≤ MAX_MOMENT }
         ensures passage { IsPassage result }
         ensures moment { result.moment ≡ now }
         ensures before { tree_before result ≡ node_or_null base.entry }
         ensures after { tree_after result ≡ node_or_null base.entry }
         ensures rules { result.rules.now ≡ rules.now }
+        ensures heard { result.was_heard ≡ was_heard }
     {
         Passage {
             rules,
@@ -51,12 +61,14 @@ impl<'a> Passage<'a> {
             writes: &[],
             coming: stored(base),
             moment: now,
+            was_heard,
         }
     }
 }
 
-/// What becomes of a listener of whoever is signed in. It takes memory for what its rules make and bind,
-/// and, where its query's selection may have moved, for that before and after the step.
+/// What becomes of a listener of whoever is signed in. Its rules are evaluated only where it may be that
+/// they don't grant its read any longer. It takes memory for what they make and bind, and, where its query's
+/// selection may have moved, for that before and after the step.
 pub(crate) fn fate_of(
     alloc: Global,
     arena: &Bump,
@@ -64,10 +76,14 @@ pub(crate) fn fate_of(
     who: Option<&Identity>,
     listener: &Listener<'_>,
 ) -> Result<Option<Fate>, NoMemory>
-    requires { IsPassage passage.now }
+    requires passage { IsPassage passage.now }
+    requires heard { passage.now.was_heard ≡ true → IsHeard passage.now.rules.now (tree_before passage.now) (who_of who) (seen listener.now) }
     ensures { IfOk result (λ fate. fate ≡ fate_of (tree_before passage.now) passage.now.rules.now (tree_after passage.now) passage.now.moment (who_of who.entry) (seen listener.now)) }
 {
     if !listener.is_live {
+        return Ok(None);
+    }
+    if stays(passage, listener.path) {
         return Ok(None);
     }
     if !hears(alloc, arena, passage, who, listener)? {
@@ -77,6 +93,21 @@ pub(crate) fn fate_of(
         return Ok(Some(Fate::Marked));
     }
     Ok(None)
+}
+
+// Whether a listener of this path stays as it is, for nothing has changed of what its read depends on.
+fn stays(passage: &Passage<'_>, path: &Path) -> bool
+    requires { IsPassage passage.now }
+    ensures heard { OnTrue result (passage.now.was_heard ≡ true) }
+    ensures same { OnTrue result (IsAsBefore passage.now.rules.now (tree_before passage.now) (tree_after passage.now) path.now) }
+{
+    if !passage.was_heard {
+        return false;
+    }
+    match watched(passage.rules, path) {
+        Some(place) => !is_changed_at(passage.base, passage.writes, place),
+        None => false,
+    }
 }
 
 // Whether its read is granted.

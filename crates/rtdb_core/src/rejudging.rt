@@ -1,9 +1,11 @@
 //! Listeners judged again: what becomes of each is decided first, which may fail for want of memory, and
 //! then all of it is made, which can't.
-ghost use Rattle.std.specs.Prelude.{◌≡◌, ◌+◌, ◌≤◌, ◌<◌, ◌^◌, ◌++◌, length, map, IfOk, OnOk};
+ghost use Rattle.std.specs.Prelude.{◌≡◌, ◌+◌, ◌≤◌, ◌<◌, ◌^◌, ◌++◌, length, map, true, IfOk, OnOk};
+ghost use Rattle.std.specs.FinMap as map_of;
 ghost use Rattle.std.specs.Ordering.{nat_cmp};
 ghost use Rattle.std.specs.BTreeMap.{IsOrdered};
 ghost use Rattle.rtdb_core.specs.Working.Fates.{fate_of, fates_of, sparse, settled, settled_all, left_of, with_listeners};
+ghost use Rattle.rtdb_core.specs.Working.Heard.{AreHeard, AllHeardIn};
 ghost use Rattle.rtdb_core.specs.Working.Passages.{IsPassage, tree_before, tree_after, who_of};
 
 use crate::fates::{Decision, Decisions, Docket};
@@ -24,7 +26,8 @@ pub(crate) fn decide_all<'a>(
     passage: &Passage<'_>,
     sessions: &BTreeMap<u64, Session>,
 ) -> Result<Decisions<'a>, NoMemory>
-    requires { IsPassage passage.now }
+    requires passage { IsPassage passage.now }
+    requires heard { passage.now.was_heard ≡ true → AllHeardIn passage.now.rules.now (tree_before passage.now) (map_of.from_entries sessions.now.entries) }
     ensures made { IfOk result (λ decisions. decisions.made.items ≡ sparse 0 (fates_of (tree_before passage.now) passage.now.rules.now (tree_after passage.now) passage.now.moment (map (λ e. e.1) sessions.now.entries))) }
     ensures fits { IfOk result (λ decisions. length (fates_of (tree_before passage.now) passage.now.rules.now (tree_after passage.now) passage.now.moment (map (λ e. e.1) sessions.now.entries)) < 2 ^ 64) }
     ensures ordered { IsOrdered nat_cmp sessions.now }
@@ -52,7 +55,8 @@ pub(crate) fn decide_own<'a>(
     who: Option<&Identity>,
     listeners: &Table,
 ) -> Result<Decisions<'a>, NoMemory>
-    requires { IsPassage passage.now }
+    requires passage { IsPassage passage.now }
+    requires heard { passage.now.was_heard ≡ true → AreHeard passage.now.rules.now (tree_before passage.now) (who_of who) listeners.now }
     ensures made { IfOk result (λ decisions. decisions.made.items ≡ sparse 0 (map (fate_of (tree_before passage.now) passage.now.rules.now (tree_after passage.now) passage.now.moment (who_of who.entry)) listeners.now)) }
     ensures fits { IfOk result (λ decisions. length listeners.now < 2 ^ 64) }
 {
@@ -70,7 +74,8 @@ fn decide_each(
     listeners: &Table,
     decisions: &mut Decisions<'_>,
 ) -> Result<(), NoMemory>
-    requires { IsPassage passage.now }
+    requires passage { IsPassage passage.now }
+    requires heard { passage.now.was_heard ≡ true → AreHeard passage.now.rules.now (tree_before passage.now) (who_of who) listeners.now }
     ensures place { OnOk result (decisions.new.place ≡ decisions.old.place + length listeners.now) }
     ensures made { OnOk result (decisions.new.made.items ≡ decisions.old.made.items ++ sparse decisions.old.place (map (fate_of (tree_before passage.now) passage.now.rules.now (tree_after passage.now) passage.now.moment (who_of who.entry)) listeners.now)) }
 {

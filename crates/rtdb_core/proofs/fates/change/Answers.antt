@@ -1,4 +1,3 @@
-use Rattle.std.proofs.Common.{false}
 use Rattle.listeners.specs.Listener.{seen}
 use Rattle.rtdb_core.proofs.Fatings.{cancelled_stays}
 use Rattle.rtdb_core.proofs.fates.change.Goals as goal

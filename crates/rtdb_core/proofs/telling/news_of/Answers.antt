@@ -3,7 +3,7 @@ use Rattle.std.specs.List.{cons_option}
 use Rattle.arena_snapshot.specs.View.{node_or_null}
 use Rattle.listeners.specs.Listener.{seen}
 use Rattle.rtdb_core.specs.Step.{told, news_of}
-use Rattle.rtdb_core.specs.Working.Fates.{settled, fated, front}
+use Rattle.rtdb_core.specs.Working.Fates.{settled, fated}
 use Rattle.rtdb_core.specs.declared.fates.Fate.{Fate}
 use Rattle.rtdb_core.specs.declared.news.Notice.{Notice}
 use Rattle.rtdb_core.proofs.Fatings.{tells_on, all_told}

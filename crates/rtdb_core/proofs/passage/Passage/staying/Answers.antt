@@ -1,5 +1,4 @@
 use Rattle.std.proofs.Common.{◌∙◌, sym, ap, refl}
-use Rattle.tree_model.specs.Write.{proposed}
 use Rattle.tree_model.proofs.Writes.{proposed-none}
 use Rattle.path_capture.specs.Write.{tree_or_null}
 use Rattle.arena_snapshot.specs.View.{node_or_null}

@@ -1,0 +1,24 @@
+use Rattle.std.proofs.Common.{◌∙◌, IsSome, is_some, refl, ap, subst}
+use Rattle.std.proofs.lemmas.Bool.{false≢true}
+use Rattle.path_capture.specs.Write.{tree_or_null}
+use Rattle.listeners.specs.Table.{taken}
+use Rattle.rtdb_core.specs.State.{State, Session, is_open, identity_of, listeners_of}
+use Rattle.rtdb_core.specs.Working.Fates.{with_listeners, settled}
+use Rattle.rtdb_core.proofs.Sessions.{has, identity_is, listeners_are, put_is}
+use Rattle.rtdb_core.proofs.machine.Machine.hand_out.Goals as goal
+
+pub unreachable-requires : goal.unreachable-requires
+unreachable-requires c =
+    false≢true (ap is_some c.in_default.ensures.value ∙ has c.self.inside.sessions.entries c.args.session ∙ ap (λ (state : State). is_open state c.args.session) c.self.view_is ∙ c.requires)
+
+pub returns : goal.returns
+returns c =
+    let es = c.self.inside.sessions.entries in
+    let fs = (c.get_mut.follows.lender c.take_marked.new.self).entries in
+    let tree = tree_or_null c.self.inside.tree in
+    let written = c.get_mut.follows.holds c.take_marked.new.self in
+    let changed = written.3 (subst (λ o. IsSome o) c.in-Some.ensures.value refl) in
+    let who = identity_is tree c.self.inside.rules es fs c.args.self.now c.args.session c.in-Some.open.now c.take_marked.new.self c.self.view_is c.in-Some.ensures.value in
+    let heard = listeners_are tree c.self.inside.rules es fs c.args.self.now c.args.session c.in-Some.open.now c.take_marked.new.self c.self.view_is c.in-Some.ensures.value in
+    let made = c.settle.ensures.made ∙ (λ i. with_listeners c.in-Some.open.now (settled (c.new.ensures.place i) (c.new.ensures.decisions i) c.in-Some.open.now.listeners)) in
+    put_is tree c.self.inside.rules es fs c.args.self.now c.args.session c.in-Some.open.now c.take_marked.new.self c.self.view_is changed.0 (identity_of c.args.self.now c.args.session) (taken (settled 0 c.args.decisions.now (listeners_of c.args.self.now c.args.session))) (c.take_marked.ensures ∙ ap (λ (one : Session). with_listeners one (taken one.listeners)) made ∙ (λ i. record { identity = who i; listeners = taken (settled 0 c.args.decisions.now (heard i)) }))

@@ -1,0 +1,118 @@
+//! The database, of which each live listener was granted what it listens to.
+ghost use Rattle.std.specs.Prelude.{◌≡◌, ◌↔◌, ◌≤◌, ◌<◌, Option, None, IsErr, IfOk, IfErr, option_map};
+ghost use Rattle.std.specs.FinMap as map_of;
+ghost use Rattle.tree_model.specs.Tree.{non_null, count};
+ghost use Rattle.path_capture.specs.Write.{tree_or_null};
+ghost use Rattle.rules_reader.specs.Place.{HasOneCapture};
+ghost use Rattle.rtdb_core.specs.State.{opening};
+ghost use Rattle.rtdb_core.specs.Step.{Step};
+
+use crate::event::Event;
+use crate::limits::MAX_LOCATIONS;
+use crate::machine::Machine;
+use crate::reply::{Refusal, Reply};
+use bumpalo::Bump;
+use evaluator::MAX_MOMENT;
+use json_tree::Node;
+use path_capture::Path;
+use rules_reader::Rules;
+use std::alloc::Global;
+use std::marker::Model;
+
+/// A database: a tree, the rules in force, and the sessions that are open. It keeps the allocator
+/// that it was made with. Contracts see the three.
+#[derive(Drop)]
+pub struct Core {
+    machine: Machine,
+}
+
+/// The tree has more than [`MAX_LOCATIONS`] locations. Rules and tree are handed back.
+#[derive(Drop)]
+pub struct TooLarge {
+    pub rules: Rules,
+    pub tree: Option<Node>,
+}
+
+impl Model for Core {
+    ghost use Rattle.rtdb_core.specs.State.{State, state_code};
+    ghost use Rattle.rtdb_core.specs.Working.Heard.{AllHeard};
+
+    ghost Value = { State };
+
+    ghost coded = { state_code };
+
+    ghost view = { λ core. core.machine };
+
+    ghost invariant = { λ core. AllHeard core.machine };
+}
+
+impl Core {
+    /// A database with these rules and this tree, null for None, in which no session is open, unless
+    /// the tree has too many locations. It takes no memory.
+    pub fn new(alloc: Global, rules: Rules, tree: Option<Node>) -> Result<Core, TooLarge>
+        ensures opens { IfOk result (λ core. core ≡ opening rules (tree_or_null tree)) }
+        ensures refused { IsErr result ↔ (MAX_LOCATIONS < count (tree_or_null tree)) }
+        ensures handed_back { IfErr result (λ too_large. (too_large.rules ≡ rules) × (too_large.tree ≡ tree)) }
+    {
+        let machine = Machine::new(alloc, rules, tree)?;
+        Ok(Core { machine })
+    }
+
+    /// Answers one event of a session, at a moment in milliseconds since 1970. A read costs one step
+    /// for each key of its path, log w of w children each, the rules on the way, and the answer, and a
+    /// listen the same; a write the same for each of its locations, and what is written. Nothing grows
+    /// with what is stored beside them. Opening, closing and unlistening cost a look-up among the
+    /// sessions, a deployment what the rules that were in force take to be dropped. A step that judges
+    /// listeners again costs a look at the rules of each that is live; these are evaluated only where the
+    /// step signs in or out, deploys, or has changed what they look at, or where they look at the moment or
+    /// at other places; and what a query selects is looked at only where the step has written at, above or
+    /// below the listener's path, and has changed something there. The
+    /// arena is for what one event needs: it is reset before anything is placed in it, once no refusal
+    /// is left but those of the rules, of room and of memory; closing and unlistening leave it as it is.
+    pub fn step(&mut self, arena: &mut Bump, now: u64, session: u64, event: Event) -> Reply
+        requires { now ≤ MAX_MOMENT }
+        ensures { Step self.old now session event result self.new }
+    {
+        self.machine.step(arena, now, session, event)
+    }
+
+    /// Answers a read as [`Core::step`] does, by the tree that stands there, which is borrowed: so a read
+    /// costs one step for each key of its path, log w of w children each, and the rules on the way, and
+    /// nothing grows with what it answers.
+    pub fn read(
+        &self,
+        arena: &mut Bump,
+        now: u64,
+        session: u64,
+        path: &Path,
+    ) -> Result<Option<&Node>, Refusal>
+        requires { now ≤ MAX_MOMENT }
+        ensures found { IfOk result (λ found. Step self.now now session (Event.Get path.now None) (Reply.Value (option_map (λ node. node.now) found)) self.now) }
+        ensures refused { IfErr result (λ refusal. Step self.now now session (Event.Get path.now None) (Reply.Refused refusal) self.now) }
+    {
+        self.machine.read(arena, now, session, path)
+    }
+
+    /// The tree that is stored, None for null.
+    pub fn tree(&self) -> Option<&Node>
+        ensures tree { option_map (λ node. node.now) result ≡ non_null self.now.tree }
+        ensures room { count self.now.tree ≤ MAX_LOCATIONS }
+    {
+        self.machine.tree()
+    }
+
+    /// The rules in force. In each of their objects at most one part is a capture.
+    pub fn rules(&self) -> &Rules
+        ensures rules { result.now ≡ self.now.rules }
+        ensures one { HasOneCapture self.now.rules }
+    {
+        self.machine.rules()
+    }
+
+    /// How many sessions are open.
+    pub fn sessions(&self) -> usize
+        ensures { result ≡ map_of.len self.now.sessions }
+    {
+        self.machine.sessions()
+    }
+}
