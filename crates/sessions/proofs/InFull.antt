@@ -1,5 +1,5 @@
 -- Each line has one answer in which nothing wants memory.
-use Rattle.std.proofs.Common.{◌≡◌, ◌≢◌, ℕ, Bool, true, false, cond, List, ◌++◌, length, Option, Some, None, option_map, option_and_then, Result, Ok, Err, refl, sym, ap, subst, inl, inr, ◌∙◌}
+use Rattle.std.proofs.Common.{◌≡◌, ◌≢◌, ℕ, Bool, true, false, cond, List, ◌++◌, length, Option, Some, None, option_map, option_and_then, Result, Ok, Err, refl, sym, ap, subst, inl, inr, ◌⊎◌, ◌∙◌}
 use Rattle.std.specs.Prelude.{codes, nat_le, ◌+◌}
 use Rattle.std.specs.List.{list_all}
 use Rattle.std.specs.Str.{is_utf8}
@@ -16,10 +16,13 @@ use Rattle.path_capture.specs.Path.{segments}
 use Rattle.listeners.specs.Query.{query_of}
 use Rattle.evaluator.specs.Identity.{Identity}
 use Rattle.rules_reader.specs.Book.{Book}
+use Rattle.rules_reader.specs.File.{States}
 use Rattle.rules_reader.specs.Refusal.{Refuses}
 use Rattle.rules_reader.specs.declared.fault.RulesFault.{RulesFault}
 use Rattle.rules_reader.specs.declared.fault.RulesFault.TheVariants as rules_faults
 use Rattle.rules_reader.proofs.Decided.{states_one, one_reason, never_both}
+use Rattle.rules_reader.proofs.Answered.{each_file}
+use Rattle.rules_reader.proofs.OneCapture.{stated_one}
 use Rattle.tokens.specs.Tokens.{Tokens, has_only, text_at, identity_named}
 use Rattle.rtdb_core.specs.declared.event.Event.{Event}
 use Rattle.rtdb_core.specs.declared.event.Event.TheVariants as events
@@ -43,7 +46,7 @@ use Rattle.messages.proofs.Texts.{one_rules_text}
 use Rattle.messages.specs.declared.message.Verb.{Verb}
 use Rattle.messages.specs.declared.message.Verb.TheVariants as verbs
 use Rattle.messages.specs.Message.{or_fault, unless_fault, value_of, form_members, verb_members, stamp_of, path_of, query_at, query_said, id_at, path_in, path_below, tree_of_value, write_at, write_below, writes_below, wanted_by, verb_in, request_of, asks}
-use Rattle.sessions.specs.Said.{IsAnsweredBy, IsAnsweredInFullBy, IsAnsweredInFull, IsAnswered, DeploysText, IsDecided}
+use Rattle.sessions.specs.Said.{IsAnsweredBy, IsAnsweredInFullBy, IsAnsweredInFull, IsAnswered}
 use Rattle.messages.specs.AnswerText as answer
 
 -- ---- no fault of a message is want of memory
@@ -180,29 +183,29 @@ by_secret old tokens line request secret is want (Some who) named =
     asked_full old tokens line (record { stamp = request.stamp; event = events.SignIn who }) (request, is, refl, subst (λ (w : Wanted). ComesTo tokens w (events.SignIn who)) (sym want) (who, named, refl))
 by_secret old tokens line request secret is want None named = fault_full old tokens line line_faults.UnknownToken (λ e. cc, λ e. cc) (request, secret, is, want, named)
 
-by_text : (old : State) (tokens : Tokens) (line : List ℕ) (request : Request) (text : List ℕ) → asks Script line ≡ Ok request → request.wanted ≡ Deploy text → IsDecided text → (said : List ℕ) × (new : State) × IsAnsweredInFull tokens old line said new
+by_text : (old : State) (tokens : Tokens) (line : List ℕ) (request : Request) (text : List ℕ) → asks Script line ≡ Ok request → request.wanted ≡ Deploy text → ((book : Book) × States text book) ⊎ ((fault : RulesFault) × Refuses text fault × (fault ≢ rules_faults.NoMemory)) → (said : List ℕ) × (new : State) × IsAnsweredInFull tokens old line said new
 by_text old tokens line request text is want (inl h) =
-    asked_full old tokens line (record { stamp = request.stamp; event = events.Deploy h.0 }) (request, is, refl, subst (λ (w : Wanted). ComesTo tokens w (events.Deploy h.0)) (sym want) (h.0, h.1, h.2, refl))
+    asked_full old tokens line (record { stamp = request.stamp; event = events.Deploy h.0 }) (request, is, refl, subst (λ (w : Wanted). ComesTo tokens w (events.Deploy h.0)) (sym want) (h.0, h.1, stated_one text h.0 h.1, refl))
 by_text old tokens line request text is want (inr h) = fault_full old tokens line (line_faults.Rules h.0) (λ e. cc, other h.0 h.2) (request, text, is, want, h.1)
   where
     other : (fault : RulesFault) → fault ≢ rules_faults.NoMemory → line_faults.Rules fault ≢ line_faults.Rules rules_faults.NoMemory
     other fault n e = n (cc)
 
-by_wanted : (old : State) (tokens : Tokens) (line : List ℕ) (request : Request) → ((text : List ℕ) → DeploysText line text → IsDecided text) → asks Script line ≡ Ok request → (want : Wanted) → request.wanted ≡ want → (text : List ℕ) × (new : State) × IsAnsweredInFull tokens old line text new
-by_wanted old tokens line request decided is (wanted.Step event) want =
+by_wanted : (old : State) (tokens : Tokens) (line : List ℕ) (request : Request) → asks Script line ≡ Ok request → (want : Wanted) → request.wanted ≡ want → (text : List ℕ) × (new : State) × IsAnsweredInFull tokens old line text new
+by_wanted old tokens line request is (wanted.Step event) want =
     asked_full old tokens line (record { stamp = request.stamp; event = event }) (request, is, refl, subst (λ (w : Wanted). ComesTo tokens w event) (sym want) refl)
-by_wanted old tokens line request decided is (SignIn secret) want = by_secret old tokens line request secret is want (identity_named tokens secret) refl
-by_wanted old tokens line request decided is (Deploy text) want = by_text old tokens line request text is want (decided text (request, is, want))
+by_wanted old tokens line request is (SignIn secret) want = by_secret old tokens line request secret is want (identity_named tokens secret) refl
+by_wanted old tokens line request is (Deploy text) want = by_text old tokens line request text is want (each_file text)
 
-some_by : (old : State) (tokens : Tokens) (line : List ℕ) → ((text : List ℕ) → DeploysText line text → IsDecided text) → (message : Result Request MessageFault) → asks Script line ≡ message → (text : List ℕ) × (new : State) × IsAnsweredInFull tokens old line text new
-some_by old tokens line decided (Ok request) is = by_wanted old tokens line request decided is request.wanted refl
-some_by old tokens line decided (Err fault) is = fault_full old tokens line (line_faults.Message fault) (λ e. asks_never Script line (is ∙ ap Err (same e)), λ e. cc) (inr is)
+some_by : (old : State) (tokens : Tokens) (line : List ℕ) → (message : Result Request MessageFault) → asks Script line ≡ message → (text : List ℕ) × (new : State) × IsAnsweredInFull tokens old line text new
+some_by old tokens line (Ok request) is = by_wanted old tokens line request is request.wanted refl
+some_by old tokens line (Err fault) is = fault_full old tokens line (line_faults.Message fault) (λ e. asks_never Script line (is ∙ ap Err (same e)), λ e. cc) (inr is)
   where
     same : line_faults.Message fault ≡ line_faults.Message NoMemory → fault ≡ NoMemory
     same e = cc
 
-pub some_full : (tokens : Tokens) (old : State) (line : List ℕ) → ((text : List ℕ) → DeploysText line text → IsDecided text) → (text : List ℕ) × (new : State) × IsAnsweredInFull tokens old line text new
-some_full tokens old line decided = some_by old tokens line decided (asks Script line) refl
+pub some_full : (tokens : Tokens) (old : State) (line : List ℕ) → (text : List ℕ) × (new : State) × IsAnsweredInFull tokens old line text new
+some_full tokens old line = some_by old tokens line (asks Script line) refl
 
 -- ---- one answer
 

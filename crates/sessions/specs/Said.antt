@@ -1,13 +1,6 @@
 -- What a script is answered.
-use Rattle.std.specs.Prelude.{◌≡◌, ◌≢◌, ℕ, ◌⊎◌, List, [], ◌∷◌, ◌++◌, length, Result, Ok, Err, ⊤, flat_map}
-use Rattle.rules_reader.specs.Book.{Book, rules}
-use Rattle.rules_reader.specs.File.{States}
-use Rattle.rules_reader.specs.Place.{HasOneCapture}
-use Rattle.rules_reader.specs.Refusal.{Refuses}
-use Rattle.rules_reader.specs.declared.fault.RulesFault.{RulesFault}
-use Rattle.messages.specs.declared.message.Request.{Request}
-use Rattle.messages.specs.declared.message.Wanted.TheVariants.{Deploy}
-use Rattle.messages.specs.Message.{asks}
+use Rattle.std.specs.Prelude.{◌≡◌, ◌≢◌, ℕ, List, [], ◌∷◌, ◌++◌, length, Result, Ok, Err, ⊤, flat_map}
+use Rattle.rules_reader.specs.Book.{rules}
 use Rattle.rtdb_core.specs.declared.reply.Refusal.TheVariants as refusals
 use Rattle.rtdb_core.specs.declared.reply.Reply.{Reply}
 use Rattle.rtdb_core.specs.declared.reply.Reply.TheVariants.{Refused}
@@ -52,14 +45,6 @@ IsAnsweredInFullBy old (Err fault) text new = (fault ≢ line_faults.Message NoM
 -- a line is answered by what it asks, and nothing wants memory
 abbrev pub IsAnsweredInFull : Tokens → State → List ℕ → List ℕ → State → Type 0
 IsAnsweredInFull tokens old line text new = (message : Result Asked LineFault) × IsAsked tokens Script line message × IsAnsweredInFullBy old message text new
-
--- the line deploys the rules file with this text
-abbrev pub DeploysText : List ℕ → List ℕ → Type 0
-DeploysText line text = (request : Request) × (asks Script line ≡ Ok request) × (request.wanted ≡ Deploy text)
-
--- the text of a rules file states rules, or is refused, and not for want of memory
-abbrev pub IsDecided : List ℕ → Type 0
-IsDecided text = ((book : Book) × States text book × HasOneCapture book) ⊎ ((fault : RulesFault) × Refuses text fault × (fault ≢ rules_faults.NoMemory))
 
 -- these lines are answered by these texts, one after another, from old to new
 abbrev pub AreAnswered : Tokens → State → List (List ℕ) → List (List ℕ) → State → Type 0
