@@ -728,7 +728,7 @@ def in_size(text):
 
 def equal(a, b):
     types = type_of(a), type_of(b)
-    need(types not in (("sentinel", "sentinel"), ("record", "record")))
+    need(not set(types) <= {"sentinel", "record"})
     return types[0] == types[1] and a == b
 
 
