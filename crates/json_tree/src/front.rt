@@ -1,10 +1,14 @@
 //! The front of a text: what mostly tells it from another, without a look at the text.
-ghost use Rattle.std.specs.Prelude.{◌≡◌, slice_index};
+ghost use Rattle.std.specs.Prelude.{◌≡◌, true};
+ghost use Rattle.std.specs.Int.{w64, from_be_bytes};
 ghost use Rattle.std.specs.Ordering.{nat_cmp};
-ghost use Rattle.json_tree.specs.Working.Front.{IsFrontOf};
+ghost use Rattle.json_tree.specs.Working.Front.{IsFrontOf, IsTold};
 
 use std::cmp::Ordering;
 use std::marker::Model;
+
+/// How many bytes a front has.
+const FRONT_BYTES: usize = 8;
 
 /// The first 8 bytes of a text as one number, the first of them the highest, where a byte that is not there
 /// is 0. Texts whose fronts are not the same stand to each other as these.
@@ -16,6 +20,8 @@ pub(crate) struct Front(u64);
 pub(crate) struct Sought<'a> {
     pub(crate) text: &'a str,
     pub(crate) front: Front,
+    // Where it is true, a key with the same front is this text.
+    pub(crate) is_told: bool,
 }
 
 impl Front {
@@ -23,23 +29,7 @@ impl Front {
     pub(crate) fn of(text: &str) -> Front
         ensures { IsFrontOf text.now result.0 }
     {
-        let bytes = text.as_bytes();
-        if 8 <= bytes.len() {
-            Front(u64::from_be_bytes([
-                bytes[0], bytes[1], bytes[2], bytes[3], bytes[4], bytes[5], bytes[6], bytes[7],
-            ]))
-        } else {
-            Front(u64::from_be_bytes([
-                byte_at(bytes, 0),
-                byte_at(bytes, 1),
-                byte_at(bytes, 2),
-                byte_at(bytes, 3),
-                byte_at(bytes, 4),
-                byte_at(bytes, 5),
-                byte_at(bytes, 6),
-                byte_at(bytes, 7),
-            ]))
-        }
+        Front(u64::from_be_bytes(first_of(text.as_bytes())))
     }
 
     // Where it stands beside another.
@@ -50,22 +40,41 @@ impl Front {
     }
 }
 
-// The byte at a place, 0 behind the last.
-fn byte_at(bytes: &[u8], place: usize) -> u8
-    ensures { result ≡ slice_index bytes.now place }
+// The first bytes, and 0 for each that is not there.
+fn first_of(bytes: &[u8]) -> [u8; FRONT_BYTES]
+    ensures { from_be_bytes w64 result ≡ from_be_bytes w64 bytes.now }
 {
-    if place < bytes.len() { bytes[place] } else { 0 }
+    match *bytes {
+        [] => [0, 0, 0, 0, 0, 0, 0, 0],
+        [a] => [a, 0, 0, 0, 0, 0, 0, 0],
+        [a, b] => [a, b, 0, 0, 0, 0, 0, 0],
+        [a, b, c] => [a, b, c, 0, 0, 0, 0, 0],
+        [a, b, c, d] => [a, b, c, d, 0, 0, 0, 0],
+        [a, b, c, d, e] => [a, b, c, d, e, 0, 0, 0],
+        [a, b, c, d, e, f] => [a, b, c, d, e, f, 0, 0],
+        [a, b, c, d, e, f, g] => [a, b, c, d, e, f, g, 0],
+        [a, b, c, d, e, f, g, h, ..] => [a, b, c, d, e, f, g, h],
+    }
+}
+
+// Whether no key but this text has its front: the keys have no byte 0, so a front that ends with one has all of
+// its key.
+fn is_told(bytes: &[u8]) -> bool
+    ensures { result ≡ true → IsTold bytes.now }
+{
+    let length = bytes.len();
+    0 < length && length < FRONT_BYTES && bytes[length - 1] != 0
 }
 
 impl<'a> Model for Sought<'a> {
     ghost use Rattle.std.specs.Prelude.{ℕ, List};
-    ghost use Rattle.json_tree.specs.Working.Front.{IsFrontOf};
+    ghost use Rattle.json_tree.specs.Working.Front.{IsSought};
 
     ghost Value = { List ℕ };
 
     ghost view = { λ sought. sought.text.now };
 
-    ghost invariant = { λ sought. IsFrontOf sought.text.now sought.front.0 };
+    ghost invariant = { λ sought. IsSought sought.text.now sought.front.0 sought.is_told };
 }
 
 impl<'a> Sought<'a> {
@@ -76,6 +85,7 @@ impl<'a> Sought<'a> {
         Sought {
             text,
             front: Front::of(text),
+            is_told: is_told(text.as_bytes()),
         }
     }
 }

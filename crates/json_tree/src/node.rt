@@ -107,12 +107,20 @@ impl Child {
         &self.held.1
     }
 
-    // Where the key stands beside a text: the fronts tell, and where they are the same, the key.
+    // Where the key stands beside a text: the fronts tell, and where they are the same and the text is longer,
+    // the key.
     fn compare(&self, sought: &Sought<'_>) -> Ordering
         ensures { result ≡ key_cmp self.now.0 sought.now }
     {
         match self.front.compare(sought.front) {
-            Ordering::Equal => self.key().compare(sought.text),
+            Ordering::Equal => {
+                if sought.is_told {
+                    self.key().text();
+                    Ordering::Equal
+                } else {
+                    self.key().compare(sought.text)
+                }
+            }
             apart => apart,
         }
     }
