@@ -14,3 +14,4 @@ pub mod Reaching
 pub mod Coming
 pub mod Looking
 pub mod Depending
+pub mod Unvalidated

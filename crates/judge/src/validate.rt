@@ -2,6 +2,7 @@
 ghost use Rattle.std.specs.Prelude.{◌≡◌, ◌≤◌, ◌<◌, ◌++◌, ◌∷◌, [], length, map, reverse, IfOk, OnOk};
 ghost use Rattle.tree_model.specs.declared.limits.TheConstants.{MAX_DEPTH as most_keys};
 ghost use Rattle.tree_model.specs.Tree.{IsLawful};
+ghost use Rattle.rules_reader.specs.declared.kind.Kind.TheVariants.{Validate as ValidateKind};
 ghost use Rattle.judge.specs.Working.Standing.{ask_of, path_of, coming_of, Stands};
 ghost use Rattle.judge.specs.Working.Locations.{paths, rests, PathsAscend, AllBegin};
 ghost use Rattle.judge.specs.Working.Found.{Found, FailsFrom, Below, Near, FaultsHere, place_of, fault_of};
@@ -44,7 +45,8 @@ fn failing<'a>(
     }
 }
 
-// The first failing place at the spot and below it.
+// The first failing place at the spot and below it. Where no `.validate` is stated there or below, nothing is
+// looked at.
 #[cycle(everywhere)]
 fn everywhere<'a>(
     alloc: Global,
@@ -53,10 +55,14 @@ fn everywhere<'a>(
     captures: &mut Captures<'a>,
 ) -> Result<Option<Failure<'a>>, NoMemory>
     requires here { Stands asking.now spot.now captures.old }
+    requires kind { asking.now.kind ≡ ValidateKind }
     requires lawful { IsLawful (coming_of asking.now) }
     ensures found { IfOk result (Found (FailsFrom (ask_of asking.now) (coming_of asking.now) (path_of spot.now))) }
     ensures back { OnOk result (captures.new ≡ captures.old) }
 {
+    if !spot.rule.has_validate() {
+        return Ok(None);
+    }
     let Some(view) = coming(spot) else {
         return Ok(None);
     };
@@ -87,6 +93,7 @@ fn everywhere_below<'a>(
     captures: &mut Captures<'a>,
 ) -> Result<Option<Failure<'a>>, NoMemory>
     requires here { Stands asking.now spot.now captures.old }
+    requires kind { asking.now.kind ≡ ValidateKind }
     requires lawful { IsLawful (coming_of asking.now) }
     requires room { length (path_of spot.now) < most_keys }
     ensures found { IfOk result (Found (Below key.now (FailsFrom (ask_of asking.now) (coming_of asking.now) (path_of spot.now)))) }
@@ -101,8 +108,8 @@ fn everywhere_below<'a>(
 }
 
 /// The first failing place that touches one of these locations, at the spot or below it: a walk in the
-/// order of paths, which goes into no branch where neither a location leads nor anything was written,
-/// and behind no failing place. Each `.validate` that stands where something exists is asked once.
+/// order of paths, which goes into no branch where neither a location leads nor anything was written, or
+/// where no `.validate` is stated, and behind no failing place. Each `.validate` that stands where something exists is asked once.
 #[cycle(towards)]
 pub(crate) fn towards<'a>(
     alloc: Global,
@@ -112,6 +119,7 @@ pub(crate) fn towards<'a>(
     captures: &mut Captures<'a>,
 ) -> Result<Option<Failure<'a>>, NoMemory>
     requires here { Stands asking.now spot.now captures.old }
+    requires kind { asking.now.kind ≡ ValidateKind }
     requires lawful { IsLawful (coming_of asking.now) }
     requires sorted { PathsAscend (rests (length (path_of spot.now)) (paths locations.now)) }
     ensures found { IfOk result (Found (Near (rests (length (path_of spot.now)) (paths locations.now)) (FailsFrom (ask_of asking.now) (coming_of asking.now) (path_of spot.now)))) }
@@ -119,6 +127,9 @@ pub(crate) fn towards<'a>(
 {
     let depth = spot.here.depth();
     if locations.is_empty() {
+        return Ok(None);
+    }
+    if !spot.rule.has_validate() {
         return Ok(None);
     }
     let Some(_) = key_at(locations[0], depth) else {
@@ -159,6 +170,7 @@ fn towards_below<'a>(
     captures: &mut Captures<'a>,
 ) -> Result<Option<Failure<'a>>, NoMemory>
     requires here { Stands asking.now spot.now captures.old }
+    requires kind { asking.now.kind ≡ ValidateKind }
     requires lawful { IsLawful (coming_of asking.now) }
     requires sorted { PathsAscend (rests (length (path_of spot.now)) (paths locations.now)) }
     requires begin { AllBegin key.now (length (path_of spot.now)) (paths locations.now) }

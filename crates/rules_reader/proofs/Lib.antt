@@ -16,6 +16,7 @@ pub mod Cuts
 pub mod RulesBelow
 pub mod Built
 pub mod Unreads
+pub mod Unvalidated
 pub mod CaptureNames
 pub mod Compiled
 pub mod Decided

@@ -1,5 +1,5 @@
 -- Which pattern stands at a path, one key after another; and that there is at most one.
-use Rattle.std.proofs.Common.{◌≡◌, ℕ, zero, suc, ◌<◌, ◌≤◌, inl, inr, true, false, cond, not, List, [], ◌∷◌, ◌++◌, length, take, drop, get_or, is_some, IsSome, sym, ap, ◌∙◌, refl, arith, length-append}
+use Rattle.std.proofs.Common.{◌≡◌, ℕ, zero, suc, ◌+◌, ◌<◌, ◌≤◌, inl, inr, true, false, cond, not, List, [], ◌∷◌, ◌++◌, length, take, drop, get_or, is_some, IsSome, sym, ap, ◌∙◌, refl, arith, length-append}
 use Rattle.std.specs.FinMap as map_of
 use Rattle.std.specs.Str.{bytes_eq}
 use Rattle.std.proofs.lemmas.Bool.{false≢true}
@@ -142,3 +142,17 @@ none_further b q p path i one l s none t =
     length-take-le [] n h = absurd (omega arith)
     length-take-le (x ∷ xs) zero h = refl
     length-take-le (x ∷ xs) (suc n) h = let shorter = length-take-le xs n (omega arith) in omega arith
+
+-- where q stands at the first keys of a path, whatever stands at the path begins with it
+pub begins_with : (b : Book) (q p : Pattern) (path below : Path) → HasOneCapture b → StandsAt b q path → StandsAt b p (path ++ below) → take (length path) p ≡ q
+begins_with b q p path below one s t =
+    let short : length q ≡ length path = s.long in
+    let long : length p ≡ length (path ++ below) = t.long in
+    let deep : length (path ++ below) ≡ length path + length below = length-append path below in
+    agree b p q (path ++ below) (length path) one t.listed s.listed (omega arith) (omega arith) (λ j h. t.matched j (omega arith))
+    (λ j h. ap (λ x. matches b (take j q) (get_or q j []) x) (at-before path below j [] h) ∙ s.matched j (omega arith))
+    ∙ ap (λ n. take n q) (sym short) ∙ take_whole q
+  where
+    take_whole : {A : Type 0} (xs : List A) → take (length xs) xs ≡ xs
+    take_whole [] = refl
+    take_whole (x ∷ xs) = ap (λ ys. x ∷ ys) (take_whole xs)

@@ -60,6 +60,10 @@ own_rules e = stated e.0 Read e.1.read ++ stated e.0 Validate e.1.validate ++ st
 unfoldable pub rules : {A : Type 0} → BookOf A → List (RuleOf A)
 rules b = flat_map own_rules (map_of.entries b)
 
+-- some object of the book states a `.validate`
+unfoldable pub validates : {A : Type 0} → BookOf A → Bool
+validates b = list_any (λ e. is_some e.1.validate) (map_of.entries b)
+
 -- how many rules an object states
 abbrev pub stated_count : {A : Type 0} → Stated A → ℕ
 stated_count s = length (stated [] Read s.read) + (length (stated [] Validate s.validate) + length (stated [] Write s.write))

@@ -79,7 +79,7 @@ pub fn compile(alloc: Global, bytes: &[u8]) -> Result<Rules, RulesFault>
     }
     let root = build(alloc, rules, Pattern::new(alloc))?;
     root.law();
-    Ok(Rules::of_root(root, count))
+    Ok(Rules::of_root(alloc, root, count)?)
 }
 
 /// A file states at most one book, or is refused for at most one reason, and never both; but for want

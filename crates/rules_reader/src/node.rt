@@ -1,12 +1,12 @@
 //! A rule node: an object of a rules file, with the rules that stand there.
-ghost use Rattle.std.specs.Prelude.{◌≡◌, ℕ, [], true, Some, None, List, map, length, option_map, option_and_then, MatchOption, slice_get, min, IfSome, IfNone};
-ghost use Rattle.std.specs.List.{AllByRecursion};
+ghost use Rattle.std.specs.Prelude.{◌≡◌, ◌||◌, ℕ, [], true, is_some, Some, None, List, map, length, option_map, option_and_then, MatchOption, slice_get, min, IfSome, IfNone};
+ghost use Rattle.std.specs.List.{AllByRecursion, list_any};
 ghost use Rattle.std.specs.FinMap.{is_sorted, find};
 ghost use Rattle.std.specs.FinMap as map_of;
 ghost use Rattle.tree_model.specs.Key.{key_cmp};
 ghost use Rattle.tree_model.specs.PathMap.{get};
 ghost use Rattle.rules_reader.specs.Part.{texts, is_capture};
-ghost use Rattle.rules_reader.specs.Book.{rules, stated_for};
+ghost use Rattle.rules_reader.specs.Book.{rules, stated_for, validates};
 ghost use Rattle.rules_reader.specs.Spelled.{IsLawful};
 ghost use Rattle.rules_reader.specs.declared.kind.Kind.TheVariants.{Read, Write, Validate};
 ghost use Rattle.rules_reader.specs.Place.{HasOneCapture, one_capture_at_most};
@@ -30,6 +30,8 @@ pub struct RuleNode {
     children: Vec<(Part, RuleNode)>,
     // Where the capture is among the children.
     capture: Option<usize>,
+    // Whether a `.validate` is stated here or below.
+    has_validate: bool,
 }
 
 impl Model for RuleNode {
@@ -41,17 +43,19 @@ impl Model for RuleNode {
 
     ghost use Rattle.tree_model.specs.PathMap.{depth as depth_of};
     ghost use Rattle.rules_reader.specs.Part.{texts};
+    ghost use Rattle.std.specs.Prelude.{◌≡◌};
+    ghost use Rattle.rules_reader.specs.Book.{validates};
     ghost use Rattle.rules_reader.specs.Node.{grown, books, IsNode};
 
     ghost view = { λ node. record { at = texts node.pattern; book = grown node.rules (books node.children.items) } };
 
-    ghost invariant = { λ node. IsNode (texts node.pattern) node.rules node.children.items node.capture };
+    ghost invariant = { λ node. IsNode (texts node.pattern) node.rules node.children.items node.capture × (node.has_validate ≡ validates (grown node.rules (books node.children.items))) };
 
     ghost size = { λ point. depth_of point.book };
 
     ghost use Rattle.rules_reader.specs.Working.NodeFalls.{falls};
 
-    ghost size_decreases = { λ node h. falls node.rules (texts node.pattern) node.children.items node.capture h };
+    ghost size_decreases = { λ node h. falls node.rules (texts node.pattern) node.children.items node.capture h.0 };
 }
 
 impl RuleNode {
@@ -65,11 +69,13 @@ impl RuleNode {
         ensures book { result.book ≡ grown rules (books children.items) }
     {
         let capture = capture_among(&children);
+        let has_validate = states_validate(&rules, &children);
         RuleNode {
             pattern,
             rules,
             children,
             capture,
+            has_validate,
         }
     }
 
@@ -121,6 +127,13 @@ impl RuleNode {
         ensures lawful { IfSome result (λ rule. IsLawful self.now.at Validate rule.now) }
     {
         self.rule(Kind::Validate)
+    }
+
+    /// Whether a `.validate` is stated here or below, in constant time.
+    pub fn has_validate(&self) -> bool
+        ensures { result ≡ validates self.now.book }
+    {
+        self.has_validate
     }
 
     /// What holds of every node: its own object is listed, and in each object at and below it at
@@ -179,6 +192,19 @@ fn capture_among(children: &Vec<(Part, RuleNode)>) -> Option<usize>
         }
     }
     None
+}
+
+// Whether a `.validate` is among these rules, or at or below one of these children.
+fn states_validate(rules: &RuleSet, children: &Vec<(Part, RuleNode)>) -> bool
+    ensures { result ≡ (is_some rules.now.validate || list_any (λ child. validates child.1.book) children.now.items) }
+{
+    rules.has_validate() || some_has_validate(children)
+}
+
+fn some_has_validate(children: &Vec<(Part, RuleNode)>) -> bool
+    ensures { result ≡ list_any (λ child. validates child.1.book) children.now.items }
+{
+    children.iter().any(|child| child.1.has_validate())
 }
 
 fn is_capture(part: &Part) -> bool

@@ -1,5 +1,5 @@
 //! The rules of one object of a rules file.
-ghost use Rattle.std.specs.Prelude.{◌≡◌, option_map};
+ghost use Rattle.std.specs.Prelude.{◌≡◌, is_some, option_map};
 ghost use Rattle.rules_reader.specs.Book.{stated_for};
 
 use crate::kind::Kind;
@@ -40,6 +40,13 @@ impl RuleSet {
             write,
             validate,
         }
+    }
+
+    /// Whether a `.validate` is stated.
+    pub(crate) fn has_validate(&self) -> bool
+        ensures { result ≡ is_some self.now.validate }
+    {
+        self.validate.is_some()
     }
 
     /// The rule of a kind, if it is stated.

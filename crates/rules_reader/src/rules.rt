@@ -1,5 +1,5 @@
 //! A rules file, read.
-ghost use Rattle.std.specs.Prelude.{◌≡◌, ◌<◌, ◌++◌, ℕ, List, [], codes, true, length, slice_index_or, Contains, IfSome, IfNone};
+ghost use Rattle.std.specs.Prelude.{◌≡◌, ◌<◌, ◌++◌, ℕ, List, [], codes, true, length, slice_index_or, Contains, IfSome, IfNone, IfOk};
 ghost use Rattle.std.specs.FinMap as map_of;
 ghost use Rattle.tree_model.specs.Key.{Key as KeyBytes};
 ghost use Rattle.tree_model.specs.Path.{Path};
@@ -10,14 +10,16 @@ ghost use Rattle.rules_reader.specs.Book.{rules};
 ghost use Rattle.rules_reader.specs.Place.{StandsAt, IsCaptureOf, HasOneCapture, HasNamesOnce, captures};
 
 use crate::node::RuleNode;
-use json_tree::Key;
+use json_tree::{Key, NoMemory};
+use std::alloc::Global;
 use std::marker::Model;
 
 /// What a rules file states. It outlives the bytes that it was read from. Contracts see the
 /// patterns of the objects of the file, each with the rules that stand there.
 #[derive(Debug, Drop)]
 pub struct Rules {
-    root: RuleNode,
+    // In a growth of its own, so that whatever holds rules is small.
+    root: Box<RuleNode>,
     count: usize,
 }
 
@@ -30,22 +32,25 @@ impl Model for Rules {
 
     ghost use Rattle.rules_reader.specs.Working.Rules.{IsRoot};
 
-    ghost view = { λ file. file.root.book };
+    ghost view = { λ file. file.root.value.book };
 
-    ghost invariant = { λ file. IsRoot file.root file.count };
+    ghost invariant = { λ file. IsRoot file.root.value file.count };
 }
 
 impl Rules {
-    /// The rules of a file whose root this is, and how many they are.
-    pub(crate) fn of_root(root: RuleNode, count: usize) -> Rules
+    /// The rules of a file whose root this is, and how many they are, in one growth.
+    pub(crate) fn of_root(alloc: Global, root: RuleNode, count: usize) -> Result<Rules, NoMemory>
         requires at { root.at ≡ [] }
         requires listed { map_of.contains_key root.book [] ≡ true }
         requires one { HasOneCapture root.book }
         requires once { HasNamesOnce root.book }
         requires counted { count ≡ length (rules root.book) }
-        ensures { result ≡ root.book }
+        ensures { IfOk result (λ file. file ≡ root.book) }
     {
-        Rules { root, count }
+        Ok(Rules {
+            root: Box::new(alloc, root)?,
+            count,
+        })
     }
 
     /// The object that stands at the empty pattern. It is listed like every other, and in each object

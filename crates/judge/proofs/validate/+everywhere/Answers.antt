@@ -2,11 +2,15 @@ use Rattle.std.proofs.Common.{sym, ◌∙◌, subst, refl, arith}
 use Rattle.judge.specs.Working.Standing.{ask_of, path_of, coming_of, Stands, Entering}
 use Rattle.judge.specs.Working.Found.{Found, FailsFrom, Below, FaultsHere}
 use Rattle.judge.proofs.Places.{stands_there, nothing_stands}
+use Rattle.judge.proofs.Unvalidated.{none_fails_here}
 use Rattle.judge.proofs.Walks.{key_there, nothing_there, nothing_below, below_key, here_as, ahead_at_first, child_found, child_passed, all_passed, room_for_child}
 use Rattle.tree_model.specs.Tree.{child_keys}
 use Rattle.judge.proofs.validate.+everywhere.Goals as goal
 
 -- ---- at a node
+
+pub everywhere-returns-then-not-has_validate-clause-found : goal.everywhere-returns-then-not-has_validate-clause-found
+everywhere-returns-then-not-has_validate-clause-found t c = none_fails_here c.args.asking.now c.args.spot.now _ (coming_of c.args.asking.now) c.requires.kind c.requires.here (sym c.has_validate.ensures ∙ c.if-not-has_validate.true)
 
 pub everywhere-returns-in_default-clause-found : goal.everywhere-returns-in_default-clause-found
 everywhere-returns-in_default-clause-found t c =
@@ -39,7 +43,7 @@ everywhere-everywhere_below-requires t c =
     let from = path_of c.args.spot.now in
     let here = subst (Stands c.args.asking.now c.args.spot.now) (sym c.loop-i.invariant.1) c.requires.here in
     let room = room_for_child (coming_of c.args.asking.now) c.in-Some.view.now from c.in-Some-key_at.key.now c.loop-i.i c.requires.lawful (stands_there c.args.asking.now c.args.spot.now c.args.captures.now c.coming.result c.in-Some.view c.requires.here c.in-Some.is c.coming.ensures) c.in-Some-key_at.ensures in
-    (omega arith, (here, (c.requires.lawful, room)))
+    (omega arith, (here, (c.requires.kind, (c.requires.lawful, room))))
 
 pub everywhere-returns-in-Some-below-clause-found : goal.everywhere-returns-in-Some-below-clause-found
 everywhere-returns-in-Some-below-clause-found t c =

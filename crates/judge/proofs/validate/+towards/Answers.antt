@@ -8,11 +8,15 @@ use Rattle.judge.specs.Working.Locations.{paths, rests, PathsAscend, AllBegin, N
 use Rattle.judge.specs.Working.Found.{Found, FailsFrom, Below, Near, FaultsHere}
 use Rattle.judge.proofs.Groups.{one_longer, first_left, ascend_first, group_heads}
 use Rattle.judge.proofs.Places.{stands_there, nothing_stands}
+use Rattle.judge.proofs.Unvalidated.{none_fails_here}
 use Rattle.judge.proofs.Walks.{nothing_there, not_here}
 use Rattle.judge.proofs.Near.{AheadNear, next_is, near_here, near_start, parts_left, group_found, group_passed, near_key, ascend_group}
 use Rattle.judge.proofs.validate.+towards.Goals as goal
 
 -- ---- at a node
+
+pub towards-returns-then-not-has_validate-clause-found : goal.towards-returns-then-not-has_validate-clause-found
+towards-returns-then-not-has_validate-clause-found t c q w f = none_fails_here c.args.asking.now c.args.spot.now _ (coming_of c.args.asking.now) c.requires.kind c.requires.here (sym c.has_validate.ensures ∙ c.if-not-has_validate.true) q w f.1
 
 pub towards-returns-in_default-coming-clause-found : goal.towards-returns-in_default-coming-clause-found
 towards-returns-in_default-coming-clause-found t c q w f =
@@ -57,7 +61,7 @@ towards-towards_below-requires t c =
     let sorted = ascend_first (rests (length from) (paths c.group-group.result.now)) _ (subst PathsAscend parts c.loop-start.invariant.0.sorted) in
     let begins = subst (λ (n : ℕ). AllBegin c.in-Some-key_at.key.now n (paths c.group-group.result.now)) deep c.group-group.ensures.begins in
     let room = c.in-Some-key_at.ensures.room in
-    (omega arith, (here, (c.requires.lawful, (sorted, (begins, omega (arith, room, deep))))))
+    (omega arith, (here, (c.requires.kind, (c.requires.lawful, (sorted, (begins, omega (arith, room, deep)))))))
 
 pub towards-returns-in-Some-below-clause-found : goal.towards-returns-in-Some-below-clause-found
 towards-returns-in-Some-below-clause-found t c =
@@ -104,7 +108,7 @@ towards_below-towards-requires t c =
     let entered = subst (Entering c.args.asking.now from c.args.key.now c.args.captures.now c.enter.new.captures) c.in-Some.is c.in_ok-next.ensures in
     let deep = one_longer from (path_of c.in-Some.next) c.args.key.now entered.1 in
     let room = c.requires.room in
-    (omega (arith, deep, room), (entered.0, (c.requires.lawful, ascend_group c.args.key.now (length from) (length (path_of c.in-Some.next)) (paths c.args.locations.now) c.requires.begin deep c.requires.sorted)))
+    (omega (arith, deep, room), (entered.0, (c.requires.kind, (c.requires.lawful, ascend_group c.args.key.now (length from) (length (path_of c.in-Some.next)) (paths c.args.locations.now) c.requires.begin deep c.requires.sorted))))
 
 pub towards_below-returns-clause-found : goal.towards_below-returns-clause-found
 towards_below-returns-clause-found t c =

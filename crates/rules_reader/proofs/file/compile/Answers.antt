@@ -57,5 +57,5 @@ returns-clause-accepted c =
       texts = texts_of d;
       shaped = shaped c.args.bytes.now (view c.in_ok-value.value) d c.in_ok-value.ensures.ok (sym c.in-Some.ensures.value) no_fault;
       few = omega arith;
-      spelled = rw c.of_root.ensures (subst (λ (q : parts.Pattern). IsSpelled (texts q) (texts_of d) c.in_ok-root.root.book) c.new-3.ensures c.in_ok-root.ensures.spelled);
+      spelled = rw c.in_ok-of_root.ensures (subst (λ (q : parts.Pattern). IsSpelled (texts q) (texts_of d) c.in_ok-root.root.book) c.new-3.ensures c.in_ok-root.ensures.spelled);
     }

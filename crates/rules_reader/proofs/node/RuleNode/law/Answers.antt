@@ -14,4 +14,4 @@ returns-clause-listed c =
 pub returns-clause-one : goal.returns-clause-one
 returns-clause-one c =
     let node = c.self.inside in
-    subst (λ (p : Point). HasOneCapture p.book) c.self.view_is (one_of_node node.rules (texts node.pattern) node.children.items node.capture c.self.invariant)
+    subst (λ (p : Point). HasOneCapture p.book) c.self.view_is (one_of_node node.rules (texts node.pattern) node.children.items node.capture c.self.invariant.0)
