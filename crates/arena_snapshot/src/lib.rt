@@ -20,6 +20,6 @@ pub use copies::copy_out;
 pub use difference::{is_changed, is_changed_at};
 pub use overlapping::overlaps;
 pub use proposal::overlay;
-pub use sameness::same;
+pub use sameness::{is_same_leaf, same};
 pub use selection::kept;
 pub use view::View;

@@ -61,7 +61,8 @@ fn have_same_child(view: &View, other: &View, i: usize) -> bool
     key.text() == other_key.text() && same(&child, &other_child)
 }
 
-fn is_same_leaf(leaf: &Leaf, other: &Leaf) -> bool
+/// Whether both are the same primitive, in time linear in the bytes of a text. It takes no memory.
+pub fn is_same_leaf(leaf: &Leaf, other: &Leaf) -> bool
     ensures same { OnTrue result (primitive_of leaf.now ≡ primitive_of other.now) }
     ensures differs { OnFalse result (primitive_of leaf.now ≢ primitive_of other.now) }
 {

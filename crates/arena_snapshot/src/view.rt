@@ -177,9 +177,9 @@ impl<'a> View<'a> {
         }
     }
 
-    // The child at an index, with its key: of a stored tree in constant time, and of a patched one by a
-    // search for the key.
-    pub(crate) fn entry_at(&self, i: usize) -> Option<(&'a Key, View<'a>)>
+    /// The child at an index with its key, in the order of the keys: of a stored tree in constant time, and
+    /// of one with changed children by a search for the key. It takes no memory.
+    pub fn entry_at(&self, i: usize) -> Option<(&'a Key, View<'a>)>
         ensures { option_map (λ entry. (entry.0.now, entry.1)) result
             ≡ slice_get (entries_of self.now) i }
     {

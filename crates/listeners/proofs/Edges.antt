@@ -1,10 +1,12 @@
 -- The edge of a limit: which children lie inside it.
-use Rattle.std.proofs.Common.{◌≡◌, ℕ, ◌+◌, ◌≤◌, ◌<◌, true, false, not, ◌&&◌, List, length, map, get_or, filter, Some, None, Ordering, Less, Equal, Greater, is_lt, is_gt, sym, ap, ◌∙◌, refl, arith}
+use Rattle.std.proofs.Common.{◌≡◌, ℕ, suc, ◌+◌, ◌-◌, ◌≤◌, ◌<◌, true, false, not, ◌&&◌, List, ◌∷◌, ◌++◌, length, map, get_or, filter, Some, None, Ordering, Less, Equal, Greater, is_lt, is_gt, sym, ap, ◌∙◌, refl, arith}
 use Rattle.std.specs.Ordering.{ordering_reverse}
 use Rattle.std.proofs.Common.{true≢false, ⊎_elim}
-use Rattle.std.proofs.lemmas.Bool.{lt-ltb, le-ltb, false_from_ne_true, cases_Bool}
-use Rattle.std.proofs.lemmas.List.{get_or_default}
-use Rattle.std.proofs.lemmas.List.Sorted.{ranks_by, sorted_far, length_permutation}
+use Rattle.std.proofs.lemmas.Bool.{lt-ltb, le-ltb, false_from_ne_true, cases_Bool, cases_lt}
+use Rattle.std.specs.Cmp.{tied_itself}
+use Rattle.std.specs.List.Sorted.{IsPermutation, IsSorted, IsSplitAroundBy}
+use Rattle.std.proofs.lemmas.List.{get_or_default, get_or_at, get_or_append_left, get_or-append_right, length-append}
+use Rattle.std.proofs.lemmas.List.Sorted.{ranks_by, sorted_far, length_permutation, IsPermutation-refl}
 use Rattle.listeners.specs.declared.item.Item.{Item}
 use Rattle.listeners.specs.declared.edge.Edge.TheVariants.{UpTo, FromOn}
 use Rattle.listeners.specs.Working.Items.{item_seen, rank_seen, item_cmp, StandsAt, lies_inside}
@@ -65,22 +67,52 @@ not_less_through r s u up far = false_from_ne_true (is_lt (rank_cmp u r)) (λ le
 not_greater_through : (r s u : Rank) → is_lt (rank_cmp r s) ≡ false → is_lt (rank_cmp s u) ≡ false → is_gt (rank_cmp u r) ≡ false
 not_greater_through r s u up far = false_from_ne_true (is_gt (rank_cmp u r)) (λ more. true≢false (sym (less_below r u s (sym (gt_is_lt u r) ∙ more) (gt_is_lt u s ∙ far)) ∙ up))
 
+-- in a list that is in order each item stands where it is
+pub stands_in_order : (items : List Item) (i : ℕ) (item : Item) → IsSorted item_cmp items → i < length items → item ≡ get_or items i item → StandsAt items i item
+stands_in_order items i item sorted within at = record {
+  ordered = items;
+  permutation = IsPermutation-refl items;
+  within = within;
+  at = at;
+  before = λ k d le. ap (λ r. is_lt (rank_cmp r (rank_seen (get_or items k d)))) (sym (here d)) ∙ far k i d le within;
+  behind = λ k d le lt. ap (λ r. is_lt (rank_cmp (rank_seen (get_or items k d)) r)) (sym (here d)) ∙ far i k d le lt;
+}
+  where
+    here : (d : Item) → rank_seen (get_or items i d) ≡ rank_seen item
+    here d = ap rank_seen (get_or_default items i d item within ∙ sym at)
+
+    far : (j k : ℕ) (d : Item) → j ≤ k → k < length items → is_lt (rank_cmp (rank_seen (get_or items k d)) (rank_seen (get_or items j d))) ≡ false
+    far j k d le lt = sorted_far (λ a b. is_lt (item_cmp a b)) (ranks_by rank_total rank_seen) items sorted j k d le lt
+
+-- between items that are not behind it, and items that are not before it
+pub stands_between : (items front back : List Item) (i : ℕ) (item : Item) → IsPermutation items (front ++ item ∷ back) → length front ≡ i → IsSplitAroundBy (λ a b. is_lt (item_cmp a b)) front item back → StandsAt items i item
+stands_between items front back i item permutation long split = record {
+  ordered = front ++ item ∷ back;
+  permutation = permutation;
+  within = omega (arith, length-append front (item ∷ back));
+  at = sym (get_or_at front item back item i long);
+  before = λ k d le. ⊎_elim (λ less. ap (λ x. is_lt (item_cmp item x)) (get_or_append_left front (item ∷ back) d k (omega arith)) ∙ split.0 k d (omega arith)) (λ far. ap (λ x. is_lt (item_cmp item x)) (get_or_at front item back d k (omega arith)) ∙ itself) (cases_lt k i);
+  behind = λ k d le lt. ⊎_elim (λ less. ap (λ x. is_lt (item_cmp x item)) (later k d less) ∙ split.1 (k - (i + 1)) d (omega (arith, length-append front (item ∷ back)))) (λ near. ap (λ x. is_lt (item_cmp x item)) (get_or_at front item back d k (omega arith)) ∙ itself) (cases_lt i k);
+}
+  where
+    itself : is_lt (item_cmp item item) ≡ false
+    itself = ap is_lt (tied_itself rank_total (rank_seen item))
+
+    later : (k : ℕ) (d : Item) → i < k → get_or (front ++ item ∷ back) k d ≡ get_or back (k - (i + 1)) d
+    later k d less =
+        get_or-append_right front (item ∷ back) i k d long (omega arith)
+        ∙ (let steps : k - i ≡ suc (k - (i + 1)) = omega arith in ap (λ n. get_or (item ∷ back) n d) steps)
+
 module _ (items : List Item) (i : ℕ) (item : Item) (at : StandsAt items i item) where
   abbrev rank_at : ℕ → Item → Rank
   rank_at k d = rank_seen (get_or at.ordered k d)
 
-  far : (j k : ℕ) (d : Item) → j ≤ k → k < length at.ordered → is_lt (rank_cmp (rank_at k d) (rank_at j d)) ≡ false
-  far j k d le lt = sorted_far (λ a b. is_lt (item_cmp a b)) (ranks_by rank_total rank_seen) at.ordered at.sorted j k d le lt
-
-  here : (d : Item) → rank_at i d ≡ rank_seen item
-  here d = ap rank_seen (get_or_default at.ordered i d item at.within ∙ sym at.at)
-
   -- what stands from here on is not before it, and what stands up to here not behind it
   from_here : (k : ℕ) (d : Item) → i ≤ k → k < length at.ordered → is_lt (rank_cmp (rank_at k d) (rank_seen item)) ≡ false
-  from_here k d le lt = ap (λ r. is_lt (rank_cmp (rank_at k d) r)) (sym (here d)) ∙ far i k d le lt
+  from_here = at.behind
 
   to_here : (k : ℕ) (d : Item) → k ≤ i → is_lt (rank_cmp (rank_seen item) (rank_at k d)) ≡ false
-  to_here k d le = ap (λ r. is_lt (rank_cmp r (rank_at k d))) (sym (here d)) ∙ far k i d le at.within
+  to_here = at.before
 
   long : length at.ordered ≡ length items
   long = length_permutation items at.ordered at.permutation

@@ -8,7 +8,7 @@ ghost use Rattle.listeners.specs.Working.Parts.{order_seen, first_of, last_of};
 ghost use Rattle.listeners.specs.Working.Said.{order_said, bound_said, query_said};
 
 use crate::order::{ChildPath, Limit, Order};
-use crate::query::Query;
+use crate::query::{Parts, Query};
 use crate::said::{Said, SaidBound, SaidOrder};
 use json_tree::{Leaf, NoMemory, Number};
 use std::alloc::Global;
@@ -23,12 +23,15 @@ pub(crate) fn build(alloc: Global, said: Said<'_>) -> Result<Query, NoMemory>
     let end_at = leaf_in(alloc, said.end_at)?;
     let equal_to = leaf_in(alloc, said.equal_to)?;
     let limit = limit_of(said.limit_to_first, said.limit_to_last);
-    Ok(Query {
+    let parts = Parts {
         order,
         start_at,
         end_at,
         equal_to,
         limit,
+    };
+    Ok(Query {
+        parts: Box::new(alloc, parts)?,
     })
 }
 

@@ -2,7 +2,7 @@
 ghost use Rattle.std.specs.Prelude.{◌≡◌, ◌<◌, ℕ, length, true, map, Some, None, IfOk};
 ghost use Rattle.std.specs.Bool.{OnTrue};
 ghost use Rattle.std.specs.Option.{option_map_or};
-ghost use Rattle.std.specs.List.Sorted.{IsPermutation, IsSorted};
+ghost use Rattle.std.specs.List.Sorted.{IsSorted};
 ghost use Rattle.listeners.specs.Query.{is_limit};
 ghost use Rattle.listeners.specs.Working.Items.{item_seen, item_cmp, rank_seen, StandsAt, lies_inside};
 ghost use Rattle.listeners.specs.Working.Parts.{first_of, last_of};
@@ -83,7 +83,7 @@ fn last_children<'a>(
 }
 
 // The child at this index, once they are in order. Where they are so already, as children by their keys
-// mostly are, nothing is sorted.
+// mostly are, nothing is moved.
 fn item_at<'a>(arena: &'a Bump, items: &[Item<'a>], i: usize) -> Result<Item<'a>, NoMemory>
     requires { i < length items.now }
     ensures { IfOk result (λ item. StandsAt items.now i item) }
@@ -91,8 +91,8 @@ fn item_at<'a>(arena: &'a Bump, items: &[Item<'a>], i: usize) -> Result<Item<'a>
     if is_in_order(items) {
         return Ok(items[i]);
     }
-    let sorted = sorted(arena, items)?;
-    Ok(sorted[i])
+    let mut parted = Vec::from_slice(arena, items)?;
+    Ok(part_at(&mut parted, i))
 }
 
 fn is_in_order(items: &[Item<'_>]) -> bool
@@ -106,11 +106,12 @@ fn is_in_order(items: &[Item<'_>]) -> bool
     true
 }
 
-fn sorted<'a>(arena: &'a Bump, items: &[Item<'a>]) -> Result<Vec<Item<'a>, &'a Bump>, NoMemory>
-    ensures permutation { IfOk result (λ sorted. IsPermutation items.now sorted.items) }
-    ensures sorted { IfOk result (λ sorted. IsSorted item_cmp sorted.items) }
+// Puts the child there that stands at this index once they are in order, by a time linear in their number
+// mostly, and none before it that is behind it.
+fn part_at<'a>(items: &mut [Item<'a>], i: usize) -> Item<'a>
+    requires { i < length items.old }
+    ensures { StandsAt items.old i result }
 {
-    let mut sorted = Vec::from_slice(arena, items)?;
-    sorted.sort_unstable_by(|a, b| a.compare(b));
-    Ok(sorted)
+    let (_, item, _) = items.select_nth_unstable_by(i, |a, b| a.compare(b));
+    *item
 }

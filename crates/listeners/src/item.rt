@@ -1,6 +1,6 @@
 //! A child, with what it is ordered by.
-ghost use Rattle.std.specs.Prelude.{◌≡◌, ◌∷◌, [], Some, option_map, slice_get};
-ghost use Rattle.tree_model.specs.PathMap.{sub};
+ghost use Rattle.std.specs.Prelude.{◌≡◌, Some, option_map, slice_get};
+ghost use Rattle.tree_model.specs.Key.{Key as KeyBytes};
 ghost use Rattle.arena_snapshot.specs.Working.Change.{entries_of};
 ghost use Rattle.listeners.specs.Selection.{Child};
 ghost use Rattle.listeners.specs.Working.Items.{place_seen, item_seen, item_cmp};
@@ -26,8 +26,8 @@ impl<'a> Item<'a> {
         ensures { option_map item_seen result
             ≡ option_map (λ c. ranked (option_map order_seen order.now) (index, c)) (slice_get (entries_of view.now) index) }
     {
-        let key = view.key_at(index)?;
-        let place = place_by(view, key.text(), order);
+        let (key, child) = view.entry_at(index)?;
+        let place = place_by(&child, order);
         Some(Item {
             index,
             place,
@@ -43,25 +43,22 @@ impl<'a> Item<'a> {
     }
 }
 
-// By what the child of a key is ordered. By keys all children are in one place.
-fn place_by<'a>(view: &View<'a>, name: &str, order: &Option<Order>) -> Place<'a>
-    ensures { place_seen result ≡ place_by (option_map order_seen order.now) (name.now, sub view.now (name.now ∷ [])) }
+// By what a child is ordered. By keys all children are in one place.
+fn place_by<'a>(child: &View<'a>, order: &Option<Order>) -> Place<'a>
+    ensures { (key : KeyBytes) → place_seen result ≡ place_by (option_map order_seen order.now) (key, child.now) }
 {
     match order {
-        Some(order) => place_in(view, name, order),
+        Some(order) => place_in(child, order),
         None => Place::Nothing,
     }
 }
 
-fn place_in<'a>(view: &View<'a>, name: &str, order: &Order) -> Place<'a>
-    ensures { place_seen result ≡ place_by (Some (order_seen order.now)) (name.now, sub view.now (name.now ∷ [])) }
+fn place_in<'a>(child: &View<'a>, order: &Order) -> Place<'a>
+    ensures { (key : KeyBytes) → place_seen result ≡ place_by (Some (order_seen order.now)) (key, child.now) }
 {
     match order {
         Order::Key => Place::Nothing,
-        Order::Value => place_of(view.child(name)),
-        Order::Child(child) => match view.child(name) {
-            Some(view) => place_of(view.at(&child.path)),
-            None => Place::Nothing,
-        },
+        Order::Value => place_of(Some(child.share())),
+        Order::Child(below) => place_of(child.at(&below.path)),
     }
 }

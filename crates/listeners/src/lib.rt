@@ -18,6 +18,7 @@ mod place;
 mod query;
 mod reach;
 mod said;
+mod sameness;
 mod search;
 mod selection;
 mod table;

@@ -24,9 +24,10 @@ use json_tree::NoMemory;
 /// bounds are, and with a limit of n at most n in each of these three stretches. With `limitToLast`, where a
 /// stretch has n within the bounds, nothing before its last n is looked at. Those within the bounds are listed
 /// in the arena. Where a limit is not greater than their number and their order is not that in which they are
-/// stored, they are listed once more and sorted there, by k · log k comparisons for k of them. The indices of
-/// those that are kept are a list too, and the children are borrowed. Want of memory is the one error. (Guide
-/// "Work with Lists of Data", how query data is ordered and filtering data.)
+/// stored, they are listed once more and parted there at the child with which the limit stops, by some k
+/// comparisons for k of them. The indices of those that are kept are a list too, and the children are
+/// borrowed. Want of memory is the one error. (Guide "Work with Lists of Data", how query data is ordered and
+/// filtering data.)
 pub fn select<'a>(
     arena: &'a Bump,
     view: Option<View<'a>>,

@@ -1,8 +1,8 @@
 -- Children in order, as the code holds them.
-use Rattle.std.specs.Prelude.{◌≡◌, ℕ, ◌<◌, List, length, Bool, true, not, slice_index_or, ℤ, Option, option_map}
+use Rattle.std.specs.Prelude.{◌≡◌, ℕ, ◌<◌, ◌≤◌, List, length, Bool, true, false, not, slice_index_or, ℤ, Option, option_map}
 use Rattle.std.specs.declared.cmp.Ordering.{Ordering}
 use Rattle.std.specs.Ordering.{is_lt, is_gt}
-use Rattle.std.specs.List.Sorted.{IsPermutation, IsSorted}
+use Rattle.std.specs.List.Sorted.{IsPermutation}
 use Rattle.json_tree.specs.Leaf.{primitive_of}
 use Rattle.tree_model.specs.Key.{Key}
 use Rattle.listeners.specs.Order as orders
@@ -48,13 +48,14 @@ marks_seen bounds = record {
   equal_to = option_map mark_seen bounds.equal_to;
 }
 
--- the item stands at an index of the list, once this is in order
+-- the item stands at an index of the list, once nothing before the index is behind it, and nothing behind the index before it
 pub record StandsAt (items : List Item) (i : ℕ) (item : Item) : Type 0 where
   pub ordered : List Item
   pub permutation : IsPermutation items ordered
-  pub sorted : IsSorted item_cmp ordered
   pub within : i < length ordered
   pub at : item ≡ slice_index_or ordered i item
+  pub before : (k : ℕ) (d : Item) → k ≤ i → is_lt (item_cmp item (slice_index_or ordered k d)) ≡ false
+  pub behind : (k : ℕ) (d : Item) → i ≤ k → k < length ordered → is_lt (item_cmp (slice_index_or ordered k d) item) ≡ false
 
 -- what lies on this side of the edge
 abbrev pub lies_inside : Edge → Rank → Bool

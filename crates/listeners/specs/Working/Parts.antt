@@ -25,6 +25,10 @@ last_of None = None
 last_of (Some (First n)) = None
 last_of (Some (Last n)) = Some n
 
+-- both
+abbrev pub limits_of : Option Limit → Option ℕ × Option ℕ
+limits_of limit = (first_of limit, last_of limit)
+
 -- the query of these parts
 abbrev pub query_seen : Option code.Order → Option Leaf → Option Leaf → Option Leaf → Option Limit → Query
 query_seen order start_at end_at equal_to limit = record {

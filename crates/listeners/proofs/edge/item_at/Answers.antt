@@ -1,15 +1,10 @@
-use Rattle.std.proofs.Common.{arith}
-use Rattle.std.proofs.lemmas.List.Sorted.{length_permutation}
+use Rattle.std.specs.List.Sorted.{IsSorted}
+use Rattle.arena_snapshot.proofs.Tests.{from_true}
+use Rattle.listeners.specs.Working.Items.{item_cmp}
+use Rattle.listeners.proofs.Edges.{stands_in_order}
 use Rattle.listeners.proofs.edge.item_at.Goals as goal
 
-pub index-requires : goal.index-requires
-index-requires c = omega (arith, c.requires, length_permutation c.args.items.now c.in_ok-sorted.sorted.items c.in_ok-sorted.ensures.permutation)
-
-pub returns : goal.returns
-returns c = record {
-  ordered = c.in_ok-sorted.sorted.items;
-  permutation = c.in_ok-sorted.ensures.permutation;
-  sorted = c.in_ok-sorted.ensures.sorted;
-  within = omega (arith, c.requires, length_permutation c.args.items.now c.in_ok-sorted.sorted.items c.in_ok-sorted.ensures.permutation);
-  at = c.index.ensures;
-}
+pub returns-then-is_in_order : goal.returns-then-is_in_order
+returns-then-is_in_order c =
+    let items = c.args.items.now in
+    stands_in_order items c.args.i c.index-items-i.result (from_true c.is_in_order.result (IsSorted item_cmp items) c.is_in_order.ensures c.if-is_in_order.true) c.requires c.index-items-i.is

@@ -8,4 +8,4 @@ use Rattle.listeners.proofs.query.Query.reach.Goals as goal
 pub returns-in-Some-Value : goal.returns-in-Some-Value
 returns-in-Some-Value c =
     let wide = width-entries c.args.view.now in
-    enough_whole c.args.self.now (entries_of c.args.view.now) c.whole.result (subst (λ (q : Query). (q.limit_to_first ≡ None) ⊎ (q.limit_to_last ≡ None)) c.self.view_is (one_limit c.self.inside.limit)) (λ i low. c.whole.ensures i (omega arith))
+    enough_whole c.args.self.now (entries_of c.args.view.now) c.whole.result (subst (λ (q : Query). (q.limit_to_first ≡ None) ⊎ (q.limit_to_last ≡ None)) c.self.view_is (one_limit c.self.inside.parts.value.limit)) (λ i low. c.whole.ensures i (omega arith))
