@@ -31,3 +31,4 @@ pub mod Collecting
 pub mod Seating
 pub mod Ending
 pub mod Deciding
+pub mod Finding

@@ -2,3 +2,4 @@
 pub mod Fates
 pub mod Passages
 pub mod Heard
+pub mod Moved

@@ -12,6 +12,7 @@ mod judged;
 mod limits;
 mod listener_laws;
 mod machine;
+mod moved;
 mod news;
 mod passage;
 mod refusals;

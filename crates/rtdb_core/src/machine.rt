@@ -737,7 +737,9 @@ impl Machine {
     fn settle_all(&mut self, decisions: &[Decision])
         ensures { self.new ≡ with_settled self.old decisions.now }
     {
-        settle_all(&mut self.sessions, decisions);
+        if !decisions.is_empty() {
+            settle_all(&mut self.sessions, decisions);
+        }
     }
 
     // What stands at a path, None where nothing exists.

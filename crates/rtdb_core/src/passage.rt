@@ -2,26 +2,23 @@
 ghost use Rattle.std.specs.Prelude.{◌≡◌, ◌≤◌, Option, option_map, false, true, IfOk};
 ghost use Rattle.std.specs.Bool.{OnTrue};
 ghost use Rattle.tree_model.specs.Write.{overlaps, proposed};
-ghost use Rattle.tree_model.specs.PathMap.{sub};
-ghost use Rattle.tree_model.specs.Tree.{non_null};
-ghost use Rattle.path_capture.specs.Write.{tree_or_null};
 ghost use Rattle.arena_snapshot.specs.View.{node_or_null};
 ghost use Rattle.listeners.specs.Listener.{seen};
-ghost use Rattle.listeners.specs.Selection.{selection};
 ghost use Rattle.judge.specs.Question.{scene_of};
-ghost use Rattle.rtdb_core.specs.Rejudged.{hears, moves, same_tree};
+ghost use Rattle.rtdb_core.specs.Rejudged.{hears};
 ghost use Rattle.rtdb_core.specs.Working.Fates.{scene_by, fate_of};
 ghost use Rattle.rtdb_core.specs.Working.Heard.{IsHeard, IsAsBefore};
 ghost use Rattle.rtdb_core.specs.Working.Passages.{IsPassage, tree_before, tree_after, who_of};
 
 use crate::fates::Fate;
+use crate::moved::Moved;
 use crate::selected::{asked_for, stored};
-use arena_snapshot::{View, is_changed, is_changed_at, same};
+use arena_snapshot::{View, is_changed_at};
 use bumpalo::Bump;
 use evaluator::{Identity, MAX_MOMENT, Moment};
 use json_tree::{NoMemory, Node};
 use judge::{Scene, may_read, watched};
-use listeners::{Listener, Query, select};
+use listeners::Listener;
 use path_capture::{Path, Write};
 use rules_reader::Rules;
 use std::alloc::Global;
@@ -69,16 +66,19 @@ impl<'a> Passage<'a> {
 /// What becomes of a listener of whoever is signed in. Its rules are evaluated only where it may be that
 /// they don't grant its read any longer. It takes memory for what they make and bind, and, where its query's
 /// selection may have moved, for that before and after the step.
-pub(crate) fn fate_of(
+pub(crate) fn fate_of<'s>(
     alloc: Global,
     arena: &Bump,
     passage: &Passage<'_>,
     who: Option<&Identity>,
-    listener: &Listener<'_>,
+    listener: &Listener<'s>,
+    moved: &mut Moved<'_, '_, 's>,
 ) -> Result<Option<Fate>, NoMemory>
     requires passage { IsPassage passage.now }
+    requires moved { moved.old ≡ (tree_before passage.now, tree_after passage.now) }
     requires heard { passage.now.was_heard ≡ true → IsHeard passage.now.rules.now (tree_before passage.now) (who_of who) (seen listener.now) }
-    ensures { IfOk result (λ fate. fate ≡ fate_of (tree_before passage.now) passage.now.rules.now (tree_after passage.now) passage.now.moment (who_of who.entry) (seen listener.now)) }
+    ensures fate { IfOk result (λ fate. fate ≡ fate_of (tree_before passage.now) passage.now.rules.now (tree_after passage.now) passage.now.moment (who_of who.entry) (seen listener.now)) }
+    ensures moved { moved.new ≡ moved.old }
 {
     if !listener.is_live {
         return Ok(None);
@@ -89,7 +89,7 @@ pub(crate) fn fate_of(
     if !hears(alloc, arena, passage, who, listener)? {
         return Ok(Some(Fate::Cancelled));
     }
-    if moves(arena, passage, listener.path, listener.query)? {
+    if moved.has(arena, listener.path, listener.query)? {
         return Ok(Some(Fate::Marked));
     }
     Ok(None)
@@ -144,58 +144,5 @@ pub(crate) fn shared<'a>(view: &Option<View<'a>>) -> Option<View<'a>>
     match view {
         Some(view) => Some(view.share()),
         None => None,
-    }
-}
-
-// Whether what is selected has moved.
-fn moves(
-    arena: &Bump,
-    passage: &Passage<'_>,
-    path: &Path,
-    query: Option<&Query>,
-) -> Result<bool, NoMemory>
-    requires { IsPassage passage.now }
-    ensures { IfOk result (λ moved. moved ≡ moves (tree_before passage.now) (tree_after passage.now) path.now (option_map (λ query. query.now) query.entry)) }
-{
-    if !is_changed(passage.base, passage.writes, path) {
-        return Ok(false);
-    }
-    let Some(query) = query else {
-        return Ok(true);
-    };
-    let before = selected(arena, &stored(passage.base), path, query)?;
-    let after = selected(arena, &passage.coming, path, query)?;
-    Ok(!are_same(&before, &after))
-}
-
-fn selected<'a>(
-    arena: &'a Bump,
-    tree: &Option<View<'a>>,
-    path: &Path,
-    query: &Query,
-) -> Result<Option<View<'a>>, NoMemory>
-    ensures { IfOk result (λ found. found ≡ non_null (selection (sub (tree_or_null tree.now) path.now) (Some query.now))) }
-{
-    let found = match tree {
-        Some(tree) => tree.at(path),
-        None => None,
-    };
-    select(arena, found, Some(query))
-}
-
-fn are_same(one: &Option<View<'_>>, other: &Option<View<'_>>) -> bool
-    ensures { result ≡ same_tree (tree_or_null one.now) (tree_or_null other.now) }
-{
-    match (one, other) {
-        (Some(one), Some(other)) => same(one, other),
-        (None, None) => true,
-        (Some(one), None) => {
-            one.law();
-            false
-        }
-        (None, Some(other)) => {
-            other.law();
-            false
-        }
     }
 }

@@ -9,6 +9,7 @@ ghost use Rattle.rtdb_core.specs.Working.Heard.{AreHeard, AllHeardIn};
 ghost use Rattle.rtdb_core.specs.Working.Passages.{IsPassage, tree_before, tree_after, who_of};
 
 use crate::fates::{Decision, Decisions, Docket};
+use crate::moved::Moved;
 use crate::passage::{Passage, fate_of};
 use crate::session::Session;
 use bumpalo::Bump;
@@ -20,10 +21,10 @@ use std::collections::BTreeMap;
 use std::slice;
 
 /// What becomes of all listeners of all sessions.
-pub(crate) fn decide_all<'a>(
+pub(crate) fn decide_all<'a, 'p>(
     alloc: Global,
     arena: &'a Bump,
-    passage: &Passage<'_>,
+    passage: &'p Passage<'p>,
     sessions: &BTreeMap<u64, Session>,
 ) -> Result<Decisions<'a>, NoMemory>
     requires passage { IsPassage passage.now }
@@ -33,6 +34,7 @@ pub(crate) fn decide_all<'a>(
     ensures ordered { IsOrdered nat_cmp sessions.now }
 {
     let mut decisions = Decisions::new(arena);
+    let mut moved = Moved::by(arena, passage);
     for session in sessions.values() {
         decide_each(
             alloc,
@@ -40,6 +42,7 @@ pub(crate) fn decide_all<'a>(
             passage,
             session.identity(),
             session.listeners(),
+            &mut moved,
             &mut decisions,
         )?;
     }
@@ -48,10 +51,10 @@ pub(crate) fn decide_all<'a>(
 }
 
 /// What becomes of the listeners of whoever is signed in.
-pub(crate) fn decide_own<'a>(
+pub(crate) fn decide_own<'a, 'p>(
     alloc: Global,
     arena: &'a Bump,
-    passage: &Passage<'_>,
+    passage: &'p Passage<'p>,
     who: Option<&Identity>,
     listeners: &Table,
 ) -> Result<Decisions<'a>, NoMemory>
@@ -61,26 +64,38 @@ pub(crate) fn decide_own<'a>(
     ensures fits { IfOk result (λ decisions. length listeners.now < 2 ^ 64) }
 {
     let mut decisions = Decisions::new(arena);
-    decide_each(alloc, arena, passage, who, listeners, &mut decisions)?;
+    let mut moved = Moved::by(arena, passage);
+    decide_each(
+        alloc,
+        arena,
+        passage,
+        who,
+        listeners,
+        &mut moved,
+        &mut decisions,
+    )?;
     decisions.law();
     Ok(decisions)
 }
 
-fn decide_each(
+fn decide_each<'s>(
     alloc: Global,
     arena: &Bump,
     passage: &Passage<'_>,
     who: Option<&Identity>,
-    listeners: &Table,
+    listeners: &'s Table,
+    moved: &mut Moved<'_, '_, 's>,
     decisions: &mut Decisions<'_>,
 ) -> Result<(), NoMemory>
     requires passage { IsPassage passage.now }
+    requires moved { moved.old ≡ (tree_before passage.now, tree_after passage.now) }
     requires heard { passage.now.was_heard ≡ true → AreHeard passage.now.rules.now (tree_before passage.now) (who_of who) listeners.now }
     ensures place { OnOk result (decisions.new.place ≡ decisions.old.place + length listeners.now) }
+    ensures moved { moved.new ≡ moved.old }
     ensures made { OnOk result (decisions.new.made.items ≡ decisions.old.made.items ++ sparse decisions.old.place (map (fate_of (tree_before passage.now) passage.now.rules.now (tree_after passage.now) passage.now.moment (who_of who.entry)) listeners.now)) }
 {
     for index in 0..listeners.len() {
-        let fate = fate_of(alloc, arena, passage, who, &listeners.entry(index))?;
+        let fate = fate_of(alloc, arena, passage, who, &listeners.entry(index), moved)?;
         decisions.push(fate)?;
     }
     Ok(())

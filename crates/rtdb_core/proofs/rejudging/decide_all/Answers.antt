@@ -17,13 +17,13 @@ loop-session-init c =
     let p = c.args.passage.now in
     let fates = fates_of (tree_before p) p.rules.now (tree_after p) p.moment in
     let left : c.into_iter-session-iterator.result ≡ map (λ e. e.1) c.args.sessions.now.entries = search rules in
-    (((λ i. c.new-decisions.ensures.made i ++ sparse (c.new-decisions.ensures.place i) (fates (left i))), omega (arith, c.new-decisions.ensures.place, ap (λ (ss : List Session). length (fates ss)) left)), λ was. subst (AllByRecursion (SessionIsHeard p.rules.now (tree_before p))) (sym left) (each_heard p.rules.now (tree_before p) c.args.sessions.now.entries c.args.sessions.now.entries (c.requires.heard was) (All-found nat_cmp_total c.args.sessions.now (search rules))))
+    (((λ i. c.new-decisions.ensures.made i ++ sparse (c.new-decisions.ensures.place i) (fates (left i))), omega (arith, c.new-decisions.ensures.place, ap (λ (ss : List Session). length (fates ss)) left)), λ was. subst (AllByRecursion (SessionIsHeard p.rules.now (tree_before p))) (sym left) (each_heard p.rules.now (tree_before p) c.args.sessions.now.entries c.args.sessions.now.entries (c.requires.heard was) (All-found nat_cmp_total c.args.sessions.now (search rules))), c.by-moved.ensures)
 
 pub loop-session-preserved : goal.loop-session-preserved
 loop-session-preserved c =
     let p = c.args.passage.now in
     let first : c.loop-session.session-iterator ≡ c.in-Some.session.now ∷ c.next.new.self = search rules in
-    (one_session (tree_before p) p.rules.now (tree_after p) p.moment c.loop-session.session-iterator c.next.new.self c.in-Some.session.now c.loop-session.decisions.place c.decide_each.new.decisions.place c.loop-session.decisions.made.items c.decide_each.new.decisions.made.items (who_of c.identity.result) c.listeners.result.now _ _ c.loop-session.invariant.0 first c.identity.ensures c.listeners.ensures c.in_ok-decide_each.ensures.place c.in_ok-decide_each.ensures.made, λ was. (next_heard p.rules.now (tree_before p) c.loop-session.session-iterator c.next.new.self c.in-Some.session.now first (c.loop-session.invariant.1 was)).1)
+    (one_session (tree_before p) p.rules.now (tree_after p) p.moment c.loop-session.session-iterator c.next.new.self c.in-Some.session.now c.loop-session.decisions.place c.decide_each.new.decisions.place c.loop-session.decisions.made.items c.decide_each.new.decisions.made.items (who_of c.identity.result) c.listeners.result.now _ _ c.loop-session.invariant.0 first c.identity.ensures c.listeners.ensures c.in_ok-decide_each.ensures.place c.in_ok-decide_each.ensures.made, λ was. (next_heard p.rules.now (tree_before p) c.loop-session.session-iterator c.next.new.self c.in-Some.session.now first (c.loop-session.invariant.1 was)).1, c.decide_each.ensures.moved ∙ c.loop-session.invariant.2)
 
 pub returns-clause-made : goal.returns-clause-made
 returns-clause-made c =

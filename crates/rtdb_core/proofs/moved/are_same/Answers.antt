@@ -4,7 +4,7 @@ use Rattle.tree_model.specs.Tree.{null}
 use Rattle.rtdb_core.specs.Rejudged.{same_tree}
 use Rattle.rtdb_core.proofs.Passing.{same_by, not_same}
 use Rattle.rtdb_core.proofs.Sameness.{same_decides}
-use Rattle.rtdb_core.proofs.passage.are_same.Goals as goal
+use Rattle.rtdb_core.proofs.moved.are_same.Goals as goal
 
 pub returns-in-Some-Some : goal.returns-in-Some-Some
 returns-in-Some-Some c =

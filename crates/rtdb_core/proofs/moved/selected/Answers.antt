@@ -5,8 +5,8 @@ use Rattle.tree_model.specs.Tree.{Tree, non_null}
 use Rattle.judge.proofs.Coming.{tree_or_null-non_null}
 use Rattle.tree_model.proofs.Lookups.{sub-null}
 use Rattle.listeners.specs.Selection.{selection}
-use Rattle.rtdb_core.proofs.passage.selected.Goals as goal
-use Rattle.rtdb_core.proofs.passage.selected.Goals.{in-Some, in-None}
+use Rattle.rtdb_core.proofs.moved.selected.Goals as goal
+use Rattle.rtdb_core.proofs.moved.selected.Goals.{in-Some, in-None}
 
 pub returns : goal.returns
 returns c =

@@ -1,0 +1,158 @@
+//! Whether what is selected has moved by a step. What was found of a few queries is kept, since many
+//! listeners ask for the same.
+ghost use Rattle.std.specs.Prelude.{◌≡◌, Option, Some, option_map, IfOk, IfSome};
+ghost use Rattle.tree_model.specs.PathMap.{sub};
+ghost use Rattle.tree_model.specs.Tree.{non_null};
+ghost use Rattle.path_capture.specs.Write.{tree_or_null};
+ghost use Rattle.listeners.specs.Selection.{selection};
+ghost use Rattle.rtdb_core.specs.Rejudged.{moves, same_tree};
+ghost use Rattle.rtdb_core.specs.Working.Passages.{IsPassage, tree_before, tree_after};
+
+use crate::passage::Passage;
+use crate::selected::stored;
+use arena_snapshot::{View, is_changed, same};
+use bumpalo::Bump;
+use json_tree::NoMemory;
+use listeners::{Query, select};
+use path_capture::Path;
+use std::marker::Model;
+
+/// Of how many queries is kept what was found: of the first ones that are asked for.
+const MAX_FOUND: usize = 8;
+
+/// What was found of a query at a path.
+#[derive(Clone, Copy)]
+pub(crate) struct Found<'s> {
+    path: &'s Path,
+    query: &'s Query,
+    moved: bool,
+}
+
+/// Which selections are moved by a step. Contracts see the tree before it and the tree after it.
+#[derive(Drop)]
+pub(crate) struct Moved<'a, 'p, 's> {
+    passage: &'p Passage<'p>,
+    found: Vec<Found<'s>, &'a Bump>,
+}
+
+impl<'a, 'p, 's> Model for Moved<'a, 'p, 's> {
+    ghost use Rattle.std.specs.Coded.{coded×};
+    ghost use Rattle.tree_model.specs.Tree.{Tree, tree_code};
+    ghost use Rattle.rtdb_core.specs.Working.Passages.{IsPassage, tree_before, tree_after};
+    ghost use Rattle.rtdb_core.specs.Working.Moved.{AreFound};
+
+    ghost Value = { Tree × Tree };
+
+    ghost coded = { coded× tree_code tree_code };
+
+    ghost view = { λ moved. (tree_before moved.passage.now, tree_after moved.passage.now) };
+
+    ghost invariant = { λ moved. IsPassage moved.passage.now × AreFound (tree_before moved.passage.now) (tree_after moved.passage.now) moved.found.items };
+}
+
+impl<'a, 'p, 's> Moved<'a, 'p, 's> {
+    /// The selections that this step moves. It takes no memory.
+    pub(crate) fn by(arena: &'a Bump, passage: &'p Passage<'p>) -> Moved<'a, 'p, 's>
+        requires { IsPassage passage.now }
+        ensures { result ≡ (tree_before passage.now, tree_after passage.now) }
+    {
+        Moved {
+            passage,
+            found: Vec::new(arena),
+        }
+    }
+
+    /// Whether what a query selects of a path has moved, without a query all that stands there. It takes
+    /// memory where something there has changed, and it is not known of the query.
+    pub(crate) fn has(
+        &mut self,
+        arena: &Bump,
+        path: &'s Path,
+        query: Option<&'s Query>,
+    ) -> Result<bool, NoMemory>
+        ensures moved { IfOk result (λ moved. moved ≡ moves self.old.0 self.old.1 path.now (option_map (λ query. query.now) query.entry)) }
+        ensures same { self.new ≡ self.old }
+    {
+        if !is_changed(self.passage.base, self.passage.writes, path) {
+            return Ok(false);
+        }
+        let Some(query) = query else {
+            return Ok(true);
+        };
+        if let Some(moved) = self.find(path, query) {
+            return Ok(moved);
+        }
+        let moved = selection_moves(arena, self.passage, path, query)?;
+        self.keep(path, query, moved);
+        Ok(moved)
+    }
+
+    // What was found of a query at a path.
+    fn find(&self, path: &Path, query: &Query) -> Option<bool>
+        ensures { IfSome result (λ moved. moved ≡ moves self.now.0 self.now.1 path.now (Some query.now)) }
+    {
+        for found in self.found.as_slice() {
+            if found.query.is_same(query) && found.path.compare(path).is_eq() {
+                return Some(found.moved);
+            }
+        }
+        None
+    }
+
+    // Keeps what was found of a query at a path, where there is room and memory for it.
+    fn keep(&mut self, path: &'s Path, query: &'s Query, moved: bool)
+        requires { moved ≡ moves self.old.0 self.old.1 path.now (Some query.now) }
+        ensures { self.new ≡ self.old }
+    {
+        if self.found.len() < MAX_FOUND {
+            let _ = self.found.push(Found { path, query, moved });
+        }
+    }
+}
+
+// Whether what a query selects of a path has moved.
+fn selection_moves(
+    arena: &Bump,
+    passage: &Passage<'_>,
+    path: &Path,
+    query: &Query,
+) -> Result<bool, NoMemory>
+    requires { IsPassage passage.now }
+    ensures { IfOk result (λ moved. moved ≡ moves (tree_before passage.now) (tree_after passage.now) path.now (Some query.now)) }
+{
+    let before = selected(arena, &stored(passage.base), path, query)?;
+    let after = selected(arena, &passage.coming, path, query)?;
+    Ok(!are_same(&before, &after))
+}
+
+fn selected<'a>(
+    arena: &'a Bump,
+    tree: &Option<View<'a>>,
+    path: &Path,
+    query: &Query,
+) -> Result<Option<View<'a>>, NoMemory>
+    ensures { IfOk result (λ found. found ≡ non_null (selection (sub (tree_or_null tree.now) path.now) (Some query.now))) }
+{
+    let found = match tree {
+        Some(tree) => tree.at(path),
+        None => None,
+    };
+    select(arena, found, Some(query))
+}
+
+fn are_same(one: &Option<View<'_>>, other: &Option<View<'_>>) -> bool
+    ensures { result ≡ same_tree (tree_or_null one.now) (tree_or_null other.now) }
+{
+    match (one, other) {
+        (Some(one), Some(other)) => same(one, other),
+        (None, None) => true,
+        (Some(one), None) => {
+            one.law();
+            false
+        }
+        (None, Some(other)) => {
+            other.law();
+            false
+        }
+    }
+}
