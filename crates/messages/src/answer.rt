@@ -8,7 +8,7 @@ ghost use Rattle.messages.specs.AnswerText.{text, fault_text, rules_fault_text, 
 use crate::ask::LineFault;
 use crate::code::Code;
 use crate::message::MessageFault;
-use crate::news::write_news;
+use crate::news::{with_piece, write_news};
 use crate::refusal::{put_plain, put_refusal};
 use json::Writer;
 use json_tree::{NoMemory, Node, write_json};
@@ -17,7 +17,7 @@ use rules_reader::{RuleFault, RuleName, RulesFault};
 use serde_json::{Value, json};
 use std::alloc::Global;
 
-// How many bytes a refusal has room for at first, which most don't fill.
+// How many bytes an answer has room for at first, which most don't fill.
 const FIRST_ROOM: usize = 192;
 
 /// The text of a reply, in one pass over what it has.
@@ -117,7 +117,8 @@ fn done(alloc: Global) -> Result<Vec<u8>, NoMemory>
 pub fn write_value(alloc: Global, tree: Option<&Node>) -> Result<Vec<u8>, NoMemory>
     ensures { IfOk result (λ bytes. bytes.items ≡ text (Reply.Value (option_map (λ node. node.now) tree.entry))) }
 {
-    let front = Vec::from_slice(alloc, b"{\"ok\":true,\"value\":")?;
+    let room = Vec::with_capacity(alloc, FIRST_ROOM)?;
+    let front = with_piece(room, b"{\"ok\":true,\"value\":")?;
     let mut bytes = write_json(front, tree)?;
     bytes.push(b'}')?;
     Ok(bytes)

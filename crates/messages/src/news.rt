@@ -64,7 +64,8 @@ fn with_notice(bytes: Vec<u8>, notice: &Notice) -> Result<Vec<u8>, NoMemory>
     }
 }
 
-fn with_piece(bytes: Vec<u8>, piece: &[u8]) -> Result<Vec<u8>, NoMemory>
+/// The bytes, and behind them others.
+pub(crate) fn with_piece(bytes: Vec<u8>, piece: &[u8]) -> Result<Vec<u8>, NoMemory>
     ensures { IfOk result (λ all. all.items ≡ bytes.items ++ piece.now) }
 {
     let mut all = bytes;

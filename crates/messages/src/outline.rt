@@ -9,13 +9,13 @@ ghost use Rattle.messages.specs.Working.Outline.{said_data, part_data, put_all, 
 
 use crate::named::Named;
 use crate::trees::{named_from, negative_of, whole_of};
-use arrayvec::ArrayVec;
+use bumpalo::Bump;
 use json::{Reader, Scratch, Token};
 use serde_json::Value;
 use std::alloc::Global;
 
-// The most members of an outline: more than any lawful message has.
-const MAX_OUTLINE_MEMBERS: usize = 8;
+// For how many members an outline has room at first: more than any lawful message has.
+const FIRST_MEMBERS: usize = 8;
 
 // How deep a member may nest: one level less than a message.
 const MAX_MEMBER_LEVELS: usize = 126;
@@ -67,7 +67,7 @@ impl Said<'_> {
 }
 
 /// A member of an outline.
-#[derive(Default, Drop)]
+#[derive(Drop)]
 pub(crate) struct Member<'a> {
     pub name: &'a str,
     said: Said<'a>,
@@ -76,20 +76,25 @@ pub(crate) struct Member<'a> {
 /// The members of a message, in the order in which they stand.
 #[derive(Drop)]
 pub(crate) struct Outline<'a> {
-    members: ArrayVec<Member<'a>, MAX_OUTLINE_MEMBERS>,
+    members: Vec<Member<'a>, &'a Bump>,
 }
 
 impl<'a> Outline<'a> {
-    /// The outline of a text. None where it is no object, where it has more members than fit, and where
-    /// one of them is no value, is one that [`named_from`] leaves, or wants memory.
-    pub fn read(alloc: Global, text: &'a str, scratch: &'a mut Scratch) -> Option<Outline<'a>>
+    /// The outline of a text, whose list of members takes a place in the arena. None where it is no object,
+    /// and where one of its members is no value, is one that [`named_from`] leaves, or wants memory.
+    pub fn read(
+        alloc: Global,
+        arena: &'a Bump,
+        text: &'a str,
+        scratch: &'a mut Scratch,
+    ) -> Option<Outline<'a>>
         ensures { IfSome result (λ outline. read text.now ≡ Some (object (put_all outline.members.items no_members))) }
     {
         let mut reader = Reader::new(text, scratch).ok()?;
         let Some(Token::BeginObject) = reader.next() else {
             return None;
         };
-        let members = read_members(alloc, &mut reader)?;
+        let members = read_members(alloc, arena, &mut reader)?;
         if reader.next().is_some() {
             return None;
         }
@@ -118,15 +123,16 @@ impl<'a> Outline<'a> {
 
 fn read_members<'a>(
     alloc: Global,
+    arena: &'a Bump,
     reader: &mut Reader<'a>,
-) -> Option<ArrayVec<Member<'a>, MAX_OUTLINE_MEMBERS>>
+) -> Option<Vec<Member<'a>, &'a Bump>>
     ensures { IfSome result (λ members. Gives MAX_MEMBER_LEVELS reader.old (put_all members.items no_members) reader.new) }
 {
-    let mut members = ArrayVec::new();
+    let mut members = Vec::with_capacity(arena, FIRST_MEMBERS).ok()?;
     'members: while let Some(name) = reader.next_key().ok()? {
         let token = reader.next()?;
         let said = said_from(alloc, reader, token)?;
-        members.try_push(Member { name, said }).ok()?;
+        members.push(Member { name, said }).ok()?;
     }
     Some(members)
 }

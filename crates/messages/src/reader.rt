@@ -8,15 +8,17 @@ use crate::limits::MAX_MESSAGE_BYTES;
 use crate::message::{Form, MessageFault, Request, read_value, request_of};
 use crate::outline::Outline;
 use crate::source::Message;
+use bumpalo::Bump;
 use json::Scratch;
 use rtdb_core::MAX_MOMENT;
 use std::alloc::Global;
 
 /// What reads messages. It keeps the memory that reading their text takes: four bytes for each of 4,096
-/// places, and as many as the longest message has.
+/// places, and as many as the longest message has; and an arena for the list of a message's members.
 #[derive(Drop)]
 pub struct MessageReader {
     alloc: Global,
+    arena: Bump,
     scratch: Scratch,
 }
 
@@ -25,6 +27,7 @@ impl MessageReader {
     pub fn new(alloc: Global) -> MessageReader {
         MessageReader {
             alloc,
+            arena: Bump::new(alloc),
             scratch: Scratch::new(alloc),
         }
     }
@@ -45,7 +48,9 @@ impl MessageReader {
         ensures too_large { MAX_MESSAGE_BYTES < length bytes.now → IsErrOf result MessageFault.TooLarge }
     {
         let alloc = self.alloc;
-        if let Some(outline) = outline_of(alloc, &mut self.scratch, bytes) {
+        if self.arena.reset().is_ok()
+            && let Some(outline) = outline_of(alloc, &self.arena, &mut self.scratch, bytes)
+        {
             return request_of(alloc, form, &mut Message::Outlined(outline));
         }
         let value = read_value(alloc, bytes)?;
@@ -54,7 +59,12 @@ impl MessageReader {
 }
 
 // The outline of a message that is not too large.
-fn outline_of<'a>(alloc: Global, scratch: &'a mut Scratch, bytes: &'a [u8]) -> Option<Outline<'a>>
+fn outline_of<'a>(
+    alloc: Global,
+    arena: &'a Bump,
+    scratch: &'a mut Scratch,
+    bytes: &'a [u8],
+) -> Option<Outline<'a>>
     ensures value { IfSome result (λ outline. value_of bytes.now ≡ Ok (object (put_all outline.members.items no_members))) }
     ensures fits { IsSome result → length bytes.now ≤ MAX_MESSAGE_BYTES }
 {
@@ -62,5 +72,5 @@ fn outline_of<'a>(alloc: Global, scratch: &'a mut Scratch, bytes: &'a [u8]) -> O
         return None;
     }
     let text = simdutf8::compat::from_utf8(bytes).ok()?;
-    Outline::read(alloc, text, scratch)
+    Outline::read(alloc, arena, text, scratch)
 }

@@ -9,7 +9,9 @@ use Rattle.messages.proofs.Outlines.{put_one_more}
 use Rattle.messages.proofs.outline.read_members.Goals as goal
 
 pub members-init : goal.members-init
-members-init c = subst (λ ms. Leads 126 c.args.reader.now c.args.reader.now (put_all ms no_members)) (sym c.new-members.ensures) (at_first 126 c.args.reader.now)
+members-init c =
+    let empty : c.in_ok-members.members.items ≡ [] = grind arith in
+    subst (λ ms. Leads 126 c.args.reader.now c.args.reader.now (put_all ms no_members)) (sym empty) (at_first 126 c.args.reader.now)
 
 pub members-preserved : goal.members-preserved
 members-preserved c =
@@ -21,7 +23,7 @@ members-preserved c =
     let first : after_key ≡ token_of token ∷ c.next.new.self = grind arith in
     let more = one_more 126 c.args.reader.now l.reader after_key c.next.new.self c.said_from.new.reader (put_all l.members.items no_members) name (token_of token) (said_data c.in_ok-said.said) l.invariant key first c.in_ok-said.ensures.value c.in_ok-said.ensures.shorter in
     let member : Member = record { name = c.in-Some.name; said = c.in_ok-said.said } in
-    let pushed : c.try_push.new.self.items ≡ l.members.items ++ member ∷ [] = grind arith in
+    let pushed : c.push.new.self.items ≡ l.members.items ++ member ∷ [] = grind arith in
     subst (λ ms. Leads 126 c.args.reader.now c.said_from.new.reader ms) (sym (put_one_more l.members.items member no_members) ∙ ap (λ ms. put_all ms no_members) (sym pushed)) more
 
 pub returns : goal.returns
