@@ -6,7 +6,7 @@ use crate::view::{Kind, View};
 use json_tree::{Child, NoMemory, Node};
 use std::alloc::Global;
 
-/// The same tree, owned, in one pass over it: one growth for each text, each long key, each child and
+/// The same tree, owned, in one pass over it: one growth for each long text, long key, child and
 /// each list of children, and where children are changed a binary search for each child.
 #[cycle(copy_out)]
 pub fn copy_out(alloc: Global, view: &View) -> Result<Node, NoMemory>

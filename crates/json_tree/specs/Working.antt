@@ -5,4 +5,5 @@ pub mod Levels
 pub mod Members
 pub mod Changed
 pub mod Held
+pub mod Words
 pub mod Front

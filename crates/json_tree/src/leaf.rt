@@ -3,6 +3,7 @@ ghost use Rattle.std.specs.Prelude.{◌≡◌, ◌≤◌, true, length, IfOk, So
 ghost use Rattle.tree_model.specs.Primitive.{is_whole, is_text};
 
 use crate::memory::NoMemory;
+use arrayvec::ArrayString;
 use std::alloc::Global;
 use std::marker::Model;
 use tree_model::{MAX_TEXT_BYTES, MAX_WHOLE, MIN_WHOLE};
@@ -47,21 +48,32 @@ impl Number {
     }
 }
 
-/// A text of at most 65,536 bytes. Contracts see its bytes. (This project's profile.)
+/// How many bytes of a text lie in the text itself: with their number as many as a `String` takes.
+const SHORT_BYTES: usize = 16;
+
+/// A text of at most 65,536 bytes. Those of a text of at most 16 lie in itself, and it takes no memory.
+/// Contracts see its bytes. (This project's profile.)
 #[derive(Debug, Drop)]
 pub struct LeafText {
-    held: String,
+    held: Words,
+}
+
+#[derive(Debug, Drop)]
+pub(crate) enum Words {
+    Short(ArrayString<SHORT_BYTES>),
+    Long(String),
 }
 
 impl Model for LeafText {
-    ghost use Rattle.std.specs.Prelude.{◌≡◌, ℕ, List, true, string_bytes};
+    ghost use Rattle.std.specs.Prelude.{◌≡◌, ℕ, List, true};
     ghost use Rattle.tree_model.specs.Primitive.{is_text};
+    ghost use Rattle.json_tree.specs.Working.Words.{bytes_of};
 
     ghost Value = { List ℕ };
 
-    ghost view = { λ text. string_bytes text.held };
+    ghost view = { λ text. bytes_of text.held };
 
-    ghost invariant = { λ text. is_text (string_bytes text.held) ≡ true };
+    ghost invariant = { λ text. is_text (bytes_of text.held) ≡ true };
 }
 
 impl LeafText {
@@ -70,16 +82,31 @@ impl LeafText {
         ensures bytes { result.now ≡ self.now }
         ensures lawful { is_text self.now ≡ true }
     {
-        self.held.as_str()
+        match &self.held {
+            Words::Short(text) => text.as_str(),
+            Words::Long(text) => text.as_str(),
+        }
     }
 
-    // The text of these bytes, in one growth.
+    // The text of these bytes, in one growth at most.
     fn new(alloc: Global, text: &str) -> Result<LeafText, NoMemory>
         requires { length text.now ≤ MAX_TEXT_BYTES }
         ensures { IfOk result (λ held. held ≡ text.now) }
     {
-        Ok(LeafText {
-            held: String::from_str(alloc, text)?,
+        let held = Words::copy_of(alloc, text)?;
+        Ok(LeafText { held })
+    }
+}
+
+impl Words {
+    ghost use Rattle.json_tree.specs.Working.Words.{bytes_of};
+
+    fn copy_of(alloc: Global, text: &str) -> Result<Words, NoMemory>
+        ensures { IfOk result (λ words. bytes_of words ≡ text.now) }
+    {
+        Ok(match ArrayString::from(text) {
+            Ok(short) => Words::Short(short),
+            Err(_) => Words::Long(String::from_str(alloc, text)?),
         })
     }
 }
@@ -96,7 +123,7 @@ impl Leaf {
     ghost use Rattle.tree_model.specs.Primitive.{words, is_primitive};
     ghost use Rattle.json_tree.specs.Leaf.{primitive_of};
 
-    /// The leaf of a text, in one growth.
+    /// The leaf of a text, in one growth at most: one of at most 16 bytes takes none.
     pub fn words(alloc: Global, text: &str) -> Result<Leaf, NoMemory>
         requires { length text.now ≤ MAX_TEXT_BYTES }
         ensures { IfOk result (λ leaf. primitive_of leaf ≡ words text.now) }
@@ -104,7 +131,7 @@ impl Leaf {
         Ok(Leaf::Words(LeafText::new(alloc, text)?))
     }
 
-    /// The same leaf once more. A text takes one growth.
+    /// The same leaf once more. A text takes one growth at most.
     pub fn copy(&self, alloc: Global) -> Result<Leaf, NoMemory>
         ensures { IfOk result (λ leaf. primitive_of leaf ≡ primitive_of self.now) }
     {

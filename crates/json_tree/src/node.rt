@@ -280,7 +280,7 @@ impl Node {
         self.count
     }
 
-    /// The same tree once more, in one pass: one growth for each text, each long key, each child and each
+    /// The same tree once more, in one pass: one growth for each long text, long key, child and
     /// list of children.
     #[cycle(copy)]
     pub fn copy(&self, alloc: Global) -> Result<Node, NoMemory>

@@ -61,7 +61,7 @@ impl Model for Query {
 impl Query {
     /// The query that a JSON value is: an object with the members `orderBy`, `startAt`, `endAt`, `equalTo`,
     /// `limitToFirst` and `limitToLast`, each of which may be left out, and no others. It is tested by a look
-    /// at each name and one at each of the six members; then one growth for each text among the bounds, one for
+    /// at each name and one at each of the six members; then one growth for each long text among the bounds, one for
     /// the list of the keys of an order by a path, one at most for each of these keys, those of their joined
     /// text, and one for the query. A value that is no query is answered as such before any memory is taken.
     /// (Guide "Work with Lists of Data", sorting and filtering data; the form is this project's profile.)

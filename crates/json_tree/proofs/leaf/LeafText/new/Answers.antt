@@ -4,4 +4,4 @@ use Rattle.json_tree.proofs.Limits.{is_text_from}
 use Rattle.json_tree.proofs.leaf.LeafText.new.Goals as goal
 
 pub invariant_of-result : goal.invariant_of-result
-invariant_of-result c = ap is_text c.in_ok-from_str.ensures.ok ∙ is_text_from c.args.text.now c.utf8.text c.requires
+invariant_of-result c = ap is_text c.in_ok-held.ensures ∙ is_text_from c.args.text.now c.utf8.text c.requires
