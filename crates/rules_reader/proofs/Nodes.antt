@@ -1,6 +1,6 @@
 -- What holds of every rule node.
-use Rattle.std.proofs.Common.{◌≡◌, ℕ, true, ◌||◌, List, [], ◌∷◌, map, Option, is_some, ap, ◌∙◌, refl}
-use Rattle.std.specs.List.{AllByRecursion, list_any}
+use Rattle.std.proofs.Common.{◌≡◌, ℕ, true, List, [], ◌∷◌, map, Option, is_some, ap, ◌∙◌, refl}
+use Rattle.std.specs.List.{AllByRecursion}
 use Rattle.std.specs.FinMap as map_of
 use Rattle.path_capture.specs.declared.pattern.Part.{Part}
 use Rattle.expr_types.specs.Checked.{Checked}

@@ -1,5 +1,5 @@
 -- Where no `.validate` is stated at or below a node, no pattern that stands at or below its path states one.
-use Rattle.std.proofs.Common.{◌≡◌, ◌||◌, Bool, true, false, cond, List, [], ◌∷◌, ◌++◌, map, length, take, drop, Some, None, Option, is_some, option_and_then, sym, ap, ◌∙◌, refl}
+use Rattle.std.proofs.Common.{◌≡◌, ◌||◌, Bool, true, false, cond, List, [], ◌∷◌, ◌++◌, length, take, drop, Some, None, Option, is_some, option_and_then, sym, ap, ◌∙◌, refl}
 use Rattle.std.specs.List.{list_any}
 use Rattle.std.specs.FinMap as map_of
 use Rattle.std.specs.FinMap.{find, is_sorted}

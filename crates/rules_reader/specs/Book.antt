@@ -1,5 +1,5 @@
 -- What a rules file states, as a flat map: the patterns of its objects, each with the rules that stand there.
-use Rattle.std.specs.Prelude.{ℕ, ◌+◌, List, [], ◌∷◌, ◌++◌, Bool, true, false, not, ◌||◌, length, codes, Option, Some, None, is_some, flat_map, refl}
+use Rattle.std.specs.Prelude.{ℕ, ◌+◌, List, [], ◌∷◌, ◌++◌, Bool, length, codes, Option, Some, None, is_some, flat_map, refl}
 use Rattle.std.specs.List.{list_any}
 use Rattle.std.specs.FinMap as map_of
 use Rattle.std.specs.Coded.{Coded, code_by, coded×, coded_ℕ, coded_list, coded_option}
@@ -7,7 +7,6 @@ use Rattle.tree_model.specs.PathMap.{PathMap}
 use Rattle.rules_reader.specs.Part.{Pattern}
 use Rattle.rules_reader.specs.declared.kind.Kind.{Kind}
 use Rattle.rules_reader.specs.declared.kind.Kind.TheVariants.{Read, Write, Validate}
-use Rattle.expr_parser.specs.Tree as t
 use Rattle.expr_types.specs.Checked.{Checked, checked_code}
 
 -- what an object states for each kind of rule: its `.read`, its `.write` and its `.validate`, where it does. (Reference, rules types.)
