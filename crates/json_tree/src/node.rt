@@ -107,8 +107,8 @@ impl Child {
         &self.held.1
     }
 
-    // Where the key stands beside a text: the fronts tell, and where they are the same and the text is longer,
-    // the key.
+    // Where the key stands beside a text: the fronts tell, and where they are the same, either that no other
+    // key has this front, or the key.
     fn compare(&self, sought: &Sought<'_>) -> Ordering
         ensures { result ≡ key_cmp self.now.0 sought.now }
     {
@@ -280,8 +280,8 @@ impl Node {
         self.count
     }
 
-    /// The same tree once more, in one pass: one growth for each long text, long key, child and
-    /// list of children.
+    /// The same tree once more, in one pass: one growth for each long text, long key, child and list of
+    /// children.
     #[cycle(copy)]
     pub fn copy(&self, alloc: Global) -> Result<Node, NoMemory>
         ensures { IfOk result (λ node. node ≡ self.now) }
