@@ -15,3 +15,4 @@ pub mod Apart
 pub mod Keeping
 pub mod Neighbours
 pub mod Leaving
+pub mod Tokens

@@ -14,6 +14,7 @@ mod proposal;
 mod sameness;
 mod selection;
 mod sizes;
+mod texts;
 mod view;
 
 pub use copies::copy_out;
@@ -22,4 +23,5 @@ pub use overlapping::overlaps;
 pub use proposal::overlay;
 pub use sameness::{is_same_leaf, same};
 pub use selection::kept;
+pub use texts::write_view;
 pub use view::View;

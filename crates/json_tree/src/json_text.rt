@@ -14,13 +14,13 @@ use json::Writer;
 use std::alloc::AllocError;
 
 /// Writes the JSON text of a tree behind what stands in the bytes, null for None: the text of the
-/// value that `to_json` gives, in one pass, with no memory but what the text takes. (This project's
-/// profile.)
+/// value that `to_json` gives, in two passes, with no memory but what the text takes: the first finds about how
+/// long it is, and makes room for all of it. (This project's profile.)
 pub fn write_json(bytes: Vec<u8>, tree: Option<&Node>) -> Result<Vec<u8>, NoMemory>
     ensures { IfOk result (λ text. text.items ≡ bytes.items
         ++ compact_text (value_of (unwrap_or (option_map (λ node. node.now) tree.entry) null))) }
 {
-    let mut out = Writer::new(bytes);
+    let mut out = Writer::new(with_room(bytes, tree)?);
     match tree {
         None => out.null()?,
         Some(node) => write_node(&mut out, node)?,
@@ -28,9 +28,20 @@ pub fn write_json(bytes: Vec<u8>, tree: Option<&Node>) -> Result<Vec<u8>, NoMemo
     Ok(out.into_inner())
 }
 
-// The writer puts the commas and the colons between the tokens.
+// The bytes, with room for the text of a tree behind them.
+fn with_room(mut bytes: Vec<u8>, tree: Option<&Node>) -> Result<Vec<u8>, NoMemory>
+    ensures { IfOk result (λ room. room.items ≡ bytes.items) }
+{
+    if let Some(node) = tree {
+        bytes.reserve(node.text_room())?;
+    }
+    Ok(bytes)
+}
+
+/// Writes the tokens of the JSON text of a tree behind those of a writer, which puts the commas and the colons
+/// between them.
 #[cycle(write)]
-fn write_node(out: &mut Writer, node: &Node) -> Result<(), AllocError>
+pub fn write_node(out: &mut Writer, node: &Node) -> Result<(), AllocError>
     ensures before { out.new.before ≡ out.old.before }
     ensures tokens { OnOk result (out.new.tokens
         ≡ out.old.tokens ++ json_tokens (outline (value_of node.now))) }

@@ -58,6 +58,9 @@ pub struct LeafText {
     held: Words,
 }
 
+// For how many digits of a number a text has room: more than most have.
+const USUAL_DIGITS: usize = 8;
+
 #[derive(Debug, Drop)]
 pub(crate) enum Words {
     Short(ArrayString<SHORT_BYTES>),
@@ -139,6 +142,15 @@ impl Leaf {
             Leaf::Truth(b) => Ok(Leaf::Truth(*b)),
             Leaf::Whole(number) => Ok(Leaf::Whole(*number)),
             Leaf::Words(text) => Leaf::words(alloc, text.as_str()),
+        }
+    }
+
+    // About how many bytes its text has.
+    pub(crate) fn text_room(&self) -> usize {
+        match self {
+            Leaf::Truth(_) => "false".len(),
+            Leaf::Whole(_) => USUAL_DIGITS,
+            Leaf::Words(text) => text.as_str().len() + "\"\"".len(),
         }
     }
 

@@ -20,7 +20,7 @@ mod undo;
 pub use json_laws::{
     what_a_tree_is_written_as, what_a_value_describes, what_is_written_is_read_back,
 };
-pub use json_text::write_json;
+pub use json_text::{write_json, write_node};
 pub use json_value::{ValueFault, from_json, to_json};
 pub use key::{Key, KeyFault, copy_keys, is_lawful_key};
 pub use leaf::{Leaf, LeafText, Number};

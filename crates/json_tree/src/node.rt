@@ -20,6 +20,9 @@ use std::cmp::Ordering;
 use std::marker::Model;
 use tree_model::MAX_DEPTH;
 
+// How many bytes stand around a key in a text: its quotes, a colon and a comma.
+const AROUND_A_KEY: usize = 4;
+
 /// A tree that is not null, owned. Contracts see which primitive stands at which path. (Guide
 /// "Structure Your Database", how data is structured: a JSON tree.)
 #[cycle(node)]
@@ -297,6 +300,16 @@ impl Node {
         })
     }
 
+    // About how many bytes its text has, without what escapes add. So each child is looked at before the first
+    // is written, and what memory holds them is waited for at once.
+    #[cycle(room)]
+    pub(crate) fn text_room(&self) -> usize {
+        match &self.kind {
+            Kind::Primitive(leaf) => leaf.text_room(),
+            Kind::Parent(children) => room_of_keys(children).saturating_add(room_below(children)),
+        }
+    }
+
     // The children with their keys, in their order.
     pub(crate) fn children(&self) -> &[Child]
         ensures exact { result.now ≡ map_of.entries (children self.now) }
@@ -379,6 +392,25 @@ fn key_of(children: &Vec<Child>, i: usize) -> Option<&Key>
     } else {
         None
     }
+}
+
+// About how many bytes the keys of these children take in a text.
+fn room_of_keys(children: &Vec<Child>) -> usize {
+    let mut room = 0usize;
+    for child in children {
+        room = room.saturating_add(child.key().text().len() + AROUND_A_KEY);
+    }
+    room
+}
+
+// About how many bytes the trees of these children take in a text.
+#[cycle(room)]
+fn room_below(children: &Vec<Child>) -> usize {
+    let mut room = 0usize;
+    for child in children {
+        room = room.saturating_add(child.node().text_room());
+    }
+    room
 }
 
 #[cycle(copy)]

@@ -10,6 +10,7 @@ use crate::code::Code;
 use crate::message::MessageFault;
 use crate::news::{with_piece, write_news};
 use crate::refusal::{put_plain, put_refusal};
+use arena_snapshot::{View, write_view};
 use json::Writer;
 use json_tree::{NoMemory, Node, write_json};
 use rtdb_core::{Refusal, Reply};
@@ -120,6 +121,18 @@ pub fn write_value(alloc: Global, tree: Option<&Node>) -> Result<Vec<u8>, NoMemo
     let room = Vec::with_capacity(alloc, FIRST_ROOM)?;
     let front = with_piece(room, b"{\"ok\":true,\"value\":")?;
     let mut bytes = write_json(front, tree)?;
+    bytes.push(b'}')?;
+    Ok(bytes)
+}
+
+/// The text of the value that a view shows, in one pass over it: what a reply that has this tree says, with no
+/// copy of it.
+pub fn write_selected(alloc: Global, view: Option<&View>) -> Result<Vec<u8>, NoMemory>
+    ensures { IfOk result (λ bytes. bytes.items ≡ text (Reply.Value (option_map (λ view. view.now) view.entry))) }
+{
+    let room = Vec::with_capacity(alloc, FIRST_ROOM)?;
+    let front = with_piece(room, b"{\"ok\":true,\"value\":")?;
+    let mut bytes = write_view(front, view)?;
     bytes.push(b'}')?;
     Ok(bytes)
 }

@@ -21,7 +21,7 @@ mod trees;
 
 pub use answer::{
     write_accepted, write_bad_tokens, write_fault, write_line_fault, write_refusal, write_reply,
-    write_rules_fault, write_value,
+    write_rules_fault, write_selected, write_value,
 };
 pub use ask::{Asked, LineFault, read_asked};
 pub use code::Code;

@@ -13,7 +13,7 @@ use Rattle.tree_model.specs.declared.limits.TheConstants.{MAX_DEPTH}
 use Rattle.tree_model.specs.Key.{Key, is_key}
 use Rattle.tree_model.specs.Path.{Path, is_path}
 use Rattle.tree_model.proofs.Choices.{both_so}
-use Rattle.tree_model.proofs.Lawful.{path_keys, is_path_from}
+use Rattle.tree_model.proofs.Lawful.{path_keys}
 use Rattle.path_capture.specs.Path.{pieces, segments, printed}
 use Rattle.path_capture.proofs.Signs.{key_without_slash, key_is_not_empty}
 
@@ -67,6 +67,32 @@ Counted-with ps n piece count at h lawful so_far =
       is = ap (λ x. x + 1) so_far.is ∙ sym (length-append (named (take n ps)) (piece ∷ [])) ∙ ap length (sym more);
     }
 
+-- the keys so far are the segments among the first n pieces, all of them lawful, and not too many
+pub record Keyed (ps : List Key) (n : ℕ) (keys : List Key) : Type 0 where
+  pub is : keys ≡ named (take n ps)
+  pub lawful : list_all is_key keys ≡ true
+  pub room : length keys ≤ MAX_DEPTH
+
+pub Keyed-none : (ps : List Key) → Keyed ps 0 []
+Keyed-none ps = record { is = refl; lawful = refl; room = omega arith }
+
+pub Keyed-past : (ps : List Key) (n : ℕ) (piece : Key) (keys : List Key) → IsPieceAt ps n piece → (length piece == 0) ≡ true → Keyed ps n keys → Keyed ps (n + 1) keys
+Keyed-past ps n piece keys at h so_far =
+    record { is = so_far.is ∙ sym (named_past ps n piece at h); lawful = so_far.lawful; room = so_far.room }
+
+pub Keyed-with : (ps : List Key) (n : ℕ) (piece : Key) (keys : List Key) → IsPieceAt ps n piece → (length piece == 0) ≡ false → is_key piece ≡ true → length keys < MAX_DEPTH → Keyed ps n keys → Keyed ps (n + 1) (keys ++ piece ∷ [])
+Keyed-with ps n piece keys at h lawful less so_far =
+    let longer = length-append keys (piece ∷ []) in
+    record {
+      is = ap (λ front. front ++ piece ∷ []) so_far.is ∙ sym (named_with ps n piece at h);
+      lawful = list_all-append is_key keys (piece ∷ []) ∙ both_so _ _ so_far.lawful (both_so _ _ lawful refl);
+      room = omega arith;
+    }
+
+-- after all pieces, the keys are the segments, a lawful path
+pub keyed_all : (ps : List Key) (n : ℕ) (keys : List Key) → n ≡ length ps → Keyed ps n keys → keys ≡ named ps
+keyed_all ps n keys h so_far = so_far.is ∙ ap named (take_all n ps (omega arith))
+
 -- there are no more segments than bytes, and one
 pub Counted-fits : (text : List ℕ) (n count : ℕ) → n < length (pieces text) → Counted (pieces text) n count → count ≤ length text
 Counted-fits text n count h so_far =
@@ -84,14 +110,6 @@ counted_all ps n count h so_far =
     let whole : take n ps ≡ ps = take_all n ps (omega arith) in
     let lawful : list_all is_key (named ps) ≡ true = ap (λ x. list_all is_key (named x)) (sym whole) ∙ so_far.lawful in
     ap Some (so_far.is ∙ ap (λ x. length (named x)) whole) ∙ ap (λ b. cond b (Some (length (named ps))) None) (sym lawful)
-
--- segments that were counted and are not too many make a lawful path
-pub is_path_counted : (p : Path) (count : ℕ) → Some count ≡ cond (list_all is_key p) (Some (length p)) None → count ≤ MAX_DEPTH → is_path p ≡ true
-is_path_counted p count e room =
-    elim (list_all is_key p) as (λ b. list_all is_key p ≡ b → Some count ≡ cond b (Some (length p)) None → is_path p ≡ true) [
-      | true ↦ λ lawful h. let same : count ≡ length p = cc in is_path_from p lawful (omega arith)
-      | false ↦ λ _ h. cc
-    ] refl e
 
 list_all-named : (ps : List Key) → list_all is_key (named ps) ≡ list_all (λ p. (length p == 0) || is_key p) ps
 list_all-named [] = refl

@@ -1,5 +1,5 @@
 //! A path: which location of a tree is meant.
-ghost use Rattle.std.specs.Prelude.{◌≡◌, ◌↔◌, ◌<◌, ◌≤◌, ◌+◌, ◌++◌, ℕ, List, [], true, false, length, Some, None, if◌then◌else◌, IfOk, OnOk, OnErr, IsErrOf, string_bytes};
+ghost use Rattle.std.specs.Prelude.{◌≡◌, ◌↔◌, ◌<◌, ◌≤◌, ◌+◌, ◌++◌, ℕ, List, [], true, false, length, Some, None, if◌then◌else◌, IfOk, IfSome, OnOk, OnErr, IsErrOf, string_bytes};
 ghost use Rattle.std.specs.List.{list_all};
 ghost use Rattle.tree_model.specs.Key.{is_key};
 ghost use Rattle.tree_model.specs.Path.{path_cmp, is_path, is_prefix};
@@ -12,6 +12,9 @@ use std::cmp::Ordering;
 use std::marker::Model;
 use thiserror::Error;
 use tree_model::MAX_DEPTH;
+
+// For how many keys a path that is read has room at first.
+const USUAL_KEYS: usize = 4;
 
 /// Why a text gives no path.
 #[derive(Clone, Copy, Debug, PartialEq, Eq, Error)]
@@ -63,8 +66,8 @@ impl Path {
     }
 
     /// The path of a text: its segments between slashes, of which empty ones are dropped. One pass
-    /// tests the text before anything grows; a second makes the path, by one growth for the list
-    /// and one at most for each key. (This project's profile.)
+    /// makes the path, by one growth for the list and one at most for each key; where it gives up, a
+    /// second finds why, and takes no memory. (This project's profile.)
     pub fn parse(alloc: Global, text: &str) -> Result<Path, PathFault>
         ensures ok { IfOk result (λ path. path ≡ segments text.now) }
 
@@ -72,15 +75,17 @@ impl Path {
         ensures bad_path { IsErrOf result PathFault.BadPath ↔ (list_all is_key (segments text.now) ≡ false) }
         ensures too_deep { IsErrOf result PathFault.TooDeep ↔ ((list_all is_key (segments text.now) ≡ true) × (MAX_DEPTH < length (segments text.now))) }
     {
-        let Some(count) = count_of_segments(text) else {
-            return Err(PathFault::BadPath);
-        };
-        if count > MAX_DEPTH {
-            return Err(PathFault::TooDeep);
+        if let Some(held) = keys_of(alloc, text) {
+            return Ok(Path { held });
         }
-        Ok(Path {
-            held: keys_of(alloc, text, count)?,
-        })
+        match count_of_segments(text) {
+            None => Err(PathFault::BadPath),
+            Some(count) => if count > MAX_DEPTH {
+                Err(PathFault::TooDeep)
+            } else {
+                Err(PathFault::NoMemory)
+            },
+        }
     }
 
     /// The path of these keys, at most 32, from the root down. It takes no memory.
@@ -182,18 +187,23 @@ fn count_of_segments(text: &str) -> Option<usize>
     Some(count)
 }
 
-// The keys of a text all of whose segments are lawful, in a list with room for `count`.
-fn keys_of(alloc: Global, text: &str, count: usize) -> Result<Vec<Key>, NoMemory>
-    requires { list_all is_key (segments text.now) ≡ true }
-    ensures { IfOk result (λ keys. keys.items ≡ segments text.now) }
+// The keys of a text, or `None` where one of its segments is no lawful key, where there are more than 32, or
+// where memory is wanted.
+fn keys_of(alloc: Global, text: &str) -> Option<Vec<Key>>
+    ensures keys { IfSome result (λ keys. keys.items ≡ segments text.now) }
+    ensures path { IfSome result (λ keys. is_path keys.items ≡ true) }
 {
-    let mut keys = Vec::with_capacity(alloc, count)?;
+    let mut keys = Vec::with_capacity(alloc, USUAL_KEYS).ok()?;
     for piece in text.split('/') {
-        if !piece.is_empty() {
-            keys.push(Key::of_lawful(alloc, piece)?)?;
+        if piece.is_empty() {
+            continue;
         }
+        if keys.len() == MAX_DEPTH {
+            return None;
+        }
+        keys.push(Key::new(alloc, piece).ok()?).ok()?;
     }
-    Ok(keys)
+    Some(keys)
 }
 
 /// Whether the first of these lists of keys is a prefix of the other one, or the same. It takes no

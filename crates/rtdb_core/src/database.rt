@@ -1,19 +1,22 @@
 //! The database, of which each live listener was granted what it listens to.
-ghost use Rattle.std.specs.Prelude.{◌≡◌, ◌↔◌, ◌≤◌, ◌<◌, Option, None, IsErr, IfOk, IfErr, option_map};
+ghost use Rattle.std.specs.Prelude.{◌≡◌, ◌↔◌, ◌≤◌, ◌<◌, Option, None, IsErr, IfOk, IfErr, OnOk, option_map};
 ghost use Rattle.std.specs.FinMap as map_of;
 ghost use Rattle.tree_model.specs.Tree.{non_null, count};
 ghost use Rattle.path_capture.specs.Write.{tree_or_null};
 ghost use Rattle.rules_reader.specs.Place.{HasOneCapture};
 ghost use Rattle.rtdb_core.specs.State.{opening};
+ghost use Rattle.rtdb_core.specs.Rejudged.{selected_at};
 ghost use Rattle.rtdb_core.specs.Step.{Step};
 
 use crate::event::Event;
 use crate::limits::MAX_LOCATIONS;
 use crate::machine::Machine;
 use crate::reply::{Refusal, Reply};
+use arena_snapshot::View;
 use bumpalo::Bump;
 use evaluator::MAX_MOMENT;
-use json_tree::Node;
+use json_tree::{NoMemory, Node};
+use listeners::Query;
 use path_capture::Path;
 use rules_reader::Rules;
 use std::alloc::Global;
@@ -91,6 +94,39 @@ impl Core {
         ensures refused { IfErr result (λ refusal. Step self.now now session (Event.Get path.now None) (Reply.Refused refusal) self.now) }
     {
         self.machine.read(arena, now, session, path)
+    }
+
+    /// Judges a read as [`Core::step`] does, and does all that a step does before it answers. Where the read is
+    /// granted, [`Core::selected`] lends the answer over the same arena, and where that wants memory, this is the
+    /// refusal. It costs one step for each key of its path, log w of w children each, and the rules on the way.
+    pub fn grant(
+        &self,
+        arena: &mut Bump,
+        now: u64,
+        session: u64,
+        path: &Path,
+        query: Option<&Query>,
+    ) -> Result<(), Refusal>
+        requires { now ≤ MAX_MOMENT }
+        ensures granted { OnOk result (Step self.now now session (Event.Get path.now (option_map (λ query. query.now) query.entry)) (Reply.Value (non_null (selected_at self.now.tree path.now (option_map (λ query. query.now) query.entry)))) self.now) }
+        ensures for_want_of_memory { OnOk result (Step self.now now session (Event.Get path.now (option_map (λ query. query.now) query.entry)) (Reply.Refused Refusal.NoMemory) self.now) }
+        ensures refused { IfErr result (λ refusal. Step self.now now session (Event.Get path.now (option_map (λ query. query.now) query.entry)) (Reply.Refused refusal) self.now) }
+    {
+        self.machine.grant(arena, now, session, path, query)
+    }
+
+    /// What a query selects of what stands at a path, without a query all of it, borrowed from the stored tree
+    /// and from the arena. It asks no rule: [`Core::grant`] does. The cost is that of `select`, and nothing grows
+    /// with what it lends.
+    pub fn selected<'a>(
+        &'a self,
+        arena: &'a Bump,
+        path: &Path,
+        query: Option<&Query>,
+    ) -> Result<Option<View<'a>>, NoMemory>
+        ensures { IfOk result (λ found. found ≡ non_null (selected_at self.now.tree path.now (option_map (λ query. query.now) query.entry))) }
+    {
+        self.machine.selected(arena, path, query)
     }
 
     /// The tree that is stored, None for null.

@@ -26,7 +26,7 @@ use crate::passage::{Passage, shared};
 use crate::refusals::{denial, full, reset};
 use crate::rejudging::{decide_all, decide_own, settle_all};
 use crate::reply::{Refusal, Reply};
-use crate::selected::{asked_for, selected_in};
+use crate::selected::{asked_for, selected_in, view_in};
 use crate::session::Session;
 use crate::telling::news_of;
 use crate::trees::{count_in, count_of, node_at, removal, sort};
@@ -115,14 +115,45 @@ impl Machine {
         ensures found { IfOk result (λ found. Step self.now now session (Event.Get path.now None) (Reply.Value (option_map (λ node. node.now) found)) self.now) }
         ensures refused { IfErr result (λ refusal. Step self.now now session (Event.Get path.now None) (Reply.Refused refusal) self.now) }
     {
+        self.grant(arena, now, session, path, None)?;
+        Ok(self.value_at(path.keys()))
+    }
+
+    /// Judges a read as [`Core::grant`](crate::Core::grant) does.
+    #[tactic(auto, unfolding(crate::specs::Step::Step))]
+    pub(crate) fn grant(
+        &self,
+        arena: &mut Bump,
+        now: u64,
+        session: u64,
+        path: &Path,
+        query: Option<&Query>,
+    ) -> Result<(), Refusal>
+        requires { now ≤ MAX_MOMENT }
+        ensures granted { OnOk result (Step self.now now session (Event.Get path.now (option_map (λ query. query.now) query.entry)) (Reply.Value (non_null (selected_at self.now.tree path.now (option_map (λ query. query.now) query.entry)))) self.now) }
+        ensures for_want_of_memory { OnOk result (Step self.now now session (Event.Get path.now (option_map (λ query. query.now) query.entry)) (Reply.Refused Refusal.NoMemory) self.now) }
+        ensures refused { IfErr result (λ refusal. Step self.now now session (Event.Get path.now (option_map (λ query. query.now) query.entry)) (Reply.Refused refusal) self.now) }
+    {
         if !self.is_open(session) {
             return Err(Refusal::NoSession);
         }
         reset(arena)?;
-        if let Some(refusal) = self.read_refusal(arena, now, session, path, None)? {
-            return Err(refusal);
+        match self.read_refusal(arena, now, session, path, query)? {
+            Some(refusal) => Err(refusal),
+            None => Ok(()),
         }
-        Ok(self.value_at(path.keys()))
+    }
+
+    /// What a query selects, as [`Core::selected`](crate::Core::selected) lends it.
+    pub(crate) fn selected<'a>(
+        &'a self,
+        arena: &'a Bump,
+        path: &Path,
+        query: Option<&Query>,
+    ) -> Result<Option<View<'a>>, NoMemory>
+        ensures { IfOk result (λ found. found ≡ non_null (selected_at self.now.tree path.now (option_map (λ query. query.now) query.entry))) }
+    {
+        view_in(arena, self.tree.as_ref(), path.keys(), query)
     }
 
     fn answer(

@@ -25,7 +25,19 @@ pub(crate) fn asked_for(query: Option<&Query>) -> Asked<'_>
     }
 }
 
-/// What a query selects of what stands at a path of a stored tree, without a query all of it, copied.
+/// What a query selects of what stands at a path of a stored tree, without a query all of it, borrowed.
+pub(crate) fn view_in<'a>(
+    arena: &'a Bump,
+    tree: Option<&'a Node>,
+    path: &[Key],
+    query: Option<&Query>,
+) -> Result<Option<View<'a>>, NoMemory>
+    ensures { IfOk result (λ found. found ≡ non_null (selected_at (node_or_null tree.entry) path.now (option_map (λ query. query.now) query.entry))) }
+{
+    select(arena, stored(node_in(tree, path)), query)
+}
+
+/// The same, copied.
 pub(crate) fn selected_in(
     alloc: Global,
     arena: &Bump,
@@ -35,31 +47,7 @@ pub(crate) fn selected_in(
 ) -> Result<Option<Node>, NoMemory>
     ensures { IfOk result (λ found. found ≡ non_null (selected_at (node_or_null tree.entry) path.now (option_map (λ query. query.now) query.entry))) }
 {
-    let node = node_in(tree, path);
-    match query {
-        Some(query) => selected(alloc, arena, node, query),
-        None => copied_node(alloc, node),
-    }
-}
-
-fn copied_node(alloc: Global, node: Option<&Node>) -> Result<Option<Node>, NoMemory>
-    ensures { IfOk result (λ copy. copy ≡ option_map (λ node. node.now) node.entry) }
-{
-    match node {
-        Some(node) => Ok(Some(node.copy(alloc)?)),
-        None => Ok(None),
-    }
-}
-
-fn selected(
-    alloc: Global,
-    arena: &Bump,
-    node: Option<&Node>,
-    query: &Query,
-) -> Result<Option<Node>, NoMemory>
-    ensures { IfOk result (λ tree. tree ≡ non_null (selection (tree_or_null (option_map (λ node. node.now) node.entry)) (Some query.now))) }
-{
-    let found = select(arena, stored(node), Some(query))?;
+    let found = view_in(arena, tree, path, query)?;
     copied(alloc, found)
 }
 

@@ -1,5 +1,5 @@
 //! What a line is answered: a header by its acceptance or its refusal, a request by a reply.
-ghost use Rattle.std.specs.Prelude.{◌≡◌, ◌≢◌, ◌≤◌, ℕ, List, Ok, IfOk, IsOk, OnErr};
+ghost use Rattle.std.specs.Prelude.{◌≡◌, ◌≢◌, ◌≤◌, ℕ, List, Ok, Some, None, option_map, IfOk, IsOk, OnErr};
 ghost use Rattle.messages.specs.AnswerText.{text, fault_text, rules_fault_text, line_fault_text};
 ghost use Rattle.sessions.specs.Said.{unopened, refused, running, as_line, IsAnsweredBy, header_fault_text};
 ghost use Rattle.sessions.specs.Working.Follow.{phase_of, bytes_of, AnswersAt};
@@ -10,10 +10,11 @@ ghost use Rattle.messages.specs.declared.message.MessageFault.TheVariants as mes
 
 use bumpalo::Bump;
 use json_tree::NoMemory;
+use listeners::Query;
 use messages::{
     Asked, Form, HeaderFault, LineFault, MessageFault, MessageReader, Opened, Stamp, read_header,
     write_accepted, write_bad_tokens, write_fault, write_line_fault, write_refusal, write_reply,
-    write_rules_fault, write_value,
+    write_rules_fault, write_selected, write_value,
 };
 use path_capture::Path;
 use rtdb_core::{Core, Event, MAX_MOMENT, Refusal, Reply};
@@ -107,7 +108,7 @@ fn answer_asked(
 {
     let stamp = asked.stamp;
     match asked.event {
-        Event::Get(path, None) => answer_read(alloc, core, arena, stamp, &path),
+        Event::Get(path, query) => answer_read(alloc, core, arena, stamp, &path, query.as_ref()),
         event => {
             let reply = core.step(arena, stamp.now, stamp.session, event);
             say(alloc, &reply)
@@ -115,8 +116,26 @@ fn answer_asked(
     }
 }
 
-// Answers a read: the tree that it is answered by is written from where it stands.
+// Answers a read: what it is answered by is written from where it stands.
 fn answer_read(
+    alloc: Global,
+    core: &Core,
+    arena: &mut Bump,
+    stamp: Stamp,
+    path: &Path,
+    query: Option<&Query>,
+) -> Result<Answer, NoMemory>
+    requires { stamp.now ≤ MAX_MOMENT }
+    ensures { IfOk result (λ answer. (said : List ℕ) × IsAnsweredBy core.now (Ok (record { stamp = stamp; event = Event.Get path.now (option_map (λ query. query.now) query.entry) })) said core.now × (bytes_of answer ≡ as_line said)) }
+{
+    match query {
+        None => answer_plain_read(alloc, core, arena, stamp, path),
+        Some(query) => answer_query(alloc, core, arena, stamp, path, query),
+    }
+}
+
+// Answers a read without a query.
+fn answer_plain_read(
     alloc: Global,
     core: &Core,
     arena: &mut Bump,
@@ -129,6 +148,27 @@ fn answer_read(
     match core.read(arena, stamp.now, stamp.session, path) {
         Ok(found) => written(write_value(alloc, found)?),
         Err(refusal) => say_refusal(alloc, &refusal),
+    }
+}
+
+// Answers a read by a query.
+fn answer_query(
+    alloc: Global,
+    core: &Core,
+    arena: &mut Bump,
+    stamp: Stamp,
+    path: &Path,
+    query: &Query,
+) -> Result<Answer, NoMemory>
+    requires { stamp.now ≤ MAX_MOMENT }
+    ensures { IfOk result (λ answer. (said : List ℕ) × IsAnsweredBy core.now (Ok (record { stamp = stamp; event = Event.Get path.now (Some query.now) })) said core.now × (bytes_of answer ≡ as_line said)) }
+{
+    if let Err(refusal) = core.grant(arena, stamp.now, stamp.session, path, Some(query)) {
+        return say_refusal(alloc, &refusal);
+    }
+    match core.selected(arena, path, Some(query)) {
+        Ok(found) => written(write_selected(alloc, found.as_ref())?),
+        Err(_) => say_refusal(alloc, &Refusal::NoMemory),
     }
 }
 

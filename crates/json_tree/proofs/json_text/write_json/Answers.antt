@@ -14,15 +14,16 @@ returns c =
     let bytes = c.args.bytes.items in
     let text = c.into_inner.result.items in
     let start = c.new-out.result in
+    let before = c.new-out.ensures.before ∙ c.in_ok-with_room.ensures in
     let end = c.match-tree.out in
     let text_of = λ (tree : Option (Bor Node)). bytes ++ compact_text (value_of (unwrap_or (option_map (λ node. node.now) tree) null)) in
     elim c.match-tree.branch [
       | in-None+in_ok-null-in-None w ↦
           let done = w.in_ok-null-in-None.ensures in
-          text_behind empty bytes text start end c.new-out.ensures.before c.new-out.ensures.tokens (ap (λ o. o.before) w.out-is ∙ done.room.0) (ap (λ o. o.tokens) w.out-is ∙ done.ok) c.into_inner.ensures.items
+          text_behind empty bytes text start end before c.new-out.ensures.tokens (ap (λ o. o.before) w.out-is ∙ done.room.0) (ap (λ o. o.tokens) w.out-is ∙ done.ok) c.into_inner.ensures.items
           ∙ ap (λ d. bytes ++ compact_text d) (sym value_of-null) ∙ ap text_of (sym w.in-None.is)
       | in-Some+in_ok-write_node-in-Some w ↦
           let done = w.in_ok-write_node-in-Some.ensures in
-          text_behind (value_of w.in-Some.node.now) bytes text start end c.new-out.ensures.before c.new-out.ensures.tokens (ap (λ o. o.before) w.out-is ∙ done.before) (ap (λ o. o.tokens) w.out-is ∙ done.tokens) c.into_inner.ensures.items
+          text_behind (value_of w.in-Some.node.now) bytes text start end before c.new-out.ensures.tokens (ap (λ o. o.before) w.out-is ∙ done.before) (ap (λ o. o.tokens) w.out-is ∙ done.tokens) c.into_inner.ensures.items
           ∙ ap text_of (sym w.in-Some.is)
     ]

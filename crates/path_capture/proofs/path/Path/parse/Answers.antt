@@ -1,7 +1,18 @@
-use Rattle.std.proofs.Common.{ap, ◌∙◌}
+use Rattle.std.proofs.Common.{◌≡◌, ◌∙◌, ap, sym, true, arith}
+use Rattle.std.proofs.lemmas.Bool.{false≢true}
 use Rattle.tree_model.specs.Path.{is_path}
-use Rattle.path_capture.proofs.Segments.{is_path_counted}
+use Rattle.tree_model.proofs.Lawful.{path_keys, path_length}
+use Rattle.path_capture.specs.Path.{segments}
 use Rattle.path_capture.proofs.path.Path.parse.Goals as goal
 
-pub invariant_of-result : goal.invariant_of-result
-invariant_of-result c = ap is_path c.in_ok-keys_of.ensures ∙ is_path_counted _ _ (c.in-Some.ensures) c.if-count-gt-MAX_DEPTH.false
+pub returns-in-Some-clause-bad_path : goal.returns-in-Some-clause-bad_path
+returns-in-Some-clause-bad_path c =
+    let lawful : is_path (segments c.args.text.now) ≡ true = ap is_path (sym c.in-Some.ensures.keys) ∙ c.in-Some.ensures.path in
+    let keys = path_keys _ lawful in
+    (λ e. cc, λ bad. absurd (false≢true (sym bad ∙ keys)))
+
+pub returns-in-Some-clause-too_deep : goal.returns-in-Some-clause-too_deep
+returns-in-Some-clause-too_deep c =
+    let lawful : is_path (segments c.args.text.now) ≡ true = ap is_path (sym c.in-Some.ensures.keys) ∙ c.in-Some.ensures.path in
+    let room = path_length _ lawful in
+    (λ e. cc, λ h. absurd (omega (arith, h.1, room)))
