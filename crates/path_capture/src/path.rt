@@ -66,8 +66,9 @@ impl Path {
     }
 
     /// The path of a text: its segments between slashes, of which empty ones are dropped. One pass
-    /// makes the path, by one growth for the list and one at most for each key; where it gives up, a
-    /// second finds why, and takes no memory. (This project's profile.)
+    /// makes the path, by one growth for a list of at most four keys, one more each time a longer list
+    /// doubles, and one at most for each key; where it gives up, a second finds why, and takes no
+    /// memory. (This project's profile.)
     pub fn parse(alloc: Global, text: &str) -> Result<Path, PathFault>
         ensures ok { IfOk result (λ path. path ≡ segments text.now) }
 

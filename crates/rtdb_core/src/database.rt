@@ -116,8 +116,8 @@ impl Core {
     }
 
     /// What a query selects of what stands at a path, without a query all of it, borrowed from the stored tree
-    /// and from the arena. It asks no rule: [`Core::grant`] does. The cost is that of `select`, and nothing grows
-    /// with what it lends.
+    /// and from the arena. It asks no rule: [`Core::grant`] does. The cost is that of `select`, which lists in the
+    /// arena what it looks at; no tree is copied.
     pub fn selected<'a>(
         &'a self,
         arena: &'a Bump,
