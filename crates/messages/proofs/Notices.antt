@@ -11,6 +11,7 @@ use Rattle.path_capture.specs.Write.{tree_or_null}
 use Rattle.rtdb_core.specs.declared.news.Notice.{Notice}
 use Rattle.rtdb_core.specs.declared.news.What.TheVariants.{Gone, Now}
 use Rattle.rtdb_core.specs.declared.reply.Reply.TheVariants.{News}
+use Rattle.rtdb_core.specs.News.{gone, selected_now}
 use Rattle.messages.specs.AnswerText.{notice_data, items_of, text}
 use Rattle.messages.proofs.Texts.{tree_is}
 
@@ -20,6 +21,9 @@ left_text later notices = items_text later (items_of (map notice_data notices))
 
 regrouped : (a b c d : List ℕ) → ((a ++ b) ++ c) ++ d ≡ a ++ (b ++ (c ++ d))
 regrouped a b c d = append_assoc (a ++ b) c d ∙ append_assoc a b (c ++ d)
+
+regrouped_value : (a b c d : List ℕ) → (a ++ (b ++ c)) ++ d ≡ a ++ (b ++ (c ++ d))
+regrouped_value a b c d = append_assoc a (b ++ c) d ∙ ap (λ s. a ++ s) (append_assoc b c d)
 
 -- one notice more is told
 pub told_next : (notices : List Notice) (i : ℕ) (n : Notice) (later : Bool) (told front next all : List ℕ) → i < length notices → n ≡ get_or notices i n → told ++ left_text later (drop i notices) ≡ all
@@ -40,25 +44,33 @@ now_text : (id : List ℕ) (tree : Option Tree) → codes "{\"id\":" ++ (quoted 
 unfolding serde_json_on_literals
 now_text id tree = refl
 
-pub gone_told : (bytes front named all id : List ℕ) (notice : Notice) → id ≡ notice.id → notice.what ≡ Gone → front ≡ bytes ++ codes "{\"cancelled\":true,\"id\":" → named ≡ front ++ quoted id → all ≡ named ++ codes "}" → all ≡ bytes ++ compact_text (notice_data notice)
-gone_told bytes front named all id notice same gone begins goes_on closes =
+pub gone_told : (bytes front named all id : List ℕ) → front ≡ bytes ++ codes "{\"cancelled\":true,\"id\":" → named ≡ front ++ quoted id → all ≡ named ++ codes "}" → all ≡ bytes ++ compact_text (notice_data (gone id))
+gone_told bytes front named all id begins goes_on closes =
     closes
     ∙ ap (λ s. s ++ codes "}") (goes_on ∙ ap (λ s. s ++ quoted id) begins)
     ∙ regrouped bytes (codes "{\"cancelled\":true,\"id\":") (quoted id) (codes "}")
-    ∙ ap (λ s. bytes ++ s) (gone_text id ∙ (λ i. compact_text (notice_data (record { id = same i; what = sym gone i }))))
+    ∙ ap (λ s. bytes ++ s) (gone_text id)
 
-pub now_told : (bytes front named middle valued all id : List ℕ) (tree : Option Tree) (notice : Notice) → id ≡ notice.id → notice.what ≡ Now tree → front ≡ bytes ++ codes "{\"id\":" → named ≡ front ++ quoted id
-    → middle ≡ named ++ codes ",\"value\":" → valued ≡ middle ++ compact_text (value_of (unwrap_or tree null)) → all ≡ valued ++ codes "}" → all ≡ bytes ++ compact_text (notice_data notice)
-now_told bytes front named middle valued all id tree notice same now begins goes_on parts value closes =
+-- what stands before a value that is told under this name
+abbrev pub before_value : List ℕ → List ℕ
+before_value id = codes "{\"id\":" ++ (quoted id ++ codes ",\"value\":")
+
+pub named_so : (bytes front named all id : List ℕ) → front ≡ bytes ++ codes "{\"id\":" → named ≡ front ++ quoted id → all ≡ named ++ codes ",\"value\":" → all ≡ bytes ++ before_value id
+named_so bytes front named all id begins goes_on closes =
+    closes
+    ∙ ap (λ s. s ++ codes ",\"value\":") (goes_on ∙ ap (λ s. s ++ quoted id) begins)
+    ∙ regrouped bytes (codes "{\"id\":") (quoted id) (codes ",\"value\":")
+
+pub now_told : (bytes front valued all id : List ℕ) (tree : Option Tree) (notice : Notice) → selected_now id tree ≡ notice → front ≡ bytes ++ before_value id
+    → valued ≡ front ++ compact_text (value_of (unwrap_or tree null)) → all ≡ valued ++ codes "}" → all ≡ bytes ++ compact_text (notice_data notice)
+now_told bytes front valued all id tree notice is begins value closes =
     let text = compact_text (value_of (tree_or_null tree)) in
     closes
-    ∙ ap (λ s. s ++ codes "}") (value ∙ ap (λ t. middle ++ compact_text (value_of t)) (tree_is tree))
-    ∙ append_assoc middle text (codes "}")
-    ∙ ap (λ s. s ++ (text ++ codes "}")) parts
-    ∙ append_assoc named (codes ",\"value\":") (text ++ codes "}")
-    ∙ ap (λ s. s ++ (codes ",\"value\":" ++ (text ++ codes "}"))) (goes_on ∙ ap (λ s. s ++ quoted id) begins)
-    ∙ regrouped bytes (codes "{\"id\":") (quoted id) (codes ",\"value\":" ++ (text ++ codes "}"))
-    ∙ ap (λ s. bytes ++ s) (now_text id tree ∙ (λ i. compact_text (notice_data (record { id = same i; what = sym now i }))))
+    ∙ ap (λ s. s ++ codes "}") (value ∙ ap (λ t. front ++ compact_text (value_of t)) (tree_is tree))
+    ∙ append_assoc front text (codes "}")
+    ∙ ap (λ s. s ++ (text ++ codes "}")) begins
+    ∙ append_assoc bytes (before_value id) (text ++ codes "}")
+    ∙ ap (λ s. bytes ++ s) (regrouped_value (codes "{\"id\":") (quoted id) (codes ",\"value\":") (text ++ codes "}") ∙ now_text id tree ∙ ap (λ n. compact_text (notice_data n)) is)
 
 -- the text of news round that of the notices
 pub news_text : (notices : List Notice) → codes "{\"news\":[" ++ (left_text false notices ++ codes ",\"ok\":true}") ≡ text (News notices)

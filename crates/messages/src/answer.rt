@@ -8,7 +8,7 @@ ghost use Rattle.messages.specs.AnswerText.{text, fault_text, rules_fault_text, 
 use crate::ask::LineFault;
 use crate::code::Code;
 use crate::message::MessageFault;
-use crate::news::{with_piece, write_news};
+use crate::news::{FIRST_ROOM, with_piece, write_news};
 use crate::refusal::{put_plain, put_refusal};
 use arena_snapshot::{View, write_view};
 use json::Writer;
@@ -18,10 +18,7 @@ use rules_reader::{RuleFault, RuleName, RulesFault};
 use serde_json::{Value, json};
 use std::alloc::Global;
 
-// How many bytes an answer has room for at first, which most don't fill.
-const FIRST_ROOM: usize = 192;
-
-/// The text of a reply, in one pass over what it has.
+/// The text of a reply, in one pass over what it has, and two over each tree in it.
 pub fn write_reply(alloc: Global, reply: &Reply) -> Result<Vec<u8>, NoMemory>
     ensures { IfOk result (λ bytes. bytes.items ≡ text reply.now) }
 {
@@ -113,7 +110,7 @@ fn done(alloc: Global) -> Result<Vec<u8>, NoMemory>
     Ok(Vec::from_slice(alloc, b"{\"ok\":true}")?)
 }
 
-/// The text of the value that stands in a tree, in one pass over it: what a reply that has this tree
+/// The text of the value that stands in a tree, in two passes over it: what a reply that has this tree
 /// says, with no copy of it.
 pub fn write_value(alloc: Global, tree: Option<&Node>) -> Result<Vec<u8>, NoMemory>
     ensures { IfOk result (λ bytes. bytes.items ≡ text (Reply.Value (option_map (λ node. node.now) tree.entry))) }

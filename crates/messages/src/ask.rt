@@ -112,6 +112,7 @@ fn deploy(alloc: Global, text: &str) -> Result<Event, LineFault>
     ensures { (tokens : Secrets) → IsComing tokens (Wanted.Deploy text.now) result }
 {
     let rules = compile(alloc, text.as_bytes())?;
+    // No object of theirs has two captures.
     rules.root();
     Ok(Event::Deploy(rules))
 }

@@ -38,6 +38,7 @@ pub enum Code {
 }
 
 impl Code {
+    /// Its number in an answer.
     pub fn number(self) -> u64
         ensures { result ≡ number_of self }
     {
@@ -75,6 +76,7 @@ impl Code {
         }
     }
 
+    /// Its name in an answer.
     pub fn name(self) -> &'static str
         ensures { result.now ≡ name_of self }
     {

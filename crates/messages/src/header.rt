@@ -67,7 +67,7 @@ pub struct Opened {
 }
 
 /// The database that a header opens, with its tokens, or its first fault: a pass over the line, those of
-/// its rules file, one over its data, and two over its tokens.
+/// its rules file, and two each over its data and its tokens.
 #[tactic(auto, unfolding(crate::specs::Message::header_in))]
 pub fn read_header(alloc: Global, line: &[u8]) -> Result<Opened, HeaderFault>
     ensures { Opens line.now result }
@@ -77,6 +77,7 @@ pub fn read_header(alloc: Global, line: &[u8]) -> Result<Opened, HeaderFault>
         return Err(HeaderFault::Line(MessageFault::BadRequest));
     };
     let rules = compile(alloc, header.rules.as_bytes())?;
+    // No object of theirs has two captures.
     rules.root();
     open(alloc, rules, header.opening, header.tokens)
 }

@@ -1,6 +1,6 @@
 //! Messages: what a line asks, and the texts of answers.
 //!
-//! A message is a line of JSON, and so is its answer. [`read_asked`] says what a message asks of the
+//! A message is a line of JSON, and so is its answer. [`MessageReader::read_asked`] says what a message asks of the
 //! database, [`read_header`] what a header opens, and [`write_reply`] and its like what is answered; the
 //! contract of each is what the definitions say of its bytes.
 #![tactic(auto)]
@@ -28,4 +28,5 @@ pub use code::Code;
 pub use header::{HeaderFault, Opened, read_header};
 pub use limits::{MAX_MESSAGE_BYTES, the_limit_of_messages};
 pub use message::{Form, MessageFault, Request, Stamp, Text, Verb, Wanted, read_request};
+pub use news::write_tidings;
 pub use reader::MessageReader;

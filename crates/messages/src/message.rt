@@ -414,7 +414,7 @@ fn listen_of(alloc: Global, source: Source<'_>) -> Result<Wanted, MessageFault>
     Ok(Wanted::Step(Event::Listen(id, path, query)))
 }
 
-// The name of a listener that the member `id` is.
+// The id of a listener that the member `id` is.
 fn id_at(source: Source<'_>) -> Option<ListenerId>
     ensures { result ≡ id_at (source_data source.entry) }
 {
@@ -502,12 +502,14 @@ pub(crate) fn writes_below(
     Ok(writes)
 }
 
+/// A list that has room for so many writes.
 pub(crate) fn with_room(alloc: Global, count: usize) -> Result<Vec<Write>, NoMemory>
     ensures { IfOk result (λ writes. writes.items ≡ []) }
 {
     Ok(Vec::with_capacity(alloc, count)?)
 }
 
+/// One write more.
 pub(crate) fn keep(writes: &mut Vec<Write>, write: Write) -> Result<(), NoMemory>
     ensures { OnOk result (writes.new.items ≡ writes.old.items ++ write ∷ []) }
 {
@@ -523,6 +525,7 @@ fn write_below(alloc: Global, path: &Path, name: &str, value: &Value) -> Result<
     write_at(at, tree)
 }
 
+/// The path that a name leads to, below a path.
 pub(crate) fn path_below(alloc: Global, path: &Path, name: &str) -> Result<Path, MessageFault>
     ensures { Tells (λ at. at) result (path_below path.now name.now) }
 {
@@ -590,6 +593,7 @@ pub(crate) fn tree_of_value(alloc: Global, value: &Value) -> Result<Option<Node>
     }
 }
 
+/// The write of a tree at a path, None for null; both together may be too deep.
 pub(crate) fn write_at(path: Path, tree: Option<Node>) -> Result<Write, MessageFault>
     ensures { Tells (λ write. write) result (write_at path (tree_or_null tree)) }
 {

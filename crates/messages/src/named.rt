@@ -150,7 +150,8 @@ impl<'a> Named<'a> {
         !self.held.is_empty() && are_plain(self.held.as_slice())
     }
 
-    /// The node with them as its children, by one growth for their list, one for each of them and one for each long key.
+    /// The node with them as its children, by one growth for their list, one for each of them and one for each
+    /// long key.
     pub fn into_node(self, alloc: Global) -> Result<Node, NoMemory>
         requires some { self ≢ [] }
         requires plain { list_all is_plain self ≡ true }

@@ -81,7 +81,8 @@ pub(crate) struct Outline<'a> {
 
 impl<'a> Outline<'a> {
     /// The outline of a text, whose list of members takes a place in the arena. None where it is no object,
-    /// and where one of its members is no value, is one that [`named_from`] leaves, or wants memory.
+    /// and where one of its members is no value, is an array, a number that is not whole or an object that
+    /// [`named_from`] leaves, or wants memory.
     pub fn read(
         alloc: Global,
         arena: &'a Bump,

@@ -1,4 +1,7 @@
 //! Where the members of a message are read: in its outline, or in the value that its bytes are.
+//!
+//! A message is an [`Outline`], of which each member owns what is [`Said`], or one JSON value ([`Message`]).
+//! [`Source`] is either, borrowed; [`Part`] a member of either; [`Object`] a member that is an object.
 ghost use Rattle.std.specs.Prelude.{◌≡◌, option_map, option_and_then, unwrap_or};
 ghost use Rattle.serde_json.specs.Data.{null, no_members};
 ghost use Rattle.serde_json.specs.Find.{get, as_str, as_number, as_u64, as_object};

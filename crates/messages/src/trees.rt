@@ -19,6 +19,7 @@ use json_tree::{Leaf, Node, Number};
 use std::alloc::Global;
 use tree_model::MAX_TEXT_BYTES;
 
+// The greatest number that is positive in 64 bits with a sign.
 const MAX_POSITIVE: u64 = i64::MAX as u64;
 
 /// The members that tokens go on with, up to the closing brace, in which objects may nest so deep. None

@@ -17,6 +17,7 @@ pub mod StepLaws
 pub mod RunLaws
 pub mod WorkedValues
 pub mod Kept
+pub mod Borrowed
 pub mod Changes
 pub mod Polls
 pub mod Goings

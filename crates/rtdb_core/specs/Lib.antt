@@ -1,6 +1,7 @@
 pub mod State
 pub mod Rejudged
 pub mod News
+pub mod Tidings
 pub mod Step
 pub mod Headline
 pub mod Marks

@@ -1,17 +1,18 @@
 //! The database, of which each live listener was granted what it listens to.
-ghost use Rattle.std.specs.Prelude.{◌≡◌, ◌↔◌, ◌≤◌, ◌<◌, Option, None, IsErr, IfOk, IfErr, OnOk, option_map};
+ghost use Rattle.std.specs.Prelude.{ℕ, ◌≡◌, ◌↔◌, ◌≤◌, ◌<◌, true, Option, None, IsErr, IfOk, IfErr, OnOk, OnErr, option_map};
 ghost use Rattle.std.specs.FinMap as map_of;
 ghost use Rattle.tree_model.specs.Tree.{non_null, count};
 ghost use Rattle.path_capture.specs.Write.{tree_or_null};
 ghost use Rattle.rules_reader.specs.Place.{HasOneCapture};
-ghost use Rattle.rtdb_core.specs.State.{opening};
+ghost use Rattle.rtdb_core.specs.State.{opening, is_open};
 ghost use Rattle.rtdb_core.specs.Rejudged.{selected_at};
-ghost use Rattle.rtdb_core.specs.Step.{Step};
+ghost use Rattle.rtdb_core.specs.Step.{polls, Step};
 
 use crate::event::Event;
 use crate::limits::MAX_LOCATIONS;
 use crate::machine::Machine;
 use crate::reply::{Refusal, Reply};
+use crate::tidings::Tidings;
 use arena_snapshot::View;
 use bumpalo::Bump;
 use evaluator::MAX_MOMENT;
@@ -62,8 +63,9 @@ impl Core {
     }
 
     /// Answers one event of a session, at a moment in milliseconds since 1970. A read costs one step
-    /// for each key of its path, log w of w children each, the rules on the way, and the answer, and a
-    /// listen the same; a write the same for each of its locations, and what is written. Nothing grows
+    /// for each key of its path, log w of w children each, the rules on the way, and the answer, or with a
+    /// query what `select` looks at, and a listen the same; a write the same for each of its locations, and what
+    /// is written; where a child is new or goes, those behind it are moved, 16 bytes each. Nothing else grows
     /// with what is stored beside them. Opening, closing and unlistening cost a look-up among the
     /// sessions, a deployment what the rules that were in force take to be dropped. A step that judges
     /// listeners again costs a look at the rules of each that is live; these are evaluated only where the
@@ -97,8 +99,8 @@ impl Core {
     }
 
     /// Judges a read as [`Core::step`] does, and does all that a step does before it answers. Where the read is
-    /// granted, [`Core::selected`] lends the answer over the same arena, and where that wants memory, this is the
-    /// refusal. It costs one step for each key of its path, log w of w children each, and the rules on the way.
+    /// granted, [`Core::selected`] lends the answer over the same arena, and where that wants memory, the read is
+    /// refused for want of memory. It costs one step for each key of its path, log w of w children each, and the rules on the way.
     pub fn grant(
         &self,
         arena: &mut Bump,
@@ -127,6 +129,44 @@ impl Core {
         ensures { IfOk result (λ found. found ≡ non_null (selected_at self.now.tree path.now (option_map (λ query. query.now) query.entry))) }
     {
         self.machine.selected(arena, path, query)
+    }
+
+    /// Begins a poll as [`Core::step`] does, up to a look at what the session listens to. Then [`Core::news`] lends
+    /// over the same arena what is told, and [`Core::end_poll`] makes what a poll changes: together they are the step
+    /// of a poll. Where one of the two wants memory, nothing has changed, and that is the refusal.
+    pub fn begin_poll(&self, arena: &mut Bump, session: u64) -> Result<(), Refusal>
+        ensures open { OnOk result (is_open self.now session ≡ true) }
+        ensures refused { IfErr result (λ refusal. (now : ℕ) → Step self.now now session Event.Poll (Reply.Refused refusal) self.now) }
+    {
+        self.machine.begin_poll(arena, session)
+    }
+
+    /// What a poll of an open session tells at this moment, borrowed from the stored tree and from what is listened
+    /// to: no tree is copied. It costs a look at each listener of the session, and for one that has news that of a
+    /// read of its path by its query; what is looked at is listed in the arena.
+    pub fn news<'a>(
+        &'a self,
+        arena: &'a Bump,
+        now: u64,
+        session: u64,
+    ) -> Result<Tidings<'a>, NoMemory>
+        requires moment { now ≤ MAX_MOMENT }
+        requires open { is_open self.now session ≡ true }
+        ensures { IfOk result (λ tidings. (polls self.now now session).reply ≡ Reply.News tidings) }
+    {
+        self.machine.news(arena, now, session)
+    }
+
+    /// Makes what a poll of an open session changes at this moment, once its news is told: listeners that are
+    /// cancelled go, and no other has news any longer. It costs a look at each listener of the session, for which
+    /// the arena is made free.
+    pub fn end_poll(&mut self, arena: &mut Bump, now: u64, session: u64) -> Result<(), NoMemory>
+        requires moment { now ≤ MAX_MOMENT }
+        requires open { is_open self.old session ≡ true }
+        ensures ok { OnOk result (self.new ≡ (polls self.old now session).after) }
+        ensures err { OnErr result (self.new ≡ self.old) }
+    {
+        self.machine.end_poll(arena, now, session)
     }
 
     /// The tree that is stored, None for null.

@@ -26,9 +26,9 @@ pub enum Event {
     Remove(Path),
     /// Makes several writes, all of them or none.
     Update(Writes),
-    /// Listens, under a name, to a path, or to what a query selects of it.
+    /// Listens, under an id, to a path, or to what a query selects of it.
     Listen(ListenerId, Path, Option<Query>),
-    /// Listens no longer under a name.
+    /// Listens no longer under an id.
     Unlisten(ListenerId),
     /// Asks for the news of the session's listeners.
     Poll,

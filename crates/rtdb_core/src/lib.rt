@@ -2,7 +2,8 @@
 //!
 //! Contracts see a [`Core`] as its state: a tree, the rules in force, and the sessions that are
 //! open. What the layer above needs is [`Core::step`]: its answer, and the state after it, are a
-//! step.
+//! step. A read is answered without a copy by [`Core::read`], or by [`Core::grant`] and [`Core::selected`], and a
+//! poll by [`Core::begin_poll`], [`Core::news`] and [`Core::end_poll`].
 #![tactic(auto)]
 
 mod database;
@@ -23,6 +24,7 @@ mod selected;
 mod session;
 mod step_laws;
 mod telling;
+mod tidings;
 mod trees;
 mod worked;
 
@@ -45,4 +47,5 @@ pub use step_laws::{
     a_refused_event_changes_nothing, a_step_is_a_function, every_step_is_judged,
     what_takes_no_memory_is_answered,
 };
+pub use tidings::{Sight, Tiding, Tidings};
 pub use worked::{what_reads_are_answered, what_writes_are_answered};

@@ -28,7 +28,8 @@ use crate::rejudging::{decide_all, decide_own, settle_all};
 use crate::reply::{Refusal, Reply};
 use crate::selected::{asked_for, selected_in, view_in};
 use crate::session::Session;
-use crate::telling::news_of;
+use crate::telling::tidings_of;
+use crate::tidings::Tidings;
 use crate::trees::{count_in, count_of, node_at, removal, sort};
 use arena_snapshot::{View, overlaps, overlay};
 use bumpalo::Bump;
@@ -154,6 +155,57 @@ impl Machine {
         ensures { IfOk result (λ found. found ≡ non_null (selected_at self.now.tree path.now (option_map (λ query. query.now) query.entry))) }
     {
         view_in(arena, self.tree.as_ref(), path.keys(), query)
+    }
+
+    /// Begins a poll as [`Core::begin_poll`](crate::Core::begin_poll) does.
+    #[tactic(auto, unfolding(crate::specs::Step::Step))]
+    pub(crate) fn begin_poll(&self, arena: &mut Bump, session: u64) -> Result<(), Refusal>
+        ensures open { OnOk result (is_open self.now session ≡ true) }
+        ensures refused { IfErr result (λ refusal. (now : ℕ) → Step self.now now session Event.Poll (Reply.Refused refusal) self.now) }
+    {
+        if self.is_open(session) {
+            reset(arena)?;
+            Ok(())
+        } else {
+            Err(Refusal::NoSession)
+        }
+    }
+
+    /// What a poll tells, as [`Core::news`](crate::Core::news) lends it.
+    pub(crate) fn news<'a>(
+        &'a self,
+        arena: &'a Bump,
+        now: u64,
+        session: u64,
+    ) -> Result<Tidings<'a>, NoMemory>
+        requires moment { now ≤ MAX_MOMENT }
+        requires heard { AllHeard self.now }
+        requires open { is_open self.now session ≡ true }
+        ensures { IfOk result (λ tidings. (polls self.now now session).reply ≡ Reply.News tidings) }
+    {
+        let who = self.identity_of(session);
+        let decisions = self.decide_own(arena, now, session, who, true)?;
+        let tidings = self.tidings_of(arena, session, &decisions.made)?;
+        Ok(tidings)
+    }
+
+    /// Ends a poll as [`Core::end_poll`](crate::Core::end_poll) does.
+    pub(crate) fn end_poll(
+        &mut self,
+        arena: &mut Bump,
+        now: u64,
+        session: u64,
+    ) -> Result<(), NoMemory>
+        requires moment { now ≤ MAX_MOMENT }
+        requires heard { AllHeard self.old }
+        requires open { is_open self.old session ≡ true }
+        ensures ok { OnOk result (self.new ≡ (polls self.old now session).after) }
+        ensures err { OnErr result (self.new ≡ self.old) }
+    {
+        reset(arena)?;
+        let decisions = self.decide_own(&*arena, now, session, self.identity_of(session), true)?;
+        self.hand_out(session, &decisions.made);
+        Ok(())
     }
 
     fn answer(
@@ -340,7 +392,7 @@ impl Machine {
         Ok(Reply::Value(tree))
     }
 
-    // Why a session can't listen under this name, whatever the rules say.
+    // Why a session can't listen under this id, whatever the rules say.
     fn listen_refusal(&self, session: u64, id: &ListenerId) -> Option<Refusal>
         ensures { result ≡ listen_refusal self.now session id.now }
     {
@@ -387,7 +439,7 @@ impl Machine {
         }
     }
 
-    // Lets an open session listen no longer under this name, and says whether it did.
+    // Lets an open session listen no longer under this id, and says whether it did.
     fn end(&mut self, session: u64, id: &ListenerId) -> bool
         requires { is_open self.old session ≡ true }
         ensures had { result ≡ has_id id.now (listeners_of self.old session) }
@@ -421,14 +473,21 @@ impl Machine {
         requires { is_open self.now session ≡ true }
         ensures { IfOk result (λ news. news ≡ news_of self.now.tree (settled 0 decisions.now (listeners_of self.now session))) }
     {
+        self.tidings_of(arena, session, decisions)?.copy(self.alloc)
+    }
+
+    // The same, borrowed.
+    fn tidings_of<'a>(
+        &'a self,
+        arena: &'a Bump,
+        session: u64,
+        decisions: &[Decision],
+    ) -> Result<Tidings<'a>, NoMemory>
+        requires { is_open self.now session ≡ true }
+        ensures { IfOk result (λ tidings. tidings ≡ news_of self.now.tree (settled 0 decisions.now (listeners_of self.now session))) }
+    {
         match self.sessions.get(&session) {
-            Some(open) => news_of(
-                self.alloc,
-                arena,
-                self.tree.as_ref(),
-                open.listeners(),
-                decisions,
-            ),
+            Some(open) => tidings_of(arena, self.tree.as_ref(), open.listeners(), decisions),
             None => unreachable!(),
         }
     }

@@ -14,7 +14,7 @@ pub enum What {
     Now(Option<Node>),
 }
 
-/// What is told under the name of a listener.
+/// What is told under the id of a listener.
 #[derive(Debug, Drop)]
 pub struct Notice {
     pub id: ListenerId,

@@ -18,7 +18,6 @@ use json_tree::NoMemory;
 use listeners::Table;
 use std::alloc::Global;
 use std::collections::BTreeMap;
-use std::slice;
 
 /// What becomes of all listeners of all sessions.
 pub(crate) fn decide_all<'a, 'p>(

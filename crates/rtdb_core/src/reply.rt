@@ -35,11 +35,11 @@ pub enum Refusal {
     EmptyUpdate,
     /// A location of the update is at or above that of another of its writes.
     Overlap,
-    /// The session listens under this name already.
+    /// The session listens under this id already.
     DuplicateId,
     /// The session has as many listeners as it may.
     TooManyListeners,
-    /// The session doesn't listen under this name.
+    /// The session doesn't listen under this id.
     NoListener,
     /// No `.read` at the path or above it holds; these are all of them.
     ReadDenied(NamedRules),

@@ -48,7 +48,7 @@ pub(crate) fn selected_in(
     ensures { IfOk result (λ found. found ≡ non_null (selected_at (node_or_null tree.entry) path.now (option_map (λ query. query.now) query.entry))) }
 {
     let found = view_in(arena, tree, path, query)?;
-    copied(alloc, found)
+    copied(alloc, &found)
 }
 
 pub(crate) fn stored(node: Option<&Node>) -> Option<View<'_>>
@@ -60,11 +60,12 @@ pub(crate) fn stored(node: Option<&Node>) -> Option<View<'_>>
     }
 }
 
-fn copied(alloc: Global, view: Option<View<'_>>) -> Result<Option<Node>, NoMemory>
-    ensures { IfOk result (λ tree. tree ≡ view.entry) }
+/// The tree that a view shows, copied.
+pub(crate) fn copied(alloc: Global, view: &Option<View<'_>>) -> Result<Option<Node>, NoMemory>
+    ensures { IfOk result (λ tree. tree ≡ view.now) }
 {
     match view {
-        Some(view) => Ok(Some(copy_out(alloc, &view)?)),
+        Some(view) => Ok(Some(copy_out(alloc, view)?)),
         None => Ok(None),
     }
 }

@@ -62,7 +62,8 @@ impl Session {
         &self.listeners
     }
 
-    /// Listens to one thing more, or changes nothing. That takes memory.
+    /// Listens to one thing more, or changes nothing. That takes memory. Whoever calls it has asked whether the id is
+    /// free and there is room: an id in use would be told as want of memory.
     pub(crate) fn listen(
         &mut self,
         id: ListenerId,
@@ -78,7 +79,7 @@ impl Session {
         }
     }
 
-    /// Listens no longer under this name, and says whether it did. It takes no memory.
+    /// Listens no longer under this id, and says whether it did. It takes no memory.
     pub(crate) fn unlisten(&mut self, id: &ListenerId) -> bool
         ensures had { result ≡ has_id id.now self.old.listeners }
         ensures gone { self.new ≡ with_listeners self.old (without_id id.now self.old.listeners) }

@@ -62,6 +62,7 @@ pub(crate) fn node_in<'a>(tree: Option<&'a Node>, path: &[Key]) -> Option<&'a No
 pub(crate) fn removal(path: Path) -> Write
     ensures { result ≡ removal path }
 {
+    // It has at most 32 keys.
     path.keys();
     let Ok(write) = Write::new(path, None) else {
         unreachable!()

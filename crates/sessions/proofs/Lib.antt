@@ -3,6 +3,7 @@ pub mod Keeping
 pub mod Fixed
 pub mod Standing
 pub mod Answering
+pub mod Polling
 pub mod Feeding
 pub mod Going
 pub mod Ending

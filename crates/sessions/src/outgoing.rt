@@ -47,6 +47,7 @@ impl Outgoing {
                 return Ok(());
             }
         }
+        // It fits: there is room for `MAX_KEPT_BYTES`, so this never fails.
         match self.bytes.extend_from_slice(text) {
             Ok(()) => Ok(()),
             Err(_) => Err(Broken),

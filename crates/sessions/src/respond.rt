@@ -1,8 +1,9 @@
 //! What a line is answered: a header by its acceptance or its refusal, a request by a reply.
-ghost use Rattle.std.specs.Prelude.{◌≡◌, ◌≢◌, ◌≤◌, ℕ, List, Ok, Some, None, option_map, IfOk, IsOk, OnErr};
+ghost use Rattle.std.specs.Prelude.{◌≡◌, ◌≢◌, ◌≤◌, ℕ, true, List, Ok, Some, None, option_map, IfOk, IsOk, OnErr};
 ghost use Rattle.messages.specs.AnswerText.{text, fault_text, rules_fault_text, line_fault_text};
 ghost use Rattle.sessions.specs.Said.{unopened, refused, running, as_line, IsAnsweredBy, header_fault_text};
 ghost use Rattle.sessions.specs.Working.Follow.{phase_of, bytes_of, AnswersAt};
+ghost use Rattle.rtdb_core.specs.State.{is_open};
 ghost use Rattle.rtdb_core.specs.declared.reply.Reply.TheVariants as replies;
 ghost use Rattle.rtdb_core.specs.declared.reply.Refusal.TheVariants as refusals;
 ghost use Rattle.rules_reader.specs.declared.fault.RulesFault.TheVariants as rules_faults;
@@ -14,7 +15,7 @@ use listeners::Query;
 use messages::{
     Asked, Form, HeaderFault, LineFault, MessageFault, MessageReader, Opened, Stamp, read_header,
     write_accepted, write_bad_tokens, write_fault, write_line_fault, write_refusal, write_reply,
-    write_rules_fault, write_selected, write_value,
+    write_rules_fault, write_selected, write_tidings, write_value,
 };
 use path_capture::Path;
 use rtdb_core::{Core, Event, MAX_MOMENT, Refusal, Reply};
@@ -109,6 +110,7 @@ fn answer_asked(
     let stamp = asked.stamp;
     match asked.event {
         Event::Get(path, query) => answer_read(alloc, core, arena, stamp, &path, query.as_ref()),
+        Event::Poll => answer_poll(alloc, core, arena, stamp),
         event => {
             let reply = core.step(arena, stamp.now, stamp.session, event);
             say(alloc, &reply)
@@ -168,6 +170,43 @@ fn answer_query(
     }
     match core.selected(arena, path, Some(query)) {
         Ok(found) => written(write_selected(alloc, found.as_ref())?),
+        Err(_) => say_refusal(alloc, &Refusal::NoMemory),
+    }
+}
+
+// Answers a poll: what it tells is written from where it stands, before it counts as told.
+fn answer_poll(
+    alloc: Global,
+    core: &mut Core,
+    arena: &mut Bump,
+    stamp: Stamp,
+) -> Result<Answer, NoMemory>
+    requires { stamp.now ≤ MAX_MOMENT }
+    ensures { IfOk result (λ answer. (said : List ℕ) × IsAnsweredBy core.old (Ok (record { stamp = stamp; event = Event.Poll })) said core.new × (bytes_of answer ≡ as_line said)) }
+{
+    match core.begin_poll(arena, stamp.session) {
+        Ok(()) => answer_news(alloc, core, arena, stamp),
+        Err(refusal) => say_refusal(alloc, &refusal),
+    }
+}
+
+// Answers a poll that has begun, in an open session.
+fn answer_news(
+    alloc: Global,
+    core: &mut Core,
+    arena: &mut Bump,
+    stamp: Stamp,
+) -> Result<Answer, NoMemory>
+    requires moment { stamp.now ≤ MAX_MOMENT }
+    requires open { is_open core.old stamp.session ≡ true }
+    ensures { IfOk result (λ answer. (said : List ℕ) × IsAnsweredBy core.old (Ok (record { stamp = stamp; event = Event.Poll })) said core.new × (bytes_of answer ≡ as_line said)) }
+{
+    let answer = match core.news(arena, stamp.now, stamp.session) {
+        Ok(tidings) => written(write_tidings(alloc, &tidings)?)?,
+        Err(_) => return say_refusal(alloc, &Refusal::NoMemory),
+    };
+    match core.end_poll(arena, stamp.now, stamp.session) {
+        Ok(()) => Ok(answer),
         Err(_) => say_refusal(alloc, &Refusal::NoMemory),
     }
 }

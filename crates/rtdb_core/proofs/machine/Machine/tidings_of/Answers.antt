@@ -8,7 +8,7 @@ use Rattle.rtdb_core.specs.Step.{news_of}
 use Rattle.rtdb_core.specs.Working.Fates.{settled}
 use Rattle.rtdb_core.proofs.Sessions.{has, listeners_at}
 use Rattle.rtdb_core.proofs.Passing.{base_is}
-use Rattle.rtdb_core.proofs.machine.Machine.news_of.Goals as goal
+use Rattle.rtdb_core.proofs.machine.Machine.tidings_of.Goals as goal
 
 pub unreachable-requires : goal.unreachable-requires
 unreachable-requires c =
@@ -18,5 +18,5 @@ pub returns : goal.returns
 returns c =
     let tree : node_or_null c.as_ref.result ≡ c.args.self.now.tree = base_is c.as_ref.result c.self.inside.tree c.as_ref.ensures.value ∙ ap (λ (state : State). state.tree) c.self.view_is in
     let heard : c.listeners.result.now ≡ listeners_of c.args.self.now c.args.session = c.listeners.ensures ∙ listeners_at c.self.inside.sessions.entries c.args.session c.in-Some.open.now c.in-Some.ensures.value ∙ ap (λ (state : State). listeners_of state c.args.session) c.self.view_is in
-    subst (λ (t : Tree). IfOk c.news_of.result (λ news. news ≡ news_of t (settled 0 c.args.decisions.now (listeners_of c.args.self.now c.args.session)))) tree
-    (subst (λ (ls : List Listener). IfOk c.news_of.result (λ news. news ≡ news_of (node_or_null c.as_ref.result) (settled 0 c.args.decisions.now ls))) heard c.news_of.ensures)
+    subst (λ (t : Tree). IfOk c.tidings_of.result (λ news. news ≡ news_of t (settled 0 c.args.decisions.now (listeners_of c.args.self.now c.args.session)))) tree
+    (subst (λ (ls : List Listener). IfOk c.tidings_of.result (λ news. news ≡ news_of (node_or_null c.as_ref.result) (settled 0 c.args.decisions.now ls))) heard c.tidings_of.ensures)
