@@ -7,7 +7,7 @@ use json_tree::{Child, NoMemory, Node};
 use std::alloc::Global;
 
 /// The same tree, owned, in one pass over it: one growth for each long text, long key, child and
-/// each list of children, and where children are changed a binary search for each child.
+/// list of children, and where children are changed a binary search for each child.
 #[cycle(copy_out)]
 pub fn copy_out(alloc: Global, view: &View) -> Result<Node, NoMemory>
     ensures { IfOk result (λ node. node ≡ view.now) }

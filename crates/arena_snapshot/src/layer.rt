@@ -15,6 +15,7 @@ use bumpalo::Bump;
 use bumpalo::collections::into_bump_slice;
 use json_tree::{Key, NoMemory, Node, Place};
 
+// The node below, the children that are laid over it so far, and the sizes of what both make.
 #[derive(Drop)]
 pub(crate) struct Layer<'a> {
     base: Option<&'a Node>,

@@ -1,7 +1,8 @@
 //! A view: a tree that is borrowed, or one of which a few children are other ones, or gone.
 ghost use Rattle.std.specs.Prelude.{◌≡◌, ◌≢◌, ◌↔◌, ◌≤◌, ◌∷◌, [], length, map, min, true, option_map, slice_get};
+ghost use Rattle.std.specs.FinMap as map_of;
 ghost use Rattle.tree_model.specs.PathMap.{get, sub, depth};
-ghost use Rattle.tree_model.specs.Tree.{null, non_null, count, child_keys, IsLawful};
+ghost use Rattle.tree_model.specs.Tree.{null, non_null, count, children, child_keys, IsLawful};
 ghost use Rattle.json_tree.specs.Leaf.{primitive_of};
 ghost use Rattle.arena_snapshot.specs.Working.Change.{entries_of};
 
@@ -181,7 +182,7 @@ impl<'a> View<'a> {
     /// of one with changed children by a search for the key. It takes no memory.
     pub fn entry_at(&self, i: usize) -> Option<(&'a Key, View<'a>)>
         ensures { option_map (λ entry. (entry.0.now, entry.1)) result
-            ≡ slice_get (entries_of self.now) i }
+            ≡ slice_get (map_of.entries (children self.now)) i }
     {
         match &self.kind {
             Kind::Stored(node) => stored_entry(node, i),

@@ -76,7 +76,7 @@ impl Claims {
         None
     }
 
-    /// The same claims once more: the growths of a list that is pushed to, and one for each name and each
+    /// The same claims once more: the growths of a list that is pushed to, and one for each name and each long
     /// text.
     pub fn copy(&self, alloc: Global) -> Result<Claims, NoMemory>
         ensures { IfOk result (λ claims. claims ≡ self.now) }
@@ -167,7 +167,7 @@ impl Identity {
         &self.claims
     }
 
-    /// The same identity once more: a growth for each of its texts, for each claim's name and text, and
+    /// The same identity once more: a growth for each of its texts, for each claim's name and long text, and
     /// those of the list of claims.
     pub fn copy(&self, alloc: Global) -> Result<Identity, NoMemory>
         ensures { IfOk result (λ who. who ≡ self.now) }

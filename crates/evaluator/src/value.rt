@@ -33,7 +33,7 @@ pub(crate) enum Part<'a> {
     Query(&'a Asked<'a>),
 }
 
-// Why there is none.
+// Why a part of an expression comes to nothing: it errs, or memory was wanted.
 #[derive(Clone, Copy, Debug, PartialEq, Eq)]
 pub(crate) enum Stop {
     Erred,

@@ -6,7 +6,7 @@ ghost use Rattle.json_tree.specs.declared.key.KeyFault.TheVariants.{NoMemory as 
 
 use crate::memory::NoMemory;
 use arrayvec::ArrayString;
-use std::alloc::{AllocError, Global};
+use std::alloc::Global;
 use std::cmp::Ordering;
 use std::marker::Model;
 use thiserror::Error;
@@ -43,6 +43,7 @@ pub struct Key {
     held: Held,
 }
 
+// The bytes of a key: in itself, or in a growth.
 #[derive(Debug, Drop)]
 pub(crate) enum Held {
     Short(ArrayString<SHORT_BYTES>),

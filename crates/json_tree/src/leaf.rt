@@ -8,6 +8,9 @@ use std::alloc::Global;
 use std::marker::Model;
 use tree_model::{MAX_TEXT_BYTES, MAX_WHOLE, MIN_WHOLE};
 
+// For how many digits of a number a text makes room: more than most have.
+const USUAL_DIGITS: usize = 8;
+
 /// A whole number from -(2^53 - 1) to 2^53 - 1. Contracts see the number. (This project's profile.)
 #[derive(Clone, Copy, Debug, PartialEq, Eq)]
 pub struct Number {
@@ -58,9 +61,7 @@ pub struct LeafText {
     held: Words,
 }
 
-// For how many digits of a number a text has room: more than most have.
-const USUAL_DIGITS: usize = 8;
-
+// The bytes of a text: in itself, or in a growth.
 #[derive(Debug, Drop)]
 pub(crate) enum Words {
     Short(ArrayString<SHORT_BYTES>),

@@ -301,7 +301,7 @@ impl Node {
     }
 
     // About how many bytes its text has, without what escapes add. So each child is looked at before the first
-    // is written, and what memory holds them is waited for at once.
+    // is written, and the memory that holds them is waited for at once.
     #[cycle(room)]
     pub(crate) fn text_room(&self) -> usize {
         match &self.kind {

@@ -21,10 +21,9 @@ use tree_model::MAX_DEPTH;
 /// Puts a tree at a path of a stored tree, or removes what is there, in place. The keys of the path
 /// are put where nothing exists yet, and not copied. Memory is taken only for what is new, and before
 /// anything changes: at an `Err` nothing has changed, and to remove, or to replace what is there, takes
-/// none. It takes one step down
-/// for each key, log w of w children each, beside what is written, and where a child is new or goes,
-/// those behind it move: d · w at most. The children of a node are counted anew only where its deepest
-/// child became less deep and no other is as deep.
+/// none. It takes one step down for each key, log w of w children each, beside what is written, and where
+/// a child is new or goes, those behind it move: d · w at most. The children of a node are counted anew only
+/// where its deepest child became less deep and no other is as deep.
 pub fn put(
     alloc: Global,
     tree: &mut Option<Node>,

@@ -64,6 +64,7 @@ pub(crate) fn sizes_after(
     ensures depth { result.0 ≡ depth (graft children.now.items) }
     ensures count { result.1 ≡ min (count (graft children.now.items)) usize.MAX }
 {
+    // The greatest `usize` may stand for more, from which nothing can be taken off.
     if count_before == usize::MAX {
         return sizes_of(children);
     }

@@ -97,8 +97,8 @@ pub fn may_read<'a>(
 /// proposed tree, above a location or in what is written, and none behind the first that fails. Nothing
 /// grows with what is stored beside the locations: of n locations of d keys, n · log n comparisons, d ·
 /// log w steps for each, and what is written. The arena takes the list of locations, two places for each
-/// step, and what expressions make; other memory the captures on the way and the names of a denial. (Guide "Core syntax", `.read` and
-/// `.write` rules cascade, `.validate` rules do not.)
+/// step, and what expressions make; other memory the captures on the way and the names of a denial. (Guide
+/// "Core syntax", `.read` and `.write` rules cascade, `.validate` rules do not.)
 pub fn judge_write<'a>(
     alloc: Global,
     bump: &'a Bump,

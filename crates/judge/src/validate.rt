@@ -109,7 +109,8 @@ fn everywhere_below<'a>(
 
 /// The first failing place that touches one of these locations, at the spot or below it: a walk in the
 /// order of paths, which goes into no branch where neither a location leads nor anything was written, or
-/// where no `.validate` is stated, and behind no failing place. Each `.validate` that stands where something exists is asked once.
+/// where no `.validate` is stated, and behind no failing place. Each `.validate` that stands where something
+/// exists is asked once.
 #[cycle(towards)]
 pub(crate) fn towards<'a>(
     alloc: Global,
@@ -132,6 +133,7 @@ pub(crate) fn towards<'a>(
     if !spot.rule.has_validate() {
         return Ok(None);
     }
+    // The least location ends here: all that is below was written.
     let Some(_) = key_at(locations[0], depth) else {
         let found = everywhere(alloc, asking, spot, captures)?;
         return Ok(found);

@@ -1,7 +1,7 @@
 //! Verdicts in words, as `write at /a/b: / error /a false`.
 use judge::{Named, NamedRules, Verdict, Why};
 use path_capture::{Path, Pattern};
-use std::alloc::{AllocError, Global};
+use std::alloc::Global;
 use std::test::Fail;
 
 /// A verdict in words.

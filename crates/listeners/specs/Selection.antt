@@ -22,7 +22,7 @@ Child = Key × Tree
 abbrev pub place_of : Tree → Place
 place_of t = option_map_or (λ v. value v) (get t []) (if is_null t then nothing else location)
 
--- by their order values in this order, children of equal ones by their keys; without an order, by their keys
+-- by their order values in this order, children of equal ones by their keys, of which numbers come first (this project's profile); without an order, by their keys
 abbrev pub child_cmp : Option Order → Child → Child → Ordering
 child_cmp None c d = list_cmp c.0 d.0
 child_cmp (Some by_key) c d = list_cmp c.0 d.0

@@ -21,6 +21,7 @@ pub(crate) enum Mark<'a> {
     Value(&'a Leaf),
 }
 
+// The bounds that a query has.
 #[derive(Clone, Copy)]
 pub(crate) struct Bounds<'a> {
     pub(crate) start_at: Option<Mark<'a>>,

@@ -13,6 +13,7 @@ use crate::place::{Place, compare, place_of};
 use arena_snapshot::View;
 use std::cmp::Ordering;
 
+// A child's index, and its place and its key in the order that is asked for.
 #[derive(Clone, Copy)]
 pub(crate) struct Item<'a> {
     pub(crate) index: usize,

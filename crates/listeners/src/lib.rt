@@ -1,4 +1,8 @@
-//! Queries, and the parts of a tree that they select.
+//! Queries, the parts of a tree that they select, and the listeners of a session.
+//!
+//! The definitions are `specs/Query`, `specs/Selection` and `specs/Table`. What the layers above need is
+//! [`select`]: it gives the part of a tree that a query selects, but for want of memory; and [`Table`],
+//! which keeps listeners in the order in which they began.
 #![tactic(auto)]
 
 mod bounds;

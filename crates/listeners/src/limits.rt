@@ -1,4 +1,4 @@
-//! The limit of what a query asks for, with its reason.
+//! The limits of queries and of listeners, each with its source.
 ghost use Rattle.std.specs.Prelude.{◌≡◌};
 
 /// The most children that a query can limit itself to. (This project's profile.)
@@ -9,7 +9,7 @@ pub fn the_greatest_limit()
     ensures { MAX_LIMIT ≡ 1000 }
 {}
 
-/// The most bytes of the name that a session gives a listener. (This project's profile.)
+/// The most bytes of the id that a session gives a listener. (This project's profile.)
 pub const MAX_ID_BYTES: usize = 64;
 
 /// The most listeners of a session. (This project's profile.)

@@ -1,4 +1,4 @@
-//! The name of a listener.
+//! The id of a listener.
 ghost use Rattle.std.specs.Prelude.{◌≡◌, ◌↔◌, ◌≤◌, length, true, false, nat_eq, IfSome, IsNone};
 ghost use Rattle.std.specs.Cmp.{on_equiv, on_per, partial_equiv_from_equiv};
 ghost use Rattle.std.specs.Cmp.Lexicographic.{pointwise, nat_list_eq_equiv};
@@ -12,7 +12,7 @@ use arrayvec::ArrayString;
 use std::hash::{Hash, Hasher};
 use std::marker::Model;
 
-/// The name that a session gives a listener: a text of 1 to 64 bytes, which lie in the name itself, so
+/// The id that a session gives a listener: a text of 1 to 64 bytes, which lie in the id itself, so
 /// it takes no memory. Contracts see its bytes. (This project's profile.)
 #[derive(Debug, Drop)]
 pub struct ListenerId {
@@ -31,7 +31,7 @@ impl Model for ListenerId {
 }
 
 impl ListenerId {
-    /// The name that a text is, None where it is empty or too long.
+    /// The id that a text is, None where it is empty or too long.
     pub fn new(text: &str) -> Option<ListenerId>
         ensures some { IfSome result (λ id. id ≡ text.now) }
         ensures none { IsNone result ↔ (is_id text.now ≡ false) }
@@ -45,7 +45,7 @@ impl ListenerId {
         }
     }
 
-    /// The text of the name.
+    /// The text of the id.
     pub fn text(&self) -> &str
         ensures bytes { result.now ≡ self.now }
         ensures lawful { is_id self.now ≡ true }
@@ -53,7 +53,7 @@ impl ListenerId {
         self.held.as_str()
     }
 
-    /// The same name once more.
+    /// The same id once more.
     pub fn copy(&self) -> ListenerId
         ensures { result ≡ self.now }
     {

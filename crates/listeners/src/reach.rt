@@ -17,7 +17,7 @@ pub(crate) struct Span {
     pub(crate) to: usize,
 }
 
-// Children from an index on and up to another, of which those of a span are looked at.
+// A stretch of children up to `end`, of which those from `from` up to `to` are looked at.
 #[derive(Clone, Copy)]
 pub(crate) struct Part {
     pub(crate) from: usize,
@@ -25,7 +25,7 @@ pub(crate) struct Part {
     pub(crate) end: usize,
 }
 
-// The children from an index on: up to one where keys may be numbers, and up to another where they are none.
+// From `from` on, keys that are no numbers are looked at up to `texts_to`, and those that may be up to `to`.
 #[derive(Clone, Copy)]
 pub(crate) struct Reach {
     pub(crate) digits: Digits,

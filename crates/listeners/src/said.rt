@@ -23,6 +23,7 @@ pub(crate) enum SaidBound<'a> {
     Words(&'a str),
 }
 
+// What the members of a query say, each by itself, borrowed from its JSON.
 #[derive(Clone, Copy)]
 pub(crate) struct Said<'a> {
     pub(crate) order: Option<SaidOrder<'a>>,

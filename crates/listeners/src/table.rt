@@ -129,7 +129,8 @@ impl Table {
     }
 
     /// Listens under an id to a path: a live listener comes last, for which there is no news. That takes
-    /// one growth at most of each of the table's parts. An id that is in use is refused before the number of listeners.
+    /// one growth at most of each of the table's parts. An id that is in use is refused before the number of
+    /// listeners.
     pub fn add(&mut self, id: ListenerId, path: Path, query: Option<Query>) -> Result<(), AddFault>
         ensures ok { OnOk result (self.new ≡ self.old ++ begun id path query ∷ []) }
         ensures duplicate { IsErrOf result AddFault.DuplicateId ↔ (has_id id self.old ≡ true) }

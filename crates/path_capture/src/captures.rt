@@ -59,6 +59,7 @@ impl<'a> Captures<'a> {
         self.held.pop()
     }
 
+    /// How many captures there are.
     pub fn len(&self) -> usize
         ensures { result ≡ length self.now }
     {

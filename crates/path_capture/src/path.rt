@@ -94,6 +94,7 @@ impl Path {
         requires { length keys.items ≤ MAX_DEPTH }
         ensures { result ≡ keys.items }
     {
+        // Each is lawful.
         for key in &keys {
             key.text();
         }

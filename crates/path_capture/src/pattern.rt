@@ -18,7 +18,7 @@ pub enum Part {
 }
 
 impl Part {
-    /// The same part once more, in one growth.
+    /// The same part once more, in one growth at most.
     pub fn copy(&self, alloc: Global) -> Result<Part, NoMemory>
         ensures { IfOk result (λ part. part_of part ≡ part_of self.now) }
     {
@@ -119,6 +119,7 @@ impl Pattern {
         self.held.pop()
     }
 
+    /// How many parts there are.
     pub fn len(&self) -> usize
         ensures { result ≡ length self.now }
     {
@@ -155,7 +156,7 @@ impl Pattern {
         print_parts(*self.held.allocator(), self.held.as_slice())
     }
 
-    /// The same pattern once more, by one growth for the list and one for each part.
+    /// The same pattern once more, by one growth for the list and one at most for each part.
     pub fn copy(&self) -> Result<Pattern, NoMemory>
         ensures { IfOk result (λ pattern. pattern ≡ self.now) }
     {

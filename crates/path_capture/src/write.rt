@@ -80,7 +80,7 @@ impl Write {
     }
 
     /// Makes the write in a stored tree, in place: memory is taken only for what is new, and before
-    /// anything changes. At an `Err` nothing has changed, and to remove takes none.
+    /// anything changes. At an `Err` nothing has changed, and to remove takes none; the time is that of `put`.
     pub fn make(self, alloc: Global, tree: &mut Option<Node>) -> Result<(), NoMemory>
         ensures ok { OnOk result (tree_or_null tree.new ≡ proposed (tree_or_null tree.old) (self ∷ [])) }
         ensures err { OnErr result (tree.new ≡ tree.old) }

@@ -18,14 +18,16 @@ use sessions::{ScriptEnd, Sink, Source, run_script, send_text};
 use std::alloc::Global;
 use std::io;
 
-// The statuses that the program ends with.
+// The statuses that the program ends with: all was done.
 const DONE: u8 = 0;
 
+// A file was refused.
 const REFUSED: u8 = 1;
 
 /// A fault of the command line.
 pub const BAD_LINE: u8 = 2;
 
+// A file could not be read, or an output not be written.
 const FAILED: u8 = 3;
 
 /// Want of memory.

@@ -31,6 +31,7 @@ pub struct SystemFiles<'a> {
 }
 
 impl<'a> SystemFiles<'a> {
+    /// The files of this process.
     pub fn new(rt: &'a HostRuntime) -> SystemFiles<'a> {
         SystemFiles { rt }
     }

@@ -1,7 +1,7 @@
 //! Rules files: from their bytes to the rules that stand at a path.
 //!
 //! Contracts see [`Rules`] as what the file states: the patterns of its objects, each with the rules
-//! that stand there. What the layer above needs most is [`RuleNode::step`]: from the root along a
+//! that stand there. [`compile`] reads a file. What the layer above needs most is [`RuleNode::step`]: from the root along a
 //! path it leads to the pattern that stands there, or to none.
 #![tactic(auto)]
 

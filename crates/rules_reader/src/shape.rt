@@ -228,7 +228,7 @@ fn has_text(part: &Part, text: &str) -> bool
     }
 }
 
-/// The part that a member's name is, if it is one. It grows once.
+/// The part that a member's name is, if it is one. It takes one growth at most.
 pub(crate) fn part(alloc: Global, name: &str) -> Result<Option<Part>, NoMemory>
     ensures { IfOk result (λ part. option_map text_of part ≡ (if is_part name.now then Some name.now else None)) }
 {
