@@ -1,7 +1,6 @@
 //! A snapshot: a location of a tree.
 ghost use Rattle.std.specs.Prelude.{◌≡◌, ◌<◌, ◌≤◌, [], true, IfOk, IsErrOf, Some, None, option_map, length};
 ghost use Rattle.tree_model.specs.declared.limits.TheConstants.{MAX_DEPTH};
-ghost use Rattle.tree_model.specs.Key.{is_key};
 ghost use Rattle.tree_model.specs.PathMap.{sub};
 ghost use Rattle.tree_model.specs.Tree.{non_null};
 ghost use Rattle.json_tree.specs.Leaf.{primitive_of};
@@ -181,7 +180,7 @@ pub(crate) fn has_children_at(place: &Snapshot) -> bool
     }
 }
 
-// The location at a text of keys: a look-up and a place in the arena for each key. Most texts are one key.
+// The location at a text of keys: a look-up and a place in the arena for each key.
 pub(crate) fn child_at<'a>(
     arena: &'a Bump,
     place: &'a Snapshot<'a>,
@@ -191,9 +190,6 @@ pub(crate) fn child_at<'a>(
     ensures erred { IsErrOf result Stop.Erred → child_at place.now text.now ≡ None }
 {
     place.depth();
-    if is_lawful_key(text) {
-        return at_key(arena, place, text);
-    }
     let mut at = step(arena, place, "")?;
     for piece in text.split('/') {
         at = step(arena, at, piece)?;
@@ -212,24 +208,8 @@ fn step<'a>(
     if piece.is_empty() {
         return Ok(place);
     }
-    if !is_lawful_key(piece) {
+    if !is_lawful_key(piece) || place.depth() >= MAX_DEPTH {
         return Err(Stop::Erred);
     }
-    at_key(arena, place, piece)
-}
-
-// The location one key further down, if there is room for it.
-fn at_key<'a>(
-    arena: &'a Bump,
-    place: &'a Snapshot<'a>,
-    key: &'a str,
-) -> Result<&'a Snapshot<'a>, Stop>
-    requires { is_key key.now ≡ true }
-    ensures value { IfOk result (λ at. stepped place.now key.now ≡ Some at.now) }
-    ensures erred { IsErrOf result Stop.Erred → stepped place.now key.now ≡ None }
-{
-    if place.depth() >= MAX_DEPTH {
-        return Err(Stop::Erred);
-    }
-    Ok(place.below(arena, key)?)
+    Ok(place.below(arena, piece)?)
 }

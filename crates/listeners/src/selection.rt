@@ -15,9 +15,6 @@ use arena_snapshot::{View, kept};
 use bumpalo::Bump;
 use json_tree::NoMemory;
 
-// As many children are looked at without a look ahead.
-const FEW: usize = 32;
-
 /// The part of a tree that a query selects, if it selects anything: without a query the tree itself, and
 /// of one primitive nothing. By a value, or by a path of d keys, each of w children is looked at once, which
 /// takes log w or d · log w steps. By keys, six binary searches at most find which children are looked at, in
@@ -80,23 +77,6 @@ fn within<'a>(
     Ok(items)
 }
 
-// How many of these children have something below, where they are many. So each is looked at before the first is
-// compared, and the memory that holds them is waited for at once.
-fn room_for(view: &View<'_>, from: usize, to: usize) -> usize
-    requires { from ≤ to }
-{
-    if to - from <= FEW {
-        return 0;
-    }
-    let mut room = 0usize;
-    for i in from..to {
-        if let Some((_, child)) = view.entry_at(i) {
-            room = room.saturating_add(usize::from(child.has_any()));
-        }
-    }
-    room
-}
-
 // Adds the children within the bounds from one index on and up to another.
 fn add_within<'a>(
     items: &mut Vec<Item<'a>, &'a Bump>,
@@ -110,7 +90,6 @@ fn add_within<'a>(
     ensures { OnOk result (map item_seen items.new.items ≡ map item_seen items.old.items ++ ranks_between query.now (entries_of view.now) from to) }
 {
     let bounds = query.bounds();
-    items.reserve(room_for(view, from, to))?;
     for i in from..to {
         if let Some(item) = query.item(view, i) {
             if bounds.hold(&item) {

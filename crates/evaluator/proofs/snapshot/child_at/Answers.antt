@@ -1,13 +1,12 @@
-use Rattle.std.proofs.Common.{◌≡◌, ◌≤◌, ◌∙◌, Option, Some, None, IfOk, arith, lit<, length, subst, sym}
+use Rattle.std.proofs.Common.{◌≡◌, ◌≤◌, None, arith, lit<, length}
 use Rattle.std.proofs.lemmas.Grind.{common_steps}
 use Rattle.std.proofs.lemmas.List.{length_push}
 use Rattle.std.proofs.lemmas.Iterator.Splits.{YieldsList-from_str_split}
 use Rattle.std.proofs.lemmas.Iterator.Consumers.{YieldsList-turn, YieldsList-end}
 use Rattle.tree_model.specs.declared.limits.TheConstants.{MAX_DEPTH}
-use Rattle.evaluator.specs.Value.{Snapshot}
 use Rattle.evaluator.specs.Snapshot.{child_at}
 use Rattle.evaluator.specs.Working.Places.{stepped}
-use Rattle.evaluator.proofs.Pieces.{Walked-more, Walked-stops, Walked-all, key-leads}
+use Rattle.evaluator.proofs.Pieces.{Walked-more, Walked-stops, Walked-all}
 use Rattle.evaluator.proofs.snapshot.child_at.Goals as goal
 
 pub returns-in_err-at-2-clause-erred : goal.returns-in_err-at-2-clause-erred
@@ -27,13 +26,3 @@ returns-clause-value c =
     let end = YieldsList-end (YieldsList-from_str_split 47 c.args.text.now (lit< tt) (cc) (cc) (cc)) c.loop-piece.yielded _ c.loop-piece.yielded_by _ _ c.in-None.is c.next.ensures.steps in
     let room : length c.args.place.now.1 ≤ MAX_DEPTH = omega arith in
     Walked-all c.args.place.now c.loop-piece.at.now c.args.text.now _ room end.1 c.loop-piece.invariant
-
-pub returns-then-is_lawful_key-clause-value : goal.returns-then-is_lawful_key-clause-value
-returns-then-is_lawful_key-clause-value c =
-    let room : length c.args.place.now.1 ≤ MAX_DEPTH = omega arith in
-    subst (λ (s : Option Snapshot). IfOk c.at_key.result (λ at. s ≡ Some at.now)) (key-leads c.args.place.now c.args.text.now room (sym c.if-is_lawful_key.ensures)) c.at_key.ensures.value
-
-pub returns-then-is_lawful_key-clause-erred : goal.returns-then-is_lawful_key-clause-erred
-returns-then-is_lawful_key-clause-erred c e =
-    let room : length c.args.place.now.1 ≤ MAX_DEPTH = omega arith in
-    sym (key-leads c.args.place.now c.args.text.now room (sym c.if-is_lawful_key.ensures)) ∙ c.at_key.ensures.erred e
