@@ -141,30 +141,30 @@ impl Core {
         self.machine.begin_poll(arena, session)
     }
 
-    /// What a poll of an open session tells at this moment, borrowed from the stored tree and from what is listened
-    /// to: no tree is copied. It costs a look at each listener of the session, and for one that has news that of a
-    /// read of its path by its query; what is looked at is listed in the arena.
+    /// What a poll of a session tells at this moment, borrowed from the stored tree and from what is listened to: no
+    /// tree is copied. It costs a look at each listener of the session, and for one that has news that of a read of
+    /// its path by its query; what is looked at is listed in the arena.
     pub fn news<'a>(
         &'a self,
         arena: &'a Bump,
         now: u64,
         session: u64,
-    ) -> Result<Tidings<'a>, NoMemory>
-        requires moment { now ≤ MAX_MOMENT }
-        requires open { is_open self.now session ≡ true }
-        ensures { IfOk result (λ tidings. (polls self.now now session).reply ≡ Reply.News tidings) }
+    ) -> Result<Tidings<'a>, Refusal>
+        requires { now ≤ MAX_MOMENT }
+        ensures told { IfOk result (λ tidings. (polls self.now now session).reply ≡ Reply.News tidings) }
+        ensures refused { IfErr result (λ refusal. Step self.now now session Event.Poll (Reply.Refused refusal) self.now) }
     {
         self.machine.news(arena, now, session)
     }
 
-    /// Makes what a poll of an open session changes at this moment, once its news is told: listeners that are
-    /// cancelled go, and no other has news any longer. It costs a look at each listener of the session, for which
-    /// the arena is made free.
+    /// Makes what a poll of a session changes at this moment, once its news is told: listeners that are cancelled
+    /// go, and no other has news any longer; of a session that is not open nothing. It costs a look at each listener
+    /// of the session, for which the arena is made free.
     pub fn end_poll(&mut self, arena: &mut Bump, now: u64, session: u64) -> Result<(), NoMemory>
-        requires moment { now ≤ MAX_MOMENT }
-        requires open { is_open self.old session ≡ true }
+        requires { now ≤ MAX_MOMENT }
         ensures ok { OnOk result (self.new ≡ (polls self.old now session).after) }
         ensures err { OnErr result (self.new ≡ self.old) }
+        ensures later { OnErr result (is_open self.old session ≡ true) }
     {
         self.machine.end_poll(arena, now, session)
     }

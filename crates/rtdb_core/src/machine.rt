@@ -163,16 +163,43 @@ impl Machine {
         ensures open { OnOk result (is_open self.now session ≡ true) }
         ensures refused { IfErr result (λ refusal. (now : ℕ) → Step self.now now session Event.Poll (Reply.Refused refusal) self.now) }
     {
+        self.demand_open(session)?;
+        reset(arena)?;
+        Ok(())
+    }
+
+    /// What a poll tells, as [`Core::news`](crate::Core::news) lends it.
+    #[tactic(auto, unfolding(crate::specs::Step::Step))]
+    pub(crate) fn news<'a>(
+        &'a self,
+        arena: &'a Bump,
+        now: u64,
+        session: u64,
+    ) -> Result<Tidings<'a>, Refusal>
+        requires moment { now ≤ MAX_MOMENT }
+        requires heard { AllHeard self.now }
+        ensures told { IfOk result (λ tidings. (polls self.now now session).reply ≡ Reply.News tidings) }
+        ensures refused { IfErr result (λ refusal. Step self.now now session Event.Poll (Reply.Refused refusal) self.now) }
+    {
+        self.demand_open(session)?;
+        let tidings = self.own_tidings(arena, now, session)?;
+        Ok(tidings)
+    }
+
+    // A refusal, unless the session is open.
+    fn demand_open(&self, session: u64) -> Result<(), Refusal>
+        ensures open { OnOk result (is_open self.now session ≡ true) }
+        ensures refused { IfErr result (λ refusal. (refusal ≡ Refusal.NoSession) × (is_open self.now session ≡ false)) }
+    {
         if self.is_open(session) {
-            reset(arena)?;
             Ok(())
         } else {
             Err(Refusal::NoSession)
         }
     }
 
-    /// What a poll tells, as [`Core::news`](crate::Core::news) lends it.
-    pub(crate) fn news<'a>(
+    // What a poll of an open session tells.
+    fn own_tidings<'a>(
         &'a self,
         arena: &'a Bump,
         now: u64,
@@ -198,10 +225,13 @@ impl Machine {
     ) -> Result<(), NoMemory>
         requires moment { now ≤ MAX_MOMENT }
         requires heard { AllHeard self.old }
-        requires open { is_open self.old session ≡ true }
         ensures ok { OnOk result (self.new ≡ (polls self.old now session).after) }
         ensures err { OnErr result (self.new ≡ self.old) }
+        ensures later { OnErr result (is_open self.old session ≡ true) }
     {
+        if !self.is_open(session) {
+            return Ok(());
+        }
         reset(arena)?;
         let decisions = self.decide_own(&*arena, now, session, self.identity_of(session), true)?;
         self.hand_out(session, &decisions.made);

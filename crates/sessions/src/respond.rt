@@ -1,9 +1,8 @@
 //! What a line is answered: a header by its acceptance or its refusal, a request by a reply.
-ghost use Rattle.std.specs.Prelude.{◌≡◌, ◌≢◌, ◌≤◌, ℕ, true, List, Ok, Some, None, option_map, IfOk, IsOk, OnErr};
+ghost use Rattle.std.specs.Prelude.{◌≡◌, ◌≢◌, ◌≤◌, ℕ, List, Ok, Some, None, option_map, IfOk, IsOk, OnErr};
 ghost use Rattle.messages.specs.AnswerText.{text, fault_text, rules_fault_text, line_fault_text};
 ghost use Rattle.sessions.specs.Said.{unopened, refused, running, as_line, IsAnsweredBy, header_fault_text};
 ghost use Rattle.sessions.specs.Working.Follow.{phase_of, bytes_of, AnswersAt};
-ghost use Rattle.rtdb_core.specs.State.{is_open};
 ghost use Rattle.rtdb_core.specs.declared.reply.Reply.TheVariants as replies;
 ghost use Rattle.rtdb_core.specs.declared.reply.Refusal.TheVariants as refusals;
 ghost use Rattle.rules_reader.specs.declared.fault.RulesFault.TheVariants as rules_faults;
@@ -190,20 +189,19 @@ fn answer_poll(
     }
 }
 
-// Answers a poll that has begun, in an open session.
+// Answers a poll that has begun.
 fn answer_news(
     alloc: Global,
     core: &mut Core,
     arena: &mut Bump,
     stamp: Stamp,
 ) -> Result<Answer, NoMemory>
-    requires moment { stamp.now ≤ MAX_MOMENT }
-    requires open { is_open core.old stamp.session ≡ true }
+    requires { stamp.now ≤ MAX_MOMENT }
     ensures { IfOk result (λ answer. (said : List ℕ) × IsAnsweredBy core.old (Ok (record { stamp = stamp; event = Event.Poll })) said core.new × (bytes_of answer ≡ as_line said)) }
 {
     let answer = match core.news(arena, stamp.now, stamp.session) {
         Ok(tidings) => written(write_tidings(alloc, &tidings)?)?,
-        Err(_) => return say_refusal(alloc, &Refusal::NoMemory),
+        Err(why) => return say_refusal(alloc, &why),
     };
     match core.end_poll(arena, stamp.now, stamp.session) {
         Ok(()) => Ok(answer),

@@ -5,13 +5,10 @@ use Rattle.sessions.specs.Said.{as_line}
 use Rattle.sessions.proofs.Polling.{told, IfOk-wanting}
 use Rattle.sessions.proofs.respond.answer_news.Goals as goal
 
-pub returns-in-Err : goal.returns-in-Err
-returns-in-Err c = IfOk-wanting c.args.core.now c.args.core.now c.args.stamp c.say_refusal.result c.requires.open refl c.say_refusal.ensures.line
-
 pub returns-in-Ok-end_poll : goal.returns-in-Ok-end_poll
 returns-in-Ok-end_poll c =
     let news = News c.in-Ok.tidings in
-    (text news, (news, told c.args.core.now c.end_poll.new.self c.args.stamp.now c.args.stamp.session c.in-Ok.tidings c.in-Ok.ensures c.in-Ok-end_poll.ensures.ok, refl), c.in_ok-answer-in-Ok.ensures ∙ ap as_line c.in_ok-write_tidings-in-Ok.ensures)
+    (text news, (news, told c.args.core.now c.end_poll.new.self c.args.stamp.now c.args.stamp.session c.in-Ok.tidings c.in-Ok.ensures.told c.in-Ok-end_poll.ensures.ok, refl), c.in_ok-answer-in-Ok.ensures ∙ ap as_line c.in_ok-write_tidings-in-Ok.ensures)
 
 pub returns-in-Err-end_poll : goal.returns-in-Err-end_poll
-returns-in-Err-end_poll c = IfOk-wanting c.args.core.now c.end_poll.new.self c.args.stamp c.say_refusal-in-Err-end_poll.result c.requires.open c.in-Err-end_poll.ensures.err c.say_refusal-in-Err-end_poll.ensures.line
+returns-in-Err-end_poll c = IfOk-wanting c.args.core.now c.end_poll.new.self c.args.stamp c.say_refusal-in-Err-end_poll.result c.in-Err-end_poll.ensures.later c.in-Err-end_poll.ensures.err c.say_refusal-in-Err-end_poll.ensures.line

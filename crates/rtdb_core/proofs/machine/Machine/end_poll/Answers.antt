@@ -12,7 +12,7 @@ returns-clause-ok c =
     let old = c.args.self.now in
     let n = c.args.session in
     let ds = c.in_ok-decisions.decisions.made.items in
-    sym (ap (λ (o : Outcome). o.after) (polled_is old c.args.now n ds (news_of old.tree (settled 0 ds (listeners_of old n))) c.hand_out.new.self (sym c.requires.open)
+    sym (ap (λ (o : Outcome). o.after) (polled_is old c.args.now n ds (news_of old.tree (settled 0 ds (listeners_of old n))) c.hand_out.new.self c.if-not-is_open.ensures
     (c.in_ok-decisions.ensures.made ∙ ap (λ (who : Option Identity). sparse 0 (map (fate_of old.tree old.rules old.tree c.args.now who) (listeners_of old n))) c.identity_of.ensures)
     c.in_ok-decisions.ensures.fits
     refl

@@ -5,7 +5,7 @@ use Rattle.rtdb_core.specs.State.{listeners_of, identity_of}
 use Rattle.rtdb_core.specs.Step.{Outcome, with_session, news_of}
 use Rattle.rtdb_core.specs.Working.Fates.{settled, sparse, fate_of}
 use Rattle.rtdb_core.proofs.Deciding.{polled_is}
-use Rattle.rtdb_core.proofs.machine.Machine.news.Goals as goal
+use Rattle.rtdb_core.proofs.machine.Machine.own_tidings.Goals as goal
 
 pub returns : goal.returns
 returns c =
