@@ -131,6 +131,16 @@ impl<'a> View<'a> {
     pub(crate) fn below(&self, keys: &[Key]) -> Option<View<'a>>
         ensures { result ≡ non_null (sub self.now keys.now) }
     {
+        match &self.kind {
+            Kind::Stored(node) => stored_below(node, keys),
+            Kind::Patched(_) => self.walked(keys),
+        }
+    }
+
+    // The same by a view for each key, of which some are changed.
+    fn walked(&self, keys: &[Key]) -> Option<View<'a>>
+        ensures { result ≡ non_null (sub self.now keys.now) }
+    {
         let mut view = self.share();
         for key in keys {
             view = view.child(key.text())?;
@@ -207,6 +217,18 @@ impl<'a> View<'a> {
     {
         let _kind = &self.kind;
     }
+}
+
+// The stored tree below these keys.
+fn stored_below<'a>(node: &'a Node, keys: &[Key]) -> Option<View<'a>>
+    ensures { result ≡ non_null (sub node.now keys.now) }
+{
+    let mut at = node;
+    for key in keys {
+        at = at.child(key.text())?;
+    }
+    at.law();
+    Some(View::stored(at))
 }
 
 // The stored child at an index, with its key.

@@ -6,14 +6,16 @@ use Rattle.std.specs.List.{list_all}
 use Rattle.std.proofs.lemmas.Bool.{ltb-true, le-leb}
 use Rattle.std.proofs.lemmas.List.{append-nil, at_drop_more, drop_all}
 use Rattle.std.proofs.lemmas.Bool.Decides.{nat_tests}
+use Rattle.std.proofs.lemmas.List.Splits.{slice_split_none}
 use Rattle.tree_model.specs.declared.limits.TheConstants.{MAX_DEPTH}
 use Rattle.tree_model.specs.Key.{Key, is_key}
 use Rattle.tree_model.specs.Path.{Path}
 use Rattle.tree_model.specs.Tree.{Tree}
 use Rattle.path_capture.specs.Path.{pieces}
 use Rattle.path_capture.proofs.Segments.{named, IsPieceAt}
+use Rattle.path_capture.proofs.Signs.{key_without_slash, key_is_not_empty}
 use Rattle.evaluator.specs.Value.{Snapshot}
-use Rattle.evaluator.specs.Snapshot.{child_at}
+use Rattle.evaluator.specs.Snapshot.{child_at, below}
 use Rattle.evaluator.specs.Working.Places.{stepped}
 
 -- where these pieces lead, one step after another
@@ -85,3 +87,23 @@ Walked-all s at text n room e so_far =
     sym (walked_is (pieces text) s.0 s.1 room)
     ∙ so_far.rest
     ∙ ap (walked at) (drop_all n (pieces text) (omega arith))
+
+-- ---- one key
+
+none_more : {X : Type 0} (o : Option X) → option_and_then (λ x. Some x) o ≡ o
+none_more None = refl
+none_more (Some x) = refl
+
+-- a key leads where it does as the only piece of its text
+pub key-leads : (s : Snapshot) (k : Key) → length s.1 ≤ MAX_DEPTH → is_key k ≡ true → stepped s k ≡ child_at s k
+key-leads s k room lawful =
+    sym (none_more (stepped s k))
+    ∙ walked_is (k ∷ []) s.0 s.1 room
+    ∙ ap (λ (ps : List Key). arrived s (named ps)) (sym (slice_split_none (λ b. b == 47) k (key_without_slash k lawful)))
+
+-- a key leads one key further down, where there is room for it
+pub key-further : (s : Snapshot) (k : Key) → is_key k ≡ true → (b : Bool) → nat_lt (length s.1) MAX_DEPTH ≡ b → stepped s k ≡ cond b (Some (below s k)) None
+key-further s k lawful b room =
+    ap (λ (e : Bool). cond e (Some s) (cond (is_key k && nat_lt (length s.1) MAX_DEPTH) (Some (below s k)) None)) (key_is_not_empty k lawful)
+    ∙ ap (λ (l : Bool). cond (l && nat_lt (length s.1) MAX_DEPTH) (Some (below s k)) None) lawful
+    ∙ ap (λ (r : Bool). cond r (Some (below s k)) None) room

@@ -1,13 +1,16 @@
 -- A place and the places round it: the root, one key further down, and the one above.
-use Rattle.std.proofs.Common.{◌≡◌, ℕ, ◌+◌, ◌<◌, [], ◌∷◌, ◌++◌, length, Bool, Option, Some, None, refl, sym, ◌∙◌, ap, subst, arith, length-append}
+use Rattle.std.proofs.Common.{◌≡◌, ℕ, ◌+◌, ◌<◌, [], ◌∷◌, ◌++◌, length, Bool, true, Option, Some, None, IsSome, is_some, refl, sym, ◌∙◌, ap, subst, arith, length-append}
 use Rattle.std.specs.Prelude.{◌≢◌}
+use Rattle.std.specs.Cmp.{first_so}
 use Rattle.tree_model.specs.declared.limits.TheConstants.{MAX_DEPTH}
-use Rattle.tree_model.specs.Key.{Key}
+use Rattle.tree_model.specs.Key.{Key, is_key}
 use Rattle.tree_model.specs.Path.{Path}
 use Rattle.tree_model.specs.PathMap.{sub}
-use Rattle.tree_model.specs.Tree.{Tree, null, non_null}
-use Rattle.tree_model.proofs.Lookups.{sub-sub, sub-root, sub-null}
-use Rattle.tree_model.proofs.Existence.{by_null, non_null-null, non_null-some}
+use Rattle.tree_model.specs.Tree.{Tree, null, non_null, IsLawful}
+use Rattle.tree_model.proofs.Choices.{none_is_not_some}
+use Rattle.tree_model.proofs.Lawful.{path_keys}
+use Rattle.tree_model.proofs.Lookups.{get-sub, sub-sub, sub-root, sub-null}
+use Rattle.tree_model.proofs.Existence.{by_null, non_null-null, non_null-some, some_path}
 use Rattle.path_capture.specs.Write.{tree_or_null}
 use Rattle.evaluator.specs.Value.{Snapshot}
 use Rattle.evaluator.specs.Snapshot.{below, parent_at, without_last}
@@ -40,6 +43,13 @@ below_place view there found deep s t k e here is stands room =
       depth = omega arith;
       room = omega arith;
     }
+
+-- what stands at a key of a lawful tree has a lawful key
+pub key_of_child : (t : Tree) (k : Key) (o : Option Tree) → IsLawful t → o ≡ non_null (sub t (k ∷ [])) → IsSome o → is_key k ≡ true
+key_of_child t k o lawful e some =
+    let there : sub t (k ∷ []) ≢ null = λ nothing. none_is_not_some o (e ∙ ap non_null nothing ∙ non_null-null) some in
+    let q = some_path (sub t (k ∷ [])) there in
+    first_so _ _ (path_keys (k ∷ q.0) (lawful.paths (k ∷ q.0) (ap is_some (sym (get-sub t (k ∷ []) q.0)) ∙ q.1)))
 
 -- ---- the place above
 

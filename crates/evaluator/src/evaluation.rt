@@ -104,14 +104,19 @@ fn value_part<'a>(arena: &'a Bump, expr: &'a Expr, env: &Env<'a>) -> Result<Part
     Ok(Part::Value(value(arena, expr, env)?))
 }
 
-// Its value, where one is wanted.
+// Its value, where one is wanted. A text, as most arguments are, is no part that has to be looked into.
 #[cycle(evaluation)]
 fn value<'a>(arena: &'a Bump, expr: &'a Expr, env: &Env<'a>) -> Result<Value<'a>, Stop>
     ensures value { IfOk result (λ v. as_value (mean (view expr.now) (env_of env.now)) ≡ Some (value_of v)) }
     ensures erred { IsErrOf result Stop.Erred → as_value (mean (view expr.now) (env_of env.now)) ≡ None }
 {
-    let part = part(arena, expr, env)?;
-    wanted(in_value(part))
+    match expr {
+        Expr::Text(text) => Ok(Value::Words(text.as_str())),
+        _ => {
+            let part = part(arena, expr, env)?;
+            wanted(in_value(part))
+        }
+    }
 }
 
 // Whether it is true, where a boolean is wanted.

@@ -1,6 +1,7 @@
 //! A snapshot: a location of a tree.
-ghost use Rattle.std.specs.Prelude.{◌≡◌, ◌<◌, ◌≤◌, [], true, IfOk, IsErrOf, Some, None, option_map, length};
+ghost use Rattle.std.specs.Prelude.{◌≡◌, ◌<◌, ◌≤◌, [], true, IfOk, IsErrOf, IsSome, Some, None, option_map, length};
 ghost use Rattle.tree_model.specs.declared.limits.TheConstants.{MAX_DEPTH};
+ghost use Rattle.tree_model.specs.Key.{is_key};
 ghost use Rattle.tree_model.specs.PathMap.{sub};
 ghost use Rattle.tree_model.specs.Tree.{non_null};
 ghost use Rattle.json_tree.specs.Leaf.{primitive_of};
@@ -75,8 +76,22 @@ impl<'a> Snapshot<'a> {
         requires { length self.now.1 < MAX_DEPTH }
         ensures { IfOk result (λ s. s.now ≡ below self.now key.now) }
     {
+        self.placed(arena, key, child_of(self.view(), key))
+    }
+
+    // The same, where what stands there is known.
+    fn placed(
+        &'a self,
+        arena: &'a Bump,
+        key: &'a str,
+        child: Option<View<'a>>,
+    ) -> Result<&'a Snapshot<'a>, NoMemory>
+        requires room { length self.now.1 < MAX_DEPTH }
+        requires child { child ≡ down key.now (non_null (sub self.now.0 self.now.1)) }
+        ensures { IfOk result (λ s. s.now ≡ below self.now key.now) }
+    {
         Ok(arena.try_alloc(Snapshot {
-            view: child_of(self.view(), key),
+            view: child,
             depth: self.depth + 1,
             above: Above::Parent(self, key),
         })?)
@@ -129,13 +144,17 @@ fn at_root(view: &Option<View>)
     }
 }
 
-// What stands at the key below.
+// What stands at the key below. No text stands in a tree that is no lawful key.
 fn child_of<'a>(view: Option<&View<'a>>, key: &str) -> Option<View<'a>>
-    ensures { result ≡ down key.now (option_map (λ v. v.now) view.entry) }
+    ensures child { result ≡ down key.now (option_map (λ v. v.now) view.entry) }
+    ensures lawful { IsSome result → is_key key.now ≡ true }
 {
     match view {
         None => None,
-        Some(view) => view.child(key),
+        Some(view) => {
+            view.law();
+            view.child(key)
+        }
     }
 }
 
@@ -180,8 +199,26 @@ pub(crate) fn has_children_at(place: &Snapshot) -> bool
     }
 }
 
-// The location at a text of keys: a look-up and a place in the arena for each key.
+// The location at a text of keys: a look-up and a place in the arena for each key. Most texts are one key, and
+// most of these stand there.
 pub(crate) fn child_at<'a>(
+    arena: &'a Bump,
+    place: &'a Snapshot<'a>,
+    text: &'a str,
+) -> Result<&'a Snapshot<'a>, Stop>
+    ensures value { IfOk result (λ at. child_at place.now text.now ≡ Some at.now) }
+    ensures erred { IsErrOf result Stop.Erred → child_at place.now text.now ≡ None }
+{
+    let child = child_of(place.view(), text);
+    if is_key_of(&child, text) {
+        place.depth();
+        return at_key(arena, place, text, child);
+    }
+    at_keys(arena, place, text)
+}
+
+// The same, by one key after another.
+fn at_keys<'a>(
     arena: &'a Bump,
     place: &'a Snapshot<'a>,
     text: &'a str,
@@ -208,8 +245,35 @@ fn step<'a>(
     if piece.is_empty() {
         return Ok(place);
     }
-    if !is_lawful_key(piece) || place.depth() >= MAX_DEPTH {
+    let child = child_of(place.view(), piece);
+    if !is_key_of(&child, piece) {
         return Err(Stop::Erred);
     }
-    Ok(place.below(arena, piece)?)
+    at_key(arena, place, piece, child)
+}
+
+// Whether a text is a lawful key. The text of a child is, without a look at it.
+fn is_key_of(child: &Option<View>, text: &str) -> bool
+    requires { IsSome child.now → is_key text.now ≡ true }
+    ensures { result ≡ is_key text.now }
+{
+    child.is_some() || is_lawful_key(text)
+}
+
+// The location one key further down, where this child stands, if there is room for it.
+fn at_key<'a>(
+    arena: &'a Bump,
+    place: &'a Snapshot<'a>,
+    key: &'a str,
+    child: Option<View<'a>>,
+) -> Result<&'a Snapshot<'a>, Stop>
+    requires key { is_key key.now ≡ true }
+    requires child { child ≡ down key.now (non_null (sub place.now.0 place.now.1)) }
+    ensures value { IfOk result (λ at. stepped place.now key.now ≡ Some at.now) }
+    ensures erred { IsErrOf result Stop.Erred → stepped place.now key.now ≡ None }
+{
+    if place.depth() >= MAX_DEPTH {
+        return Err(Stop::Erred);
+    }
+    Ok(place.placed(arena, key, child)?)
 }

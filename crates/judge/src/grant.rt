@@ -12,6 +12,7 @@ ghost use Rattle.std.specs.List.{cons_option};
 use crate::locations::{group, key_at};
 use crate::spot::{Asking, Spot, answer, enter, leave};
 use crate::verdict::{Named, NamedRules, Why};
+use bumpalo::Bump;
 use evaluator::Outcome;
 use json_tree::{Key, NoMemory};
 use path_capture::{Captures, Path, Pattern};
@@ -24,17 +25,16 @@ pub(crate) struct Seen<'a> {
     pub(crate) why: Why,
 }
 
-/// A location that no rule grants, and the rules that were asked for it, the deepest first.
+/// A location that no rule grants, and the rules that were asked for it, the deepest first, in the arena.
 #[derive(Drop)]
 pub(crate) struct Denial<'a> {
     pub(crate) location: &'a Path,
-    pub(crate) seen: Vec<Seen<'a>>,
+    pub(crate) seen: Vec<Seen<'a>, &'a Bump>,
 }
 
 // The first of these locations for which no rule holds properly below the spot.
 #[cycle(refused)]
 fn refused_below<'a>(
-    alloc: Global,
     asking: &Asking<'a>,
     spot: &Spot<'a>,
     locations: &'a [&'a Path],
@@ -49,10 +49,10 @@ fn refused_below<'a>(
     while start < locations.len() {
         let location = locations[start];
         let Some(key) = key_at(location, depth) else {
-            return Ok(Some(denial_of(alloc, location)));
+            return Ok(Some(denial_of(asking.bump, location)));
         };
         let group = group(locations, start, depth, key);
-        let denial = refused_at_key(alloc, asking, spot, key, group, captures)?;
+        let denial = refused_at_key(asking, spot, key, group, captures)?;
         if let Some(denial) = denial {
             return Ok(Some(denial));
         }
@@ -64,7 +64,6 @@ fn refused_below<'a>(
 // The same of locations that all go on with one key.
 #[cycle(refused)]
 fn refused_at_key<'a>(
-    alloc: Global,
     asking: &Asking<'a>,
     spot: &Spot<'a>,
     key: &'a Key,
@@ -79,9 +78,9 @@ fn refused_at_key<'a>(
     ensures back { OnOk result (captures.new ≡ captures.old) }
 {
     let Some(below) = enter(asking, spot, key, captures)? else {
-        return Ok(Some(denial_of(alloc, locations[0])));
+        return Ok(Some(denial_of(asking.bump, locations[0])));
     };
-    let denial = refused_from(alloc, asking, &below, locations, captures)?;
+    let denial = refused_from(asking, &below, locations, captures)?;
     leave(&below, captures);
     Ok(denial)
 }
@@ -91,7 +90,6 @@ fn refused_at_key<'a>(
 /// is not granted.
 #[cycle(refused)]
 pub(crate) fn refused_from<'a>(
-    alloc: Global,
     asking: &Asking<'a>,
     spot: &Spot<'a>,
     locations: &'a [&'a Path],
@@ -105,7 +103,7 @@ pub(crate) fn refused_from<'a>(
     if holds(own) {
         return Ok(None);
     }
-    let Some(denial) = refused_below(alloc, asking, spot, locations, captures)? else {
+    let Some(denial) = refused_below(asking, spot, locations, captures)? else {
         return Ok(None);
     };
     let denial = with_rule(denial, spot.rule.pattern(), own)?;
@@ -137,13 +135,13 @@ pub(crate) fn granted_along<'a>(
 }
 
 // A location that no rule was asked for yet.
-fn denial_of<'a>(alloc: Global, location: &'a Path) -> Denial<'a>
+fn denial_of<'a>(bump: &'a Bump, location: &'a Path) -> Denial<'a>
     ensures location { result.location.now ≡ location.now }
     ensures seen { result.seen.items ≡ [] }
 {
     Denial {
         location,
-        seen: Vec::new(alloc),
+        seen: Vec::new(bump),
     }
 }
 

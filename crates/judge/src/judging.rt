@@ -1,5 +1,5 @@
 //! Judging a read, and writes.
-ghost use Rattle.std.specs.Prelude.{◌≡◌, ◌↔◌, [], ◌∷◌, true, map, IfOk, MatchOption};
+ghost use Rattle.std.specs.Prelude.{◌≡◌, ◌↔◌, [], ◌∷◌, true, map, IfOk, OnOk, MatchOption};
 ghost use Rattle.tree_model.specs.Write.{location, proposed};
 ghost use Rattle.path_capture.specs.Write.{tree_or_null};
 ghost use Rattle.evaluator.specs.Asked.{asked_of};
@@ -28,9 +28,9 @@ use std::alloc::Global;
 
 /// Judges a read of a path with this query: granted exactly where a `.read` holds at the path or above
 /// it, else denied with all `.read` rules there. Of d keys, d · log w in nodes of w children, and each
-/// rule on the way once; the arena takes a place for each key and what expressions make, other memory
-/// the captures on the way and a denial. Nothing grows with what is stored beside the path. (Guide "Core
-/// syntax", `.read` and `.write` rules cascade.)
+/// rule on the way once; the arena takes a place for each key, what expressions make and the list of the rules
+/// that denied, other memory the captures on the way and the names of a denial. Nothing grows with what is stored
+/// beside the path. (Guide "Core syntax", `.read` and `.write` rules cascade.)
 pub fn judge_read<'a>(
     alloc: Global,
     bump: &'a Bump,
@@ -60,7 +60,7 @@ fn judge_alone<'a>(
     let asking = reading(bump, scene, asked);
     let spot = at_root(&asking)?;
     let mut captures = Captures::new(alloc);
-    let denial = refused_from(alloc, &asking, &spot, locations, &mut captures)?;
+    let denial = refused_from(&asking, &spot, locations, &mut captures)?;
     match denial {
         Some(denial) => {
             let rules = named(alloc, denial.seen.as_slice())?;
@@ -97,8 +97,9 @@ pub fn may_read<'a>(
 /// proposed tree, above a location or in what is written, and none behind the first that fails. Nothing
 /// grows with what is stored beside the locations: of n locations of d keys, n · log n comparisons, d ·
 /// log w steps for each, and what is written. The arena takes the list of locations, two places for each
-/// step, and what expressions make; other memory the captures on the way and the names of a denial. (Guide
-/// "Core syntax", `.read` and `.write` rules cascade, `.validate` rules do not.)
+/// step, what expressions make and the list of the rules that denied; other memory the captures on the way, one
+/// list for both kinds of rules, and the names of a denial. (Guide "Core syntax", `.read` and `.write` rules
+/// cascade, `.validate` rules do not.)
 pub fn judge_write<'a>(
     alloc: Global,
     bump: &'a Bump,
@@ -134,7 +135,8 @@ fn judge_ordered<'a>(
         kind: Kind::Write,
     };
     let spot = at_root(&asking)?;
-    let refused = write_denied(alloc, &asking, &spot, locations)?;
+    let mut captures = Captures::new(alloc);
+    let refused = write_denied(alloc, &asking, &spot, locations, &mut captures)?;
     if let Some(verdict) = refused {
         return Ok(verdict);
     }
@@ -144,7 +146,7 @@ fn judge_ordered<'a>(
         access: Access::Writes(root),
         kind: Kind::Validate,
     };
-    let failed = validate_denied(alloc, &validating, &spot, locations)?;
+    let failed = validate_denied(alloc, &validating, &spot, locations, &mut captures)?;
     if let Some(verdict) = failed {
         return Ok(verdict);
     }
@@ -157,14 +159,16 @@ fn write_denied<'a>(
     asking: &Asking<'a>,
     spot: &Spot<'a>,
     locations: &'a [&'a Path],
+    captures: &mut Captures<'a>,
 ) -> Result<Option<Verdict>, NoMemory>
     requires root { StandsAtRoot asking.now spot.now }
     requires kind { asking.now.kind ≡ WriteKind }
     requires sorted { PathsAscend (paths locations.now) }
-    ensures { IfOk result (λ denied. MatchOption denied (MayWriteAll (scene_of asking.now.scene.now) (coming_of asking.now) (paths locations.now)) (IsWriteVerdict (scene_of asking.now.scene.now) (coming_of asking.now) (paths locations.now))) }
+    requires none { captures.old ≡ [] }
+    ensures back { OnOk result (captures.new ≡ []) }
+    ensures denied { IfOk result (λ denied. MatchOption denied (MayWriteAll (scene_of asking.now.scene.now) (coming_of asking.now) (paths locations.now)) (IsWriteVerdict (scene_of asking.now.scene.now) (coming_of asking.now) (paths locations.now))) }
 {
-    let mut captures = Captures::new(alloc);
-    let denial = refused_from(alloc, asking, spot, locations, &mut captures)?;
+    let denial = refused_from(asking, spot, locations, captures)?;
     match denial {
         Some(denial) => {
             let rules = named(alloc, denial.seen.as_slice())?;
@@ -181,16 +185,17 @@ fn validate_denied<'a>(
     asking: &Asking<'a>,
     spot: &Spot<'a>,
     locations: &'a [&'a Path],
+    captures: &mut Captures<'a>,
 ) -> Result<Option<Verdict>, NoMemory>
     requires root { StandsAtRoot asking.now spot.now }
     requires kind { asking.now.kind ≡ ValidateKind }
     requires lawful { IsLawful (coming_of asking.now) }
     requires sorted { PathsAscend (paths locations.now) }
     requires granted { MayWriteAll (scene_of asking.now.scene.now) (coming_of asking.now) (paths locations.now) }
+    requires none { captures.old ≡ [] }
     ensures { IfOk result (λ denied. MatchOption denied (IsValid (scene_of asking.now.scene.now) (coming_of asking.now) (paths locations.now)) (IsWriteVerdict (scene_of asking.now.scene.now) (coming_of asking.now) (paths locations.now))) }
 {
-    let mut captures = Captures::new(alloc);
-    let failure = towards(alloc, asking, spot, locations, &mut captures)?;
+    let failure = towards(asking, spot, locations, captures)?;
     match failure {
         Some(failure) => {
             let place = place_of(alloc, failure.keys.as_slice())?;

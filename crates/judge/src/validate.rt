@@ -11,22 +11,22 @@ use crate::grant::why_of;
 use crate::locations::{group, key_at};
 use crate::spot::{Asking, Spot, answer, coming, enter, leave};
 use crate::verdict::Why;
+use bumpalo::Bump;
 use json_tree::{Key, NoMemory};
 use path_capture::{Captures, Path, Pattern};
 use std::alloc::Global;
 
 /// A place where a `.validate` does not hold: the keys that lead there, the last first, the pattern
-/// that stands there, and the reason.
+/// that stands there, and the reason. The list lies in the arena.
 #[derive(Drop)]
 pub(crate) struct Failure<'a> {
-    pub(crate) keys: Vec<&'a Key>,
+    pub(crate) keys: Vec<&'a Key, &'a Bump>,
     pub(crate) pattern: &'a Pattern,
     pub(crate) why: Why,
 }
 
 // Why the `.validate` of the node fails at the spot, if it does.
 fn failing<'a>(
-    alloc: Global,
     asking: &Asking<'a>,
     spot: &Spot<'a>,
     captures: &Captures<'a>,
@@ -37,7 +37,7 @@ fn failing<'a>(
     let answer = answer(asking, spot, captures)?;
     match why_of(answer) {
         Some(why) => Ok(Some(Failure {
-            keys: Vec::new(alloc),
+            keys: Vec::new(asking.bump),
             pattern: spot.rule.pattern(),
             why,
         })),
@@ -49,7 +49,6 @@ fn failing<'a>(
 // looked at.
 #[cycle(everywhere)]
 fn everywhere<'a>(
-    alloc: Global,
     asking: &Asking<'a>,
     spot: &Spot<'a>,
     captures: &mut Captures<'a>,
@@ -66,7 +65,7 @@ fn everywhere<'a>(
     let Some(view) = coming(spot) else {
         return Ok(None);
     };
-    let own = failing(alloc, asking, spot, captures)?;
+    let own = failing(asking, spot, captures)?;
     if let Some(failure) = own {
         return Ok(Some(failure));
     }
@@ -74,7 +73,7 @@ fn everywhere<'a>(
         let Some(key) = view.key_at(i) else {
             unreachable!()
         };
-        let below = everywhere_below(alloc, asking, spot, key, captures)?;
+        let below = everywhere_below(asking, spot, key, captures)?;
         if let Some(failure) = below {
             let failure = with_key(failure, key)?;
             return Ok(Some(failure));
@@ -86,7 +85,6 @@ fn everywhere<'a>(
 // The same below a key.
 #[cycle(everywhere)]
 fn everywhere_below<'a>(
-    alloc: Global,
     asking: &Asking<'a>,
     spot: &Spot<'a>,
     key: &'a Key,
@@ -102,7 +100,7 @@ fn everywhere_below<'a>(
     let Some(next) = enter(asking, spot, key, captures)? else {
         return Ok(None);
     };
-    let failure = everywhere(alloc, asking, &next, captures)?;
+    let failure = everywhere(asking, &next, captures)?;
     leave(&next, captures);
     Ok(failure)
 }
@@ -113,7 +111,6 @@ fn everywhere_below<'a>(
 /// exists is asked once.
 #[cycle(towards)]
 pub(crate) fn towards<'a>(
-    alloc: Global,
     asking: &Asking<'a>,
     spot: &Spot<'a>,
     locations: &'a [&'a Path],
@@ -135,13 +132,13 @@ pub(crate) fn towards<'a>(
     }
     // The least location ends here: all that is below was written.
     let Some(_) = key_at(locations[0], depth) else {
-        let found = everywhere(alloc, asking, spot, captures)?;
+        let found = everywhere(asking, spot, captures)?;
         return Ok(found);
     };
     let Some(_) = coming(spot) else {
         return Ok(None);
     };
-    let above = failing(alloc, asking, spot, captures)?;
+    let above = failing(asking, spot, captures)?;
     if let Some(failure) = above {
         return Ok(Some(failure));
     }
@@ -151,7 +148,7 @@ pub(crate) fn towards<'a>(
             unreachable!()
         };
         let group = group(locations, start, depth, key);
-        let below = towards_below(alloc, asking, spot, key, group, captures)?;
+        let below = towards_below(asking, spot, key, group, captures)?;
         if let Some(failure) = below {
             let failure = with_key(failure, key)?;
             return Ok(Some(failure));
@@ -164,7 +161,6 @@ pub(crate) fn towards<'a>(
 // The same below a key with which all these locations go on.
 #[cycle(towards)]
 fn towards_below<'a>(
-    alloc: Global,
     asking: &Asking<'a>,
     spot: &Spot<'a>,
     key: &'a Key,
@@ -183,7 +179,7 @@ fn towards_below<'a>(
     let Some(next) = enter(asking, spot, key, captures)? else {
         return Ok(None);
     };
-    let failure = towards(alloc, asking, &next, locations, captures)?;
+    let failure = towards(asking, &next, locations, captures)?;
     leave(&next, captures);
     Ok(failure)
 }

@@ -20,7 +20,7 @@ returns-in-Some c =
     let scene = scene_of c.args.scene.now in
     let t = c.in_ok-root.root.now.0 in
     let ls = paths c.args.locations.now in
-    verdict_some scene t (tree_or_null c.args.coming.now) ls (MayWriteAll scene t ls) c.in_ok-refused.refused c.in-Some.verdict (ap (λ (s : Snapshot). s.0) c.in_ok-root.ensures) c.in-Some.is c.in_ok-refused.ensures
+    verdict_some scene t (tree_or_null c.args.coming.now) ls (MayWriteAll scene t ls) c.in_ok-refused.refused c.in-Some.verdict (ap (λ (s : Snapshot). s.0) c.in_ok-root.ensures) c.in-Some.is c.in_ok-refused.ensures.denied
 
 pub validate_denied-requires : goal.validate_denied-requires
 validate_denied-requires c =
@@ -34,7 +34,8 @@ validate_denied-requires c =
       kind = refl;
       lawful = subst IsLawful (sym (ap (λ (s : Snapshot). s.0) c.in_ok-root.ensures)) c.law_of.ensures;
       sorted = c.requires;
-      granted = verdict_none (MayWriteAll scene t ls) (IsWriteVerdict scene t ls) c.in_ok-refused.refused c.in_default.is c.in_ok-refused.ensures;
+      granted = verdict_none (MayWriteAll scene t ls) (IsWriteVerdict scene t ls) c.in_ok-refused.refused c.in_default.is c.in_ok-refused.ensures.denied;
+      none = c.in_ok-refused.ensures.back;
     }
 
 pub returns-in-Some-failed : goal.returns-in-Some-failed
@@ -50,5 +51,5 @@ returns c =
     let t = c.in_ok-root.root.now.0 in
     let ls = paths c.args.locations.now in
     verdict_granted scene t (tree_or_null c.args.coming.now) ls (ap (λ (s : Snapshot). s.0) c.in_ok-root.ensures)
-    (verdict_none (MayWriteAll scene t ls) (IsWriteVerdict scene t ls) c.in_ok-refused.refused c.in_default.is c.in_ok-refused.ensures)
+    (verdict_none (MayWriteAll scene t ls) (IsWriteVerdict scene t ls) c.in_ok-refused.refused c.in_default.is c.in_ok-refused.ensures.denied)
     (verdict_none (IsValid scene t ls) (IsWriteVerdict scene t ls) c.in_ok-failed.failed c.in_default-failed.is c.in_ok-failed.ensures)

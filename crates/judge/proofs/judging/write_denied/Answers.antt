@@ -5,11 +5,11 @@ use Rattle.judge.specs.Working.Locations.{paths}
 use Rattle.judge.proofs.judging.write_denied.Goals as goal
 
 pub refused_from-requires : goal.refused_from-requires
-refused_from-requires c = record { here = stands_anew c.args.asking.now c.args.spot.now c.new-captures.result c.new-captures.ensures c.requires.root }
+refused_from-requires c = record { here = stands_anew c.args.asking.now c.args.spot.now _ c.requires.none c.requires.root }
 
-pub returns-in-Some : goal.returns-in-Some
-returns-in-Some c =
+pub returns-in_ok-location-in-Some-clause-denied : goal.returns-in_ok-location-in-Some-clause-denied
+returns-in_ok-location-in-Some-clause-denied c =
     write_answer_some c.args.asking.now c.args.spot.now (paths c.args.locations.now) c.in_ok-denial.denial c.in-Some.denial _ _ c.requires.kind c.requires.root c.requires.sorted c.in-Some.is c.in_ok-location-in-Some.ensures (c.in_ok-rules-in-Some.ensures ∙ ap seen_names c.as_slice.ensures.value) c.in_ok-denial.ensures.denial
 
-pub returns : goal.returns
-returns c = write_answer_none c.args.asking.now c.args.spot.now (paths c.args.locations.now) c.in_ok-denial.denial c.requires.kind c.requires.root c.in-None.is c.in_ok-denial.ensures.denial
+pub returns-in-None-clause-denied : goal.returns-in-None-clause-denied
+returns-in-None-clause-denied c = write_answer_none c.args.asking.now c.args.spot.now (paths c.args.locations.now) c.in_ok-denial.denial c.requires.kind c.requires.root c.in-None.is c.in_ok-denial.ensures.denial

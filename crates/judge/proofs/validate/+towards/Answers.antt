@@ -1,5 +1,6 @@
 use Rattle.std.proofs.Common.{◌≡◌, ◌+◌, ◌<◌, ℕ, Bool, false, nat_eq, List, [], ◌∷◌, Some, length, drop, slice_get, sym, ap, ◌∙◌, subst, refl, arith}
 use Rattle.std.specs.Borrow.{Bor}
+use Rattle.std.proofs.lemmas.List.{drop_all}
 use Rattle.tree_model.specs.Key.{Key}
 use Rattle.tree_model.specs.Path.{Path}
 use Rattle.tree_model.specs.Tree.{first_key}
@@ -10,7 +11,7 @@ use Rattle.judge.proofs.Groups.{one_longer, first_left, ascend_first, group_head
 use Rattle.judge.proofs.Places.{stands_there, nothing_stands}
 use Rattle.judge.proofs.Unvalidated.{none_fails_here}
 use Rattle.judge.proofs.Walks.{nothing_there, not_here}
-use Rattle.judge.proofs.Near.{AheadNear, next_is, near_here, near_start, parts_left, group_found, group_passed, near_key, ascend_group}
+use Rattle.judge.proofs.Near.{AheadNear, all_touched, found_near, none_left, next_is, near_here, near_start, parts_left, group_found, group_passed, near_key, ascend_group}
 use Rattle.judge.proofs.validate.+towards.Goals as goal
 
 -- ---- at a node
@@ -29,6 +30,15 @@ at_least_one (l ∷ ls) b h e = omega arith
 -- the first location goes on with the key
 goes_on : (ls : List Path) (from l : Path) (deep : ℕ) (k : Key) → deep ≡ length from → Some l ≡ slice_get ls 0 → Some k ≡ first_key (drop deep l) → NextIs k (rests (length from) ls)
 goes_on ls from l deep k same first key = next_is k (length from) ls l first (key ∙ ap (λ n. first_key (drop n l)) same)
+
+pub towards-returns-in_default-clause-found : goal.towards-returns-in_default-clause-found
+towards-returns-in_default-clause-found t c =
+    let from = path_of c.args.spot.now in
+    let some = at_least_one c.args.locations.now c.is_empty.result c.is_empty.ensures c.if-is_empty.false in
+    let l = c.index-locations-0.result.now in
+    found_near (FailsFrom (ask_of c.args.asking.now) (coming_of c.args.asking.now) from) (rests (length from) (paths c.args.locations.now)) c.in_ok-found.found
+    (all_touched (length from) (paths c.args.locations.now) l (first_left c.args.locations.now 0 c.index-locations-0.result some c.index-locations-0.is) (c.in_default.ensures.key ∙ ap (λ n. first_key (drop n l)) c.depth-depth.ensures.depth))
+    c.in_ok-found.ensures.found
 
 pub towards-returns-in-Some-above-clause-found : goal.towards-returns-in-Some-above-clause-found
 towards-returns-in-Some-above-clause-found t c =
@@ -99,6 +109,13 @@ towards-loop-start-preserved t c =
       c.in_ok-below.ensures.back ∙ c.loop-start.invariant.1,
       c.group-group.ensures.within,
     )
+
+pub towards-returns-clause-found : goal.towards-returns-clause-found
+towards-returns-clause-found t c =
+    let d = length (path_of c.args.spot.now) in
+    let F = FailsFrom (ask_of c.args.asking.now) (coming_of c.args.asking.now) (path_of c.args.spot.now) in
+    let past = c.loop-start-test.false in
+    none_left F (rests d (paths c.args.locations.now)) _ (ap (λ (ls : List (Bor Path)). rests d (paths ls)) (drop_all c.loop-start.start c.args.locations.now (omega (arith, past)))) c.loop-start.invariant.0
 
 -- ---- below a key
 

@@ -4,7 +4,7 @@ use Rattle.tree_model.specs.PathMap.{sub}
 use Rattle.tree_model.specs.Tree.{non_null}
 use Rattle.tree_model.proofs.Lookups.{sub-root}
 use Rattle.arena_snapshot.proofs.Walks.{all_of, goes_on, ends, arrived}
-use Rattle.arena_snapshot.proofs.view.View.below.Goals as goal
+use Rattle.arena_snapshot.proofs.view.View.walked.Goals as goal
 
 pub loop-key-init : goal.loop-key-init
 loop-key-init c = c.share-view.ensures ∙ sym (sub-root c.args.self.now)

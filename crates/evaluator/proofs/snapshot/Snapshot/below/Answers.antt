@@ -1,5 +1,0 @@
-use Rattle.evaluator.proofs.Places.{below_place}
-use Rattle.evaluator.proofs.snapshot.Snapshot.below.Goals as goal
-
-pub invariant_of-try_alloc : goal.invariant_of-try_alloc
-invariant_of-try_alloc c = below_place _ _ _ _ _ _ _ c.self.view_is c.self.invariant c.child_of.ensures c.view.ensures c.requires
