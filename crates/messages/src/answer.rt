@@ -1,6 +1,6 @@
 //! Answers: the texts of replies and faults, compact JSON with the members in the order of their
 //! names, and no line feed.
-ghost use Rattle.std.specs.Prelude.{◌≡◌, ◌++◌, codes, option_map, IfOk};
+ghost use Rattle.std.specs.Prelude.{◌≡◌, option_map, IfOk};
 ghost use Rattle.serde_json.specs.View.{view};
 ghost use Rattle.serde_json.specs.Written.{compact_text};
 ghost use Rattle.messages.specs.AnswerText.{text, fault_text, rules_fault_text, bad_tokens_text, unknown_token_text, line_fault_text, accepted_text, message_code, plain_data, placed_data, accepted_data, rule_data, byte_data, what_data, rule_fault_data, rules_fault_data};

@@ -10,7 +10,7 @@ ghost use Rattle.messages.specs.Message.{Tells, value_of, whole_at, verb_named, 
 ghost use Rattle.messages.specs.declared.message.MessageFault.TheVariants.{BadRequest};
 ghost use Rattle.messages.specs.declared.message.MessageFault.TheVariants.{NoMemory as no_memory};
 ghost use Rattle.messages.specs.Working.Faults.{fault_of_path};
-ghost use Rattle.messages.specs.Working.Outline.{said_data, part_data, object_data, source_data, message_data};
+ghost use Rattle.messages.specs.Working.Outline.{said_data, object_data, source_data, message_data};
 
 use crate::limits::MAX_MESSAGE_BYTES;
 use crate::outline::{Member, Part, Said};

@@ -1,8 +1,8 @@
 //! The texts of refusals, written token by token: no value of them is made.
-ghost use Rattle.std.specs.Prelude.{◌≡◌, ◌++◌, map, OnOk};
+ghost use Rattle.std.specs.Prelude.{◌≡◌, ◌++◌, OnOk};
 ghost use Rattle.json.specs.Tree.{json_tokens};
 ghost use Rattle.serde_json.specs.Written.{outline};
-ghost use Rattle.messages.specs.AnswerText.{plain_data, placed_data, named_data, rules_data, read_denied_data, write_denied_data, validate_denied_data, refusal_data, why_text};
+ghost use Rattle.messages.specs.AnswerText.{plain_data, rules_data, read_denied_data, write_denied_data, validate_denied_data, refusal_data, why_text};
 ghost use Rattle.messages.specs.Working.Writing.{refusal_tokens, named_tokens, ending_with_rules, ending_with_why};
 
 use crate::code::Code;

@@ -5,7 +5,6 @@
 ghost use Rattle.std.specs.Prelude.{◌≡◌, option_map, option_and_then, unwrap_or};
 ghost use Rattle.serde_json.specs.Data.{null, no_members};
 ghost use Rattle.serde_json.specs.Find.{get, as_str, as_number, as_u64, as_object};
-ghost use Rattle.serde_json.specs.View.{view, members_view};
 ghost use Rattle.path_capture.specs.Write.{tree_or_null};
 ghost use Rattle.tokens.specs.Tokens.{text_at};
 ghost use Rattle.messages.specs.Message.{Tells, tree_of_value, writes_below};

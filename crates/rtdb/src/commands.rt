@@ -1,5 +1,5 @@
 //! Commands, by their words: what each prints, what it tells of faults, and its status.
-ghost use Rattle.std.specs.Prelude.{◌≡◌, None};
+ghost use Rattle.std.specs.Prelude.{None};
 
 use crate::command::command;
 use crate::files::{Files, ReadFault};

@@ -1,5 +1,5 @@
 //! The command line, by `clap`.
-ghost use Rattle.std.specs.Prelude.{◌≡◌, ℕ, [], map, string_bytes, IfOk, IfErr};
+ghost use Rattle.std.specs.Prelude.{◌≡◌, map, string_bytes, IfOk, IfErr};
 ghost use Rattle.clap.specs.Words.{fault_of, subcommand_of, subcommand_rows_of, FailsBy};
 ghost use Rattle.rtdb.specs.Order.{the_program, Orders, IsLineFault};
 

@@ -45,7 +45,7 @@ pub struct Writes {
 }
 
 impl Model for Writes {
-    ghost use Rattle.std.specs.Prelude.{ℕ, List};
+    ghost use Rattle.std.specs.Prelude.{List};
     ghost use Rattle.std.specs.Coded.{coded×, coded_list, coded_ℕ};
     ghost use Rattle.tree_model.specs.Tree.{tree_code};
     ghost use Rattle.tree_model.specs.Write.{Write};

@@ -1,7 +1,6 @@
 //! A step that judges listeners: the rules and the tree after it, and how the tree has changed.
 ghost use Rattle.std.specs.Prelude.{◌≡◌, ◌≤◌, Option, option_map, false, true, IfOk};
 ghost use Rattle.std.specs.Bool.{OnTrue};
-ghost use Rattle.tree_model.specs.Write.{overlaps, proposed};
 ghost use Rattle.arena_snapshot.specs.View.{node_or_null};
 ghost use Rattle.listeners.specs.Listener.{seen};
 ghost use Rattle.judge.specs.Question.{scene_of};

@@ -1,10 +1,10 @@
 //! Listeners judged again: what becomes of each is decided first, which may fail for want of memory, and
 //! then all of it is made, which can't.
-ghost use Rattle.std.specs.Prelude.{◌≡◌, ◌+◌, ◌≤◌, ◌<◌, ◌^◌, ◌++◌, length, map, true, IfOk, OnOk};
+ghost use Rattle.std.specs.Prelude.{◌≡◌, ◌+◌, ◌<◌, ◌^◌, ◌++◌, length, map, true, IfOk, OnOk};
 ghost use Rattle.std.specs.FinMap as map_of;
 ghost use Rattle.std.specs.Ordering.{nat_cmp};
 ghost use Rattle.std.specs.BTreeMap.{IsOrdered};
-ghost use Rattle.rtdb_core.specs.Working.Fates.{fate_of, fates_of, sparse, settled, settled_all, left_of, with_listeners};
+ghost use Rattle.rtdb_core.specs.Working.Fates.{fate_of, fates_of, sparse, settled_all};
 ghost use Rattle.rtdb_core.specs.Working.Heard.{AreHeard, AllHeardIn};
 ghost use Rattle.rtdb_core.specs.Working.Passages.{IsPassage, tree_before, tree_after, who_of};
 

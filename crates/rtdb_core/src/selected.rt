@@ -1,10 +1,8 @@
 //! What a query makes of a read: what a rule sees of it, and what it selects.
 ghost use Rattle.std.specs.Prelude.{◌≡◌, option_map, Some, IfOk};
 ghost use Rattle.tree_model.specs.Tree.{non_null};
-ghost use Rattle.path_capture.specs.Write.{tree_or_null};
 ghost use Rattle.arena_snapshot.specs.View.{node_or_null};
 ghost use Rattle.evaluator.specs.Asked.{asked_of};
-ghost use Rattle.listeners.specs.Selection.{selection};
 ghost use Rattle.rtdb_core.specs.Rejudged.{asked_for, selected_at};
 
 use crate::trees::node_in;

@@ -1,6 +1,5 @@
 //! Tidings: what a poll tells, borrowed from the tree and from the listeners.
 ghost use Rattle.std.specs.Prelude.{◌≡◌, map, IfOk};
-ghost use Rattle.path_capture.specs.Write.{tree_or_null};
 ghost use Rattle.rtdb_core.specs.Tidings.{what_of, notice_of};
 
 use crate::news::{News, Notice, What};

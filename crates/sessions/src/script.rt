@@ -1,5 +1,5 @@
 //! A script: a header and then requests, one to a line, each answered by a line.
-ghost use Rattle.std.specs.Prelude.{◌≡◌, ◌≢◌, ℕ, ◌<◌, ◌++◌, ◌∷◌, [], Bool, true, false, List, length, vec_len, IfOk, IfErr, OnOk, MatchResult, IfSome, IfNone, Option};
+ghost use Rattle.std.specs.Prelude.{◌≡◌, ◌≢◌, ℕ, ◌<◌, ◌++◌, ◌∷◌, [], true, false, List, length, vec_len, IfOk, IfErr, OnOk, MatchResult, IfSome, IfNone, Option};
 ghost use Rattle.std.specs.Io.KnownBytes.{Appends, Consumes};
 ghost use Rattle.sessions.specs.Lines.{non_blank};
 ghost use Rattle.sessions.specs.Said.{refused, IsWritten};
