@@ -144,7 +144,7 @@ fn at_root(view: &Option<View>)
     }
 }
 
-// What stands at the key below. No text stands in a tree that is no lawful key.
+// What stands at the key below. Where something does, the text is a lawful key, as all are in a tree.
 fn child_of<'a>(view: Option<&View<'a>>, key: &str) -> Option<View<'a>>
     ensures child { result ≡ down key.now (option_map (λ v. v.now) view.entry) }
     ensures lawful { IsSome result → is_key key.now ≡ true }
