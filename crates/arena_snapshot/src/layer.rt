@@ -25,7 +25,7 @@ pub(crate) struct Layer<'a> {
 
 impl<'a> Layer<'a> {
     // A layer without children. It takes no memory.
-    pub(crate) fn new(bump: &'a Bump, base: Option<&'a Node>) -> Result<Layer<'a>, NoMemory>
+    pub(crate) fn new(arena: &'a Bump, base: Option<&'a Node>) -> Result<Layer<'a>, NoMemory>
         requires { get (node_or_null base) [] ≡ None }
         ensures base { IfOk result (λ layer. layer.base ≡ base.entry) }
         ensures empty { IfOk result (λ layer. map change_of layer.patches.items ≡ []) }
@@ -33,7 +33,7 @@ impl<'a> Layer<'a> {
     {
         Ok(Layer {
             base,
-            patches: Vec::new(bump),
+            patches: Vec::new(arena),
             sizes: stored_sizes(base)?,
         })
     }

@@ -26,24 +26,24 @@ use path_capture::Write;
 /// which are sorted once. With no writes it takes no memory. A stored tree of more locations or
 /// children than a `usize` counts is answered as want of memory, since no memory holds one.
 pub fn overlay<'a>(
-    bump: &'a Bump,
+    arena: &'a Bump,
     base: Option<&'a Node>,
     writes: &'a [Write],
 ) -> Result<Option<View<'a>>, NoMemory>
     requires { overlaps writes.now ≡ false }
     ensures { IfOk result (λ view. view ≡ non_null (proposed (node_or_null base.entry) writes.now)) }
 {
-    let mut sorted = borrowed(bump, writes)?;
+    let mut sorted = borrowed(arena, writes)?;
     sort(&mut sorted);
-    lay(bump, base, &sorted, 0)
+    lay(arena, base, &sorted, 0)
 }
 
 // Each of the writes, borrowed.
-fn borrowed<'a>(bump: &'a Bump, writes: &'a [Write]) -> Result<Vec<&'a Write, &'a Bump>, NoMemory>
+fn borrowed<'a>(arena: &'a Bump, writes: &'a [Write]) -> Result<Vec<&'a Write, &'a Bump>, NoMemory>
     ensures same { IfOk result (λ borrowed. map (left 0) borrowed.items ≡ writes.now) }
     ensures lawful { IfOk result (λ borrowed. AllByRecursion IsLawfulWrite (map (left 0) borrowed.items)) }
 {
-    let mut borrowed = Vec::with_capacity(bump, writes.len())?;
+    let mut borrowed = Vec::with_capacity(arena, writes.len())?;
     for write in writes {
         write.at();
         borrowed.push(write)?;
@@ -62,7 +62,7 @@ fn sort<'a>(writes: &mut Vec<&'a Write, &'a Bump>)
 // to it.
 #[cycle(lay)]
 fn lay<'a>(
-    bump: &'a Bump,
+    arena: &'a Bump,
     base: Option<&'a Node>,
     writes: &[&'a Write],
     depth: usize,
@@ -80,10 +80,10 @@ fn lay<'a>(
                 return Ok(stored(first.tree()));
             }
             if !is_primitive(base) {
-                return lay_below(bump, base, writes, depth);
+                return lay_below(arena, base, writes, depth);
             }
             if has_tree(writes) {
-                return lay_below(bump, None, writes, depth);
+                return lay_below(arena, None, writes, depth);
             }
             Ok(stored(base))
         }
@@ -94,7 +94,7 @@ fn lay<'a>(
 // key that a write goes on with.
 #[cycle(lay)]
 fn lay_below<'a>(
-    bump: &'a Bump,
+    arena: &'a Bump,
     base: Option<&'a Node>,
     writes: &[&'a Write],
     depth: usize,
@@ -108,13 +108,13 @@ fn lay_below<'a>(
     ensures { IfOk result (λ view. view
         ≡ non_null (proposed (node_or_null base.entry) (map (left depth) writes.now))) }
 {
-    let mut layer = Layer::new(bump, base)?;
+    let mut layer = Layer::new(arena, base)?;
     let mut start = 0;
     while start < writes.len() {
         let key = key_of(writes[start], depth);
         let end = run_end(writes, start, depth, key);
         let stored = stored_place(base, key);
-        let child = lay(bump, stored.child, &writes[start..end], depth + 1)?;
+        let child = lay(arena, stored.child, &writes[start..end], depth + 1)?;
         layer.push(key, stored, child)?;
         start = end;
     }

@@ -1,7 +1,6 @@
 //! Whether two views are the same tree.
-ghost use Rattle.std.specs.Prelude.{◌≡◌, ◌≢◌, [], None, slice_get};
+ghost use Rattle.std.specs.Prelude.{◌≡◌, ◌≢◌, None, slice_get};
 ghost use Rattle.std.specs.Bool.{OnTrue, OnFalse};
-ghost use Rattle.tree_model.specs.PathMap.{get};
 ghost use Rattle.json_tree.specs.Leaf.{primitive_of};
 ghost use Rattle.arena_snapshot.specs.Working.Change.{entries_of};
 

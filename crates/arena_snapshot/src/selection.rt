@@ -13,7 +13,7 @@ use json_tree::NoMemory;
 /// the arena at most, and in a patched tree a binary search for each. The children themselves are
 /// borrowed.
 pub fn kept<'a>(
-    bump: &'a Bump,
+    arena: &'a Bump,
     view: &View<'a>,
     indices: &[usize],
 ) -> Result<Option<View<'a>>, NoMemory>
@@ -21,7 +21,7 @@ pub fn kept<'a>(
     ensures { IfOk result (λ view_of_kept. view_of_kept ≡ non_null (kept view.now indices.now)) }
 {
     view.law();
-    let mut layer = Layer::new(bump, None)?;
+    let mut layer = Layer::new(arena, None)?;
     for index in indices {
         if let Some((key, child)) = view.entry_at(*index) {
             layer.push(key, stored_place(None, key), Some(child))?;

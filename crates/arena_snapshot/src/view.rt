@@ -1,5 +1,5 @@
 //! A view: a tree that is borrowed, or one of which a few children are other ones, or gone.
-ghost use Rattle.std.specs.Prelude.{◌≡◌, ◌≢◌, ◌↔◌, ◌≤◌, ◌∷◌, [], length, map, min, true, option_map, slice_get};
+ghost use Rattle.std.specs.Prelude.{◌≡◌, ◌≢◌, ◌↔◌, ◌≤◌, ◌∷◌, [], length, min, true, option_map, slice_get};
 ghost use Rattle.std.specs.FinMap as map_of;
 ghost use Rattle.tree_model.specs.PathMap.{get, sub, depth};
 ghost use Rattle.tree_model.specs.Tree.{null, non_null, count, children, child_keys, IsLawful};

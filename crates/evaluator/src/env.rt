@@ -4,6 +4,7 @@ ghost use Rattle.std.specs.Prelude.{◌≡◌, ◌≤◌};
 use crate::asked::Asked;
 use crate::identity::Identity;
 use crate::snapshot::Snapshot;
+use bumpalo::Bump;
 use path_capture::Captures;
 use std::marker::Model;
 
@@ -58,13 +59,14 @@ pub enum Access<'a> {
 }
 
 /// Where an expression is evaluated: what its variables and captures stand for. `root` is the root of
-/// the tree of `here`. (Reference, variables.)
+/// the tree of `here`. The captures are lent for as long as the expression is evaluated, since each place has
+/// others. (Reference, variables.)
 #[derive(Clone, Copy)]
-pub struct Env<'a> {
+pub struct Env<'a, 'c> {
     pub auth: Option<&'a Identity>,
     pub moment: Moment,
     /// `data`: the location of the rule, before what is asked.
     pub here: &'a Snapshot<'a>,
     pub access: Access<'a>,
-    pub captures: &'a Captures<'a>,
+    pub captures: &'c Captures<'a, &'a Bump>,
 }

@@ -3,7 +3,6 @@ ghost use Rattle.std.specs.Prelude.{◌≡◌, Some, None, IfOk, IsErrOf, true, 
 ghost use Rattle.std.specs.Option.{option_and_then};
 ghost use Rattle.expr_parser.specs.View.{view, view_argument, views, arguments};
 ghost use Rattle.expr_parser.specs.Tree.{argument, no_argument};
-ghost use Rattle.expr_types.specs.declared.sort.Sort.{Sort};
 ghost use Rattle.expr_types.specs.HasSort.{is_value};
 ghost use Rattle.evaluator.specs.Value as meanings;
 ghost use Rattle.evaluator.specs.Value.{as_value, sort_of_part, value, in_range};
@@ -12,7 +11,7 @@ ghost use Rattle.evaluator.specs.Calls.{call_of, called_with, called_with_two, c
 ghost use Rattle.evaluator.specs.Members.{member};
 ghost use Rattle.evaluator.specs.Env.{env_of, variable, capture, Suits};
 ghost use Rattle.evaluator.specs.Mean.{mean, given as meant, values};
-ghost use Rattle.evaluator.specs.Holds.{outcome, outcome_of};
+ghost use Rattle.evaluator.specs.Holds.{outcome};
 ghost use Rattle.evaluator.specs.Working.Parts.{value_of, part_of, argument_value};
 
 use crate::calls::{called_with, called_with_nothing, called_with_two, has_child, holder};
@@ -28,7 +27,7 @@ use json_tree::NoMemory;
 
 // What a part of an expression means.
 #[cycle(evaluation)]
-fn part<'a>(arena: &'a Bump, expr: &'a Expr, env: &Env<'a>) -> Result<Part<'a>, Stop>
+fn part<'a>(arena: &'a Bump, expr: &'a Expr, env: &Env<'a, '_>) -> Result<Part<'a>, Stop>
     ensures value { IfOk result (λ p. mean (view expr.now) (env_of env.now) ≡ Some (part_of p)) }
     ensures erred { IsErrOf result Stop.Erred → mean (view expr.now) (env_of env.now) ≡ None }
 {
@@ -66,14 +65,14 @@ fn number_part<'a>(number: u64) -> Result<Part<'a>, Stop>
     Ok(Part::Value(wanted(literal(number))?))
 }
 
-fn variable_part<'a>(name: &str, env: &Env<'a>) -> Result<Part<'a>, Stop>
+fn variable_part<'a>(name: &str, env: &Env<'a, '_>) -> Result<Part<'a>, Stop>
     ensures value { IfOk result (λ p. variable name.now (env_of env.now) ≡ Some (part_of p)) }
     ensures erred { IsErrOf result Stop.Erred → variable name.now (env_of env.now) ≡ None }
 {
     wanted(variable(name, env))
 }
 
-fn capture_part<'a>(name: &str, env: &Env<'a>) -> Result<Part<'a>, Stop>
+fn capture_part<'a>(name: &str, env: &Env<'a, '_>) -> Result<Part<'a>, Stop>
     ensures value { IfOk result (λ p. capture name.now (env_of env.now) ≡ Some (part_of p)) }
     ensures erred { IsErrOf result Stop.Erred → capture name.now (env_of env.now) ≡ None }
 {
@@ -86,7 +85,7 @@ fn member_part<'a>(
     arena: &'a Bump,
     receiver: &'a Expr,
     name: &str,
-    env: &Env<'a>,
+    env: &Env<'a, '_>,
 ) -> Result<Part<'a>, Stop>
     ensures value { IfOk result (λ p. option_and_then (member name.now) (mean (view receiver.now) (env_of env.now)) ≡ Some (part_of p)) }
     ensures erred { IsErrOf result Stop.Erred → option_and_then (member name.now) (mean (view receiver.now) (env_of env.now)) ≡ None }
@@ -97,7 +96,7 @@ fn member_part<'a>(
 
 // Its value as a part, where one is wanted.
 #[cycle(evaluation)]
-fn value_part<'a>(arena: &'a Bump, expr: &'a Expr, env: &Env<'a>) -> Result<Part<'a>, Stop>
+fn value_part<'a>(arena: &'a Bump, expr: &'a Expr, env: &Env<'a, '_>) -> Result<Part<'a>, Stop>
     ensures value { IfOk result (λ p. option_map value (as_value (mean (view expr.now) (env_of env.now))) ≡ Some (part_of p)) }
     ensures erred { IsErrOf result Stop.Erred → option_map value (as_value (mean (view expr.now) (env_of env.now))) ≡ None }
 {
@@ -106,7 +105,7 @@ fn value_part<'a>(arena: &'a Bump, expr: &'a Expr, env: &Env<'a>) -> Result<Part
 
 // Its value, where one is wanted. A text, as most arguments are, is no part that has to be looked into.
 #[cycle(evaluation)]
-fn value<'a>(arena: &'a Bump, expr: &'a Expr, env: &Env<'a>) -> Result<Value<'a>, Stop>
+fn value<'a>(arena: &'a Bump, expr: &'a Expr, env: &Env<'a, '_>) -> Result<Value<'a>, Stop>
     ensures value { IfOk result (λ v. as_value (mean (view expr.now) (env_of env.now)) ≡ Some (value_of v)) }
     ensures erred { IsErrOf result Stop.Erred → as_value (mean (view expr.now) (env_of env.now)) ≡ None }
 {
@@ -121,7 +120,7 @@ fn value<'a>(arena: &'a Bump, expr: &'a Expr, env: &Env<'a>) -> Result<Value<'a>
 
 // Whether it is true, where a boolean is wanted.
 #[cycle(evaluation)]
-fn truth<'a>(arena: &'a Bump, expr: &'a Expr, env: &Env<'a>) -> Result<bool, Stop>
+fn truth<'a>(arena: &'a Bump, expr: &'a Expr, env: &Env<'a, '_>) -> Result<bool, Stop>
     ensures value { IfOk result (λ b. as_truth (as_value (mean (view expr.now) (env_of env.now))) ≡ Some b) }
     ensures erred { IsErrOf result Stop.Erred → as_truth (as_value (mean (view expr.now) (env_of env.now))) ≡ None }
 {
@@ -131,7 +130,7 @@ fn truth<'a>(arena: &'a Bump, expr: &'a Expr, env: &Env<'a>) -> Result<bool, Sto
 
 // The other boolean.
 #[cycle(evaluation)]
-fn other_truth<'a>(arena: &'a Bump, expr: &'a Expr, env: &Env<'a>) -> Result<Part<'a>, Stop>
+fn other_truth<'a>(arena: &'a Bump, expr: &'a Expr, env: &Env<'a, '_>) -> Result<Part<'a>, Stop>
     ensures value { IfOk result (λ p. option_map value (other_truth (as_value (mean (view expr.now) (env_of env.now)))) ≡ Some (part_of p)) }
     ensures erred { IsErrOf result Stop.Erred → option_map value (other_truth (as_value (mean (view expr.now) (env_of env.now)))) ≡ None }
 {
@@ -141,7 +140,7 @@ fn other_truth<'a>(arena: &'a Bump, expr: &'a Expr, env: &Env<'a>) -> Result<Par
 
 // The number with the other sign.
 #[cycle(evaluation)]
-fn opposite<'a>(arena: &'a Bump, expr: &'a Expr, env: &Env<'a>) -> Result<Part<'a>, Stop>
+fn opposite<'a>(arena: &'a Bump, expr: &'a Expr, env: &Env<'a, '_>) -> Result<Part<'a>, Stop>
     ensures value { IfOk result (λ p. option_map value (option_and_then minus_of (as_value (mean (view expr.now) (env_of env.now)))) ≡ Some (part_of p)) }
     ensures erred { IsErrOf result Stop.Erred → option_map value (option_and_then minus_of (as_value (mean (view expr.now) (env_of env.now)))) ≡ None }
 {
@@ -157,7 +156,7 @@ fn operation<'a>(
     operator: Operator,
     left: Value<'a>,
     right: &'a Expr,
-    env: &Env<'a>,
+    env: &Env<'a, '_>,
 ) -> Result<Part<'a>, Stop>
     ensures value { IfOk result (λ p. option_map value (operated operator (Some (value_of left.entry)) (as_value (mean (view right.now) (env_of env.now)))) ≡ Some (part_of p)) }
     ensures erred { IsErrOf result Stop.Erred → option_map value (operated operator (Some (value_of left.entry)) (as_value (mean (view right.now) (env_of env.now)))) ≡ None }
@@ -172,7 +171,7 @@ fn operated<'a>(
     operator: Operator,
     left: Value<'a>,
     right: &'a Expr,
-    env: &Env<'a>,
+    env: &Env<'a, '_>,
 ) -> Result<Value<'a>, Stop>
     ensures value { IfOk result (λ v. operated operator (Some (value_of left.entry)) (as_value (mean (view right.now) (env_of env.now))) ≡ Some (value_of v)) }
     ensures erred { IsErrOf result Stop.Erred → operated operator (Some (value_of left.entry)) (as_value (mean (view right.now) (env_of env.now))) ≡ None }
@@ -204,7 +203,7 @@ fn call<'a>(
     receiver: Part<'a>,
     name: &str,
     list: &'a [Argument],
-    env: &Env<'a>,
+    env: &Env<'a, '_>,
 ) -> Result<Part<'a>, Stop>
     ensures value { IfOk result (λ p. call_of name.now (part_of receiver.entry) (meant (arguments list.now) (env_of env.now)) ≡ Some (part_of p)) }
     ensures erred { IsErrOf result Stop.Erred → call_of name.now (part_of receiver.entry) (meant (arguments list.now) (env_of env.now)) ≡ None }
@@ -228,7 +227,7 @@ fn call_with_second<'a>(
     name: &str,
     first: Value<'a>,
     second: &'a Argument,
-    env: &Env<'a>,
+    env: &Env<'a, '_>,
 ) -> Result<Part<'a>, Stop>
     ensures value { IfOk result (λ p. option_and_then (called_with_two name.now (part_of receiver.entry) (value_of first.entry)) (argument_value (view_argument second.now) (env_of env.now)) ≡ Some (part_of p)) }
     ensures erred { IsErrOf result Stop.Erred → option_and_then (called_with_two name.now (part_of receiver.entry) (value_of first.entry)) (argument_value (view_argument second.now) (env_of env.now)) ≡ None }
@@ -244,7 +243,7 @@ fn call_with<'a>(
     receiver: Part<'a>,
     name: &str,
     given: &'a Argument,
-    env: &Env<'a>,
+    env: &Env<'a, '_>,
 ) -> Result<Part<'a>, Stop>
     ensures value { IfOk result (λ p. call_of name.now (part_of receiver.entry) (meant (argument (view_argument given.now) no_argument) (env_of env.now)) ≡ Some (part_of p)) }
     ensures erred { IsErrOf result Stop.Erred → call_of name.now (part_of receiver.entry) (meant (argument (view_argument given.now) no_argument) (env_of env.now)) ≡ None }
@@ -265,7 +264,7 @@ fn call_listed<'a>(
     receiver: Part<'a>,
     name: &str,
     items: &'a [Expr],
-    env: &Env<'a>,
+    env: &Env<'a, '_>,
 ) -> Result<Part<'a>, Stop>
     ensures value { IfOk result (λ p. option_and_then (called_with_list name.now (part_of receiver.entry)) (values (views items.now) (env_of env.now)) ≡ Some (part_of p)) }
     ensures erred { IsErrOf result Stop.Erred → option_and_then (called_with_list name.now (part_of receiver.entry)) (values (views items.now) (env_of env.now)) ≡ None }
@@ -281,7 +280,7 @@ fn have_children<'a>(
     arena: &'a Bump,
     place: &'a Snapshot<'a>,
     items: &'a [Expr],
-    env: &Env<'a>,
+    env: &Env<'a, '_>,
 ) -> Result<bool, Stop>
     ensures value { IfOk result (λ b. option_and_then (have_children place.now) (values (views items.now) (env_of env.now)) ≡ Some b) }
     ensures erred { IsErrOf result Stop.Erred → option_and_then (have_children place.now) (values (views items.now) (env_of env.now)) ≡ None }
@@ -297,7 +296,11 @@ fn have_children<'a>(
 
 // The value of an argument, which a list is not.
 #[cycle(evaluation)]
-fn argument_of<'a>(arena: &'a Bump, given: &'a Argument, env: &Env<'a>) -> Result<Value<'a>, Stop>
+fn argument_of<'a>(
+    arena: &'a Bump,
+    given: &'a Argument,
+    env: &Env<'a, '_>,
+) -> Result<Value<'a>, Stop>
     ensures value { IfOk result (λ v. argument_value (view_argument given.now) (env_of env.now) ≡ Some (value_of v)) }
     ensures erred { IsErrOf result Stop.Erred → argument_value (view_argument given.now) (env_of env.now) ≡ None }
 {
@@ -325,7 +328,7 @@ pub enum Outcome {
 pub fn evaluate<'a>(
     arena: &'a Bump,
     checked: &'a Checked,
-    env: &Env<'a>,
+    env: &Env<'a, '_>,
 ) -> Result<Outcome, NoMemory>
     requires { Suits checked.now (env_of env.now) }
     ensures outcome { IfOk result (λ found. found ≡ outcome checked.now.tree (env_of env.now)) }

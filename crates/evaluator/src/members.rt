@@ -33,7 +33,7 @@ fn asked<'a>(access: Access<'a>) -> Option<Part<'a>>
 }
 
 #[tactic(auto, unfolding(crate::specs::Env::variable))]
-pub(crate) fn variable<'a>(name: &str, env: &Env<'a>) -> Option<Part<'a>>
+pub(crate) fn variable<'a>(name: &str, env: &Env<'a, '_>) -> Option<Part<'a>>
     ensures { option_map part_of result ≡ variable name.now (env_of env.now) }
 {
     match name {
@@ -47,7 +47,7 @@ pub(crate) fn variable<'a>(name: &str, env: &Env<'a>) -> Option<Part<'a>>
     }
 }
 
-pub(crate) fn capture<'a>(name: &str, env: &Env<'a>) -> Option<Part<'a>>
+pub(crate) fn capture<'a>(name: &str, env: &Env<'a, '_>) -> Option<Part<'a>>
     ensures { option_map part_of result ≡ capture name.now (env_of env.now) }
 {
     match env.captures.key_of(name) {

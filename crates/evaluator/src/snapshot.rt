@@ -36,7 +36,7 @@ pub(crate) enum Above<'a> {
 }
 
 impl<'a> Model for Snapshot<'a> {
-    ghost use Rattle.std.specs.Prelude.{length, ℕ, List};
+    ghost use Rattle.std.specs.Prelude.{length};
     ghost use Rattle.std.specs.Coded.{coded×, coded_list, coded_ℕ};
     ghost use Rattle.tree_model.specs.Tree.{tree_code};
     ghost use Rattle.evaluator.specs.Value as values;

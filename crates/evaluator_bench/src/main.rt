@@ -147,21 +147,16 @@ fn hold_often(alloc: Global, rule: &Checked, scene: &Scene, rounds: u32) -> Resu
     let mut held = 0u32;
     for _ in 0..rounds {
         let arena = Bump::new(alloc);
-        held = held.saturating_add(hold_in_a_round(alloc, &arena, rule, scene)?);
+        held = held.saturating_add(hold_in_a_round(&arena, rule, scene)?);
     }
     Ok(held)
 }
 
 // How often it holds at the message in one round.
-fn hold_in_a_round<'a>(
-    alloc: Global,
-    arena: &'a Bump,
-    rule: &'a Checked,
-    scene: &'a Scene,
-) -> Result<u32>
+fn hold_in_a_round<'a>(arena: &'a Bump, rule: &'a Checked, scene: &'a Scene) -> Result<u32>
     requires { IsFor ValidateRule (scene.now.name ∷ []) rule.now }
 {
-    let mut captures = Captures::new(alloc);
+    let mut captures = Captures::new(arena);
     captures.push(&scene.name, &scene.key)?;
     let here = message_of(arena, &scene.stored)?;
     let coming = message_of(arena, &scene.proposed)?;
@@ -180,7 +175,7 @@ fn holds<'a>(
     here: &'a Snapshot<'a>,
     coming: &'a Snapshot<'a>,
     who: &'a Identity,
-    captures: &Captures<'a>,
+    captures: &Captures<'a, &'a Bump>,
 ) -> bool
     requires { IsFor ValidateRule (names captures.now) rule.now }
 {

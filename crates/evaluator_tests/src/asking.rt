@@ -156,7 +156,7 @@ fn make_lobby(alloc: Global) -> Result<Lobby, Fail> {
 fn in_the_lobby(alloc: Global, text: &str) -> Result<Answer, Fail> {
     let lobby = make_lobby(alloc)?;
     match rule_of(alloc, &lobby, text)? {
-        Ok(rule) => of_a_write(alloc, &Bump::new(alloc), &rule, &lobby),
+        Ok(rule) => of_a_write(&Bump::new(alloc), &rule, &lobby),
         Err(why) => Ok(why),
     }
 }
@@ -170,15 +170,10 @@ fn rule_of(alloc: Global, lobby: &Lobby, text: &str) -> Result<Result<Checked, A
     Ok(checked(alloc, text, Place::ValidateRule, &captures))
 }
 
-fn of_a_write<'a>(
-    alloc: Global,
-    arena: &'a Bump,
-    rule: &'a Checked,
-    lobby: &'a Lobby,
-) -> Result<Answer, Fail>
+fn of_a_write<'a>(arena: &'a Bump, rule: &'a Checked, lobby: &'a Lobby) -> Result<Answer, Fail>
     requires { IsFor ValidateRule (lobby.now.name ∷ []) rule.now }
 {
-    let mut captures = Captures::new(alloc);
+    let mut captures = Captures::new(arena);
     captures.push(&lobby.name, &lobby.key)?;
     let here = lobby_of(arena, &lobby.stored)?;
     let coming = lobby_of(arena, &lobby.proposed)?;
@@ -192,7 +187,7 @@ fn write_at<'a>(
     here: &'a Snapshot<'a>,
     coming: &'a Snapshot<'a>,
     who: &'a Identity,
-    captures: &Captures<'a>,
+    captures: &Captures<'a, &'a Bump>,
 ) -> Answer
     requires { IsFor ValidateRule (names captures.now) rule.now }
 {

@@ -96,14 +96,13 @@ pub(crate) fn answer_to(
 ) -> Answer {
     let places = Bump::new(alloc);
     match checked(alloc, text, Place::ReadRule, &Captures::new(alloc)) {
-        Ok(rule) => in_a_read(alloc, &places, arena, &rule, scene, asked),
+        Ok(rule) => in_a_read(&places, arena, &rule, scene, asked),
         Err(why) => why,
     }
 }
 
 // What a rule comes to at the root.
 fn in_a_read<'a>(
-    alloc: Global,
     places: &'a Bump,
     arena: &'a Bump,
     rule: &'a Checked,
@@ -115,7 +114,7 @@ fn in_a_read<'a>(
     let Ok(here) = root_of(places, &scene.tree) else {
         return Answer::NoMemory;
     };
-    let captures = Captures::new(alloc);
+    let captures = Captures::new(places);
     read_at(arena, rule, here, asked, scene.who.as_ref(), &captures)
 }
 
@@ -126,7 +125,7 @@ fn read_at<'a>(
     here: &'a Snapshot<'a>,
     asked: &'a Asked<'a>,
     who: Option<&'a Identity>,
-    captures: &Captures<'a>,
+    captures: &Captures<'a, &'a Bump>,
 ) -> Answer
     requires { IsFor ReadRule (names captures.now) rule.now }
 {

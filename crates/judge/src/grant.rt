@@ -1,5 +1,5 @@
 //! Who may: the first location that no rule grants, and the rules that were asked for it.
-ghost use Rattle.std.specs.Prelude.{◌≡◌, ◌+◌, ◌≤◌, ◌<◌, ◌++◌, ◌∷◌, [], None, length, drop, map, option_map, option_and_then, IfOk, OnOk};
+ghost use Rattle.std.specs.Prelude.{◌≡◌, ◌+◌, ◌≤◌, ◌<◌, [], None, length, option_map, option_and_then, IfOk, OnOk};
 ghost use Rattle.tree_model.specs.declared.limits.TheConstants.{MAX_DEPTH as most_keys};
 ghost use Rattle.rules_reader.specs.Part.{texts, Pattern as Parts};
 ghost use Rattle.judge.specs.Answers.{why_of};
@@ -38,7 +38,7 @@ fn refused_below<'a>(
     asking: &Asking<'a>,
     spot: &Spot<'a>,
     locations: &'a [&'a Path],
-    captures: &mut Captures<'a>,
+    captures: &mut Captures<'a, &'a Bump>,
 ) -> Result<Option<Denial<'a>>, NoMemory>
     requires here { Stands asking.now spot.now captures.old }
     ensures denial { IfOk result (Refuses (granted_below (ask_of asking.now) (path_of spot.now)) (names_below (ask_of asking.now) (path_of spot.now)) (length (path_of spot.now)) (paths locations.now)) }
@@ -49,7 +49,7 @@ fn refused_below<'a>(
     while start < locations.len() {
         let location = locations[start];
         let Some(key) = key_at(location, depth) else {
-            return Ok(Some(denial_of(asking.bump, location)));
+            return Ok(Some(denial_of(asking.arena, location)));
         };
         let group = group(locations, start, depth, key);
         let denial = refused_at_key(asking, spot, key, group, captures)?;
@@ -68,7 +68,7 @@ fn refused_at_key<'a>(
     spot: &Spot<'a>,
     key: &'a Key,
     locations: &'a [&'a Path],
-    captures: &mut Captures<'a>,
+    captures: &mut Captures<'a, &'a Bump>,
 ) -> Result<Option<Denial<'a>>, NoMemory>
     requires here { Stands asking.now spot.now captures.old }
     requires begin { AllBegin key.now (length (path_of spot.now)) (paths locations.now) }
@@ -78,7 +78,7 @@ fn refused_at_key<'a>(
     ensures back { OnOk result (captures.new ≡ captures.old) }
 {
     let Some(below) = enter(asking, spot, key, captures)? else {
-        return Ok(Some(denial_of(asking.bump, locations[0])));
+        return Ok(Some(denial_of(asking.arena, locations[0])));
     };
     let denial = refused_from(asking, &below, locations, captures)?;
     leave(&below, captures);
@@ -93,7 +93,7 @@ pub(crate) fn refused_from<'a>(
     asking: &Asking<'a>,
     spot: &Spot<'a>,
     locations: &'a [&'a Path],
-    captures: &mut Captures<'a>,
+    captures: &mut Captures<'a, &'a Bump>,
 ) -> Result<Option<Denial<'a>>, NoMemory>
     requires here { Stands asking.now spot.now captures.old }
     ensures denial { IfOk result (Refuses (granted_from (ask_of asking.now) (path_of spot.now)) (names_from (ask_of asking.now) (path_of spot.now)) (length (path_of spot.now)) (paths locations.now)) }
@@ -116,7 +116,7 @@ pub(crate) fn granted_along<'a>(
     asking: &Asking<'a>,
     spot: &Spot<'a>,
     keys: &'a [Key],
-    captures: &mut Captures<'a>,
+    captures: &mut Captures<'a, &'a Bump>,
 ) -> Result<bool, NoMemory>
     requires here { Stands asking.now spot.now captures.old }
     requires room { length (path_of spot.now) + length keys.now ≤ most_keys }
@@ -135,13 +135,13 @@ pub(crate) fn granted_along<'a>(
 }
 
 // A location that no rule was asked for yet.
-fn denial_of<'a>(bump: &'a Bump, location: &'a Path) -> Denial<'a>
+fn denial_of<'a>(arena: &'a Bump, location: &'a Path) -> Denial<'a>
     ensures location { result.location.now ≡ location.now }
     ensures seen { result.seen.items ≡ [] }
 {
     Denial {
         location,
-        seen: Vec::new(bump),
+        seen: Vec::new(arena),
     }
 }
 

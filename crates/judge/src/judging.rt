@@ -28,26 +28,26 @@ use std::alloc::Global;
 
 /// Judges a read of a path with this query: granted exactly where a `.read` holds at the path or above
 /// it, else denied with all `.read` rules there. Of d keys, d · log w in nodes of w children, and each
-/// rule on the way once; the arena takes a place for each key, what expressions make and the list of the rules
-/// that denied, other memory the captures on the way and the names of a denial. Nothing grows with what is stored
+/// rule on the way once; the arena takes a place for each key, the captures on the way, what expressions make and
+/// the list of the rules that denied, other memory the names of a denial. Nothing grows with what is stored
 /// beside the path. (Guide "Core syntax", `.read` and `.write` rules cascade.)
 pub fn judge_read<'a>(
     alloc: Global,
-    bump: &'a Bump,
+    arena: &'a Bump,
     scene: &'a Scene<'a>,
     path: &'a Path,
     asked: &'a Asked<'a>,
 ) -> Result<Verdict, NoMemory>
     ensures { IfOk result (IsReadVerdict (scene_of scene.now) (asked_of asked.now) path.now) }
 {
-    let locations = alone(bump, path)?;
-    judge_alone(alloc, bump, scene, path, asked, locations.as_slice())
+    let locations = alone(arena, path)?;
+    judge_alone(alloc, arena, scene, path, asked, locations.as_slice())
 }
 
 // The same, of the path as the only one in a list.
 fn judge_alone<'a>(
     alloc: Global,
-    bump: &'a Bump,
+    arena: &'a Bump,
     scene: &'a Scene<'a>,
     path: &Path,
     asked: &'a Asked<'a>,
@@ -57,9 +57,9 @@ fn judge_alone<'a>(
     ensures { IfOk result (IsReadVerdict (scene_of scene.now) (asked_of asked.now) path.now) }
 {
     let _path = path;
-    let asking = reading(bump, scene, asked);
+    let asking = reading(arena, scene, asked);
     let spot = at_root(&asking)?;
-    let mut captures = Captures::new(alloc);
+    let mut captures = Captures::new(arena);
     let denial = refused_from(&asking, &spot, locations, &mut captures)?;
     match denial {
         Some(denial) => {
@@ -72,20 +72,19 @@ fn judge_alone<'a>(
 
 /// Whether a read of a path with this query is granted: what [`judge_read`] finds, where no names are
 /// wanted. Of d keys, d · log w in nodes of w children, and each rule on the way at most once, none behind
-/// the first that holds; the arena takes a place for each key and what expressions make, other memory the
-/// captures on the way. (Guide "Core syntax", `.read` and `.write` rules cascade.)
+/// the first that holds; the arena takes a place for each key, the captures on the way and what expressions
+/// make. (Guide "Core syntax", `.read` and `.write` rules cascade.)
 pub fn may_read<'a>(
-    alloc: Global,
-    bump: &'a Bump,
+    arena: &'a Bump,
     scene: &'a Scene<'a>,
     path: &'a Path,
     asked: &'a Asked<'a>,
 ) -> Result<bool, NoMemory>
     ensures { IfOk result (λ granted. (granted ≡ true) ↔ MayRead (scene_of scene.now) (asked_of asked.now) path.now) }
 {
-    let asking = reading(bump, scene, asked);
+    let asking = reading(arena, scene, asked);
     let spot = at_root(&asking)?;
-    let mut captures = Captures::new(alloc);
+    let mut captures = Captures::new(arena);
     granted_along(&asking, &spot, path.keys(), &mut captures)
 }
 
@@ -97,12 +96,12 @@ pub fn may_read<'a>(
 /// proposed tree, above a location or in what is written, and none behind the first that fails. Nothing
 /// grows with what is stored beside the locations: of n locations of d keys, n · log n comparisons, d ·
 /// log w steps for each, and what is written. The arena takes the list of locations, two places for each
-/// step, what expressions make and the list of the rules that denied; other memory the captures on the way, one
-/// list for both kinds of rules, and the names of a denial. (Guide "Core syntax", `.read` and `.write` rules
+/// step, the captures on the way, one list for both kinds of rules, what expressions make and the list of the
+/// rules that denied; other memory the names of a denial. (Guide "Core syntax", `.read` and `.write` rules
 /// cascade, `.validate` rules do not.)
 pub fn judge_write<'a>(
     alloc: Global,
-    bump: &'a Bump,
+    arena: &'a Bump,
     scene: &'a Scene<'a>,
     coming: Option<View<'a>>,
     writes: &'a [Write],
@@ -110,15 +109,15 @@ pub fn judge_write<'a>(
     requires { tree_or_null coming ≡ proposed (tree_or_null scene.now.old) writes.now }
     ensures { IfOk result (IsWriteVerdict (scene_of scene.now) (proposed (tree_or_null scene.now.old) writes.now) (map location writes.now)) }
 {
-    let mut locations = locations_of(bump, writes)?;
+    let mut locations = locations_of(arena, writes)?;
     sort(&mut locations);
-    judge_ordered(alloc, bump, scene, &coming, locations.as_slice())
+    judge_ordered(alloc, arena, scene, &coming, locations.as_slice())
 }
 
 // The same, of locations in their order.
 fn judge_ordered<'a>(
     alloc: Global,
-    bump: &'a Bump,
+    arena: &'a Bump,
     scene: &'a Scene<'a>,
     coming: &'a Option<View<'a>>,
     locations: &'a [&'a Path],
@@ -127,21 +126,21 @@ fn judge_ordered<'a>(
     ensures { IfOk result (IsWriteVerdict (scene_of scene.now) (tree_or_null coming.now) (paths locations.now)) }
 {
     law_of(coming);
-    let root = root_of(bump, coming)?;
+    let root = root_of(arena, coming)?;
     let asking = Asking {
-        bump,
+        arena,
         scene,
         access: Access::Writes(root),
         kind: Kind::Write,
     };
     let spot = at_root(&asking)?;
-    let mut captures = Captures::new(alloc);
+    let mut captures = Captures::new(arena);
     let refused = write_denied(alloc, &asking, &spot, locations, &mut captures)?;
     if let Some(verdict) = refused {
         return Ok(verdict);
     }
     let validating = Asking {
-        bump,
+        arena,
         scene,
         access: Access::Writes(root),
         kind: Kind::Validate,
@@ -159,7 +158,7 @@ fn write_denied<'a>(
     asking: &Asking<'a>,
     spot: &Spot<'a>,
     locations: &'a [&'a Path],
-    captures: &mut Captures<'a>,
+    captures: &mut Captures<'a, &'a Bump>,
 ) -> Result<Option<Verdict>, NoMemory>
     requires root { StandsAtRoot asking.now spot.now }
     requires kind { asking.now.kind ≡ WriteKind }
@@ -185,7 +184,7 @@ fn validate_denied<'a>(
     asking: &Asking<'a>,
     spot: &Spot<'a>,
     locations: &'a [&'a Path],
-    captures: &mut Captures<'a>,
+    captures: &mut Captures<'a, &'a Bump>,
 ) -> Result<Option<Verdict>, NoMemory>
     requires root { StandsAtRoot asking.now spot.now }
     requires kind { asking.now.kind ≡ ValidateKind }
@@ -209,14 +208,14 @@ fn validate_denied<'a>(
 }
 
 // What a read asks.
-fn reading<'a>(bump: &'a Bump, scene: &'a Scene<'a>, asked: &'a Asked<'a>) -> Asking<'a>
+fn reading<'a>(arena: &'a Bump, scene: &'a Scene<'a>, asked: &'a Asked<'a>) -> Asking<'a>
     ensures question { question_of result ≡ reading (scene_of scene.now) (asked_of asked.now) }
     ensures kind { result.kind ≡ ReadKind }
     ensures asks { AsksFor result.kind (question_of result).request }
     ensures root { access_of result.access ≡ access_at (question_of result).request [] }
 {
     Asking {
-        bump,
+        arena,
         scene,
         access: Access::Reads(asked),
         kind: Kind::Read,
@@ -230,7 +229,7 @@ fn at_root<'a>(asking: &Asking<'a>) -> Result<Spot<'a>, NoMemory>
     ensures { IfOk result (StandsAtRoot asking.now) }
 {
     let rule = asking.scene.rules.root();
-    let here = root_of(asking.bump, &asking.scene.old)?;
+    let here = root_of(asking.arena, &asking.scene.old)?;
     Ok(Spot {
         rule,
         here,
@@ -249,33 +248,33 @@ fn law_of(view: &Option<View>)
 }
 
 // The root of a tree, in the arena.
-fn root_of<'a>(bump: &'a Bump, view: &Option<View<'a>>) -> Result<&'a Snapshot<'a>, NoMemory>
+fn root_of<'a>(arena: &'a Bump, view: &Option<View<'a>>) -> Result<&'a Snapshot<'a>, NoMemory>
     ensures { IfOk result (λ root. root.now ≡ (tree_or_null view.now, [])) }
 {
     let view = match view {
         Some(view) => Some(view.share()),
         None => None,
     };
-    Ok(bump.try_alloc(Snapshot::root(view))?)
+    Ok(arena.try_alloc(Snapshot::root(view))?)
 }
 
 // One location, as a list of locations.
-fn alone<'a>(bump: &'a Bump, path: &'a Path) -> Result<Vec<&'a Path, &'a Bump>, NoMemory>
+fn alone<'a>(arena: &'a Bump, path: &'a Path) -> Result<Vec<&'a Path, &'a Bump>, NoMemory>
     ensures { IfOk result (λ locations. paths locations.items ≡ path.now ∷ []) }
 {
-    let mut locations = Vec::with_capacity(bump, 1)?;
+    let mut locations = Vec::with_capacity(arena, 1)?;
     locations.push(path)?;
     Ok(locations)
 }
 
 // The location of each write.
 fn locations_of<'a>(
-    bump: &'a Bump,
+    arena: &'a Bump,
     writes: &'a [Write],
 ) -> Result<Vec<&'a Path, &'a Bump>, NoMemory>
     ensures { IfOk result (λ locations. paths locations.items ≡ map location writes.now) }
 {
-    let mut locations = Vec::with_capacity(bump, writes.len())?;
+    let mut locations = Vec::with_capacity(arena, writes.len())?;
     for write in writes {
         locations.push(write.at())?;
     }

@@ -18,7 +18,7 @@ use rules_reader::{Kind, RuleNode};
 /// What is asked: the rules of which kind, in which scene, and for which access at the root.
 #[derive(Clone, Copy)]
 pub(crate) struct Asking<'a> {
-    pub(crate) bump: &'a Bump,
+    pub(crate) arena: &'a Bump,
     pub(crate) scene: &'a Scene<'a>,
     pub(crate) access: Access<'a>,
     pub(crate) kind: Kind,
@@ -47,7 +47,7 @@ pub(crate) fn coming<'a>(spot: &Spot<'a>) -> Option<&'a View<'a>>
 pub(crate) fn answer<'a>(
     asking: &Asking<'a>,
     spot: &Spot<'a>,
-    captures: &Captures<'a>,
+    captures: &Captures<'a, &'a Bump>,
 ) -> Result<Option<Outcome>, NoMemory>
     requires { Stands asking.now spot.now captures.now }
     ensures { IfOk result (λ answer. option_map (λ a. (spot.now.rule.now.at, a)) answer ≡ ask_of asking.now (path_of spot.now)) }
@@ -62,7 +62,7 @@ pub(crate) fn answer<'a>(
         access: spot.access,
         captures,
     };
-    let outcome = evaluate(asking.bump, rule, &env)?;
+    let outcome = evaluate(asking.arena, rule, &env)?;
     Ok(Some(outcome))
 }
 
@@ -72,7 +72,7 @@ pub(crate) fn enter<'a>(
     asking: &Asking<'a>,
     spot: &Spot<'a>,
     key: &'a Key,
-    captures: &mut Captures<'a>,
+    captures: &mut Captures<'a, &'a Bump>,
 ) -> Result<Option<Spot<'a>>, NoMemory>
     requires here { Stands asking.now spot.now captures.old }
     requires room { length (path_of spot.now) < most_keys }
@@ -82,14 +82,14 @@ pub(crate) fn enter<'a>(
     let Some(rule) = spot.rule.step(text) else {
         return Ok(None);
     };
-    let here = spot.here.below(asking.bump, text)?;
-    let access = access_below(asking.bump, spot.access, key)?;
+    let here = spot.here.below(asking.arena, text)?;
+    let access = access_below(asking.arena, spot.access, key)?;
     bind(rule, key, captures)?;
     Ok(Some(Spot { rule, here, access }))
 }
 
 /// Takes back what the spot has bound.
-pub(crate) fn leave<'a>(spot: &Spot<'a>, captures: &mut Captures<'a>)
+pub(crate) fn leave<'a>(spot: &Spot<'a>, captures: &mut Captures<'a, &'a Bump>)
     ensures { (front : List (List ℕ × KeyBytes)) (key : KeyBytes) → captures.old ≡ front ++ last_bound spot.now.rule.now.at key → captures.new ≡ front }
 {
     if own_capture(spot.rule).is_some() {
@@ -98,7 +98,7 @@ pub(crate) fn leave<'a>(spot: &Spot<'a>, captures: &mut Captures<'a>)
 }
 
 fn access_below<'a>(
-    bump: &'a Bump,
+    arena: &'a Bump,
     access: Access<'a>,
     key: &'a Key,
 ) -> Result<Access<'a>, NoMemory>
@@ -107,12 +107,16 @@ fn access_below<'a>(
 {
     match access {
         Access::Reads(asked) => Ok(Access::Reads(asked)),
-        Access::Writes(snapshot) => Ok(Access::Writes(snapshot.below(bump, key.text())?)),
+        Access::Writes(snapshot) => Ok(Access::Writes(snapshot.below(arena, key.text())?)),
     }
 }
 
 // Binds the capture that the node's own part is, if it is one, to the key.
-fn bind<'a>(rule: &'a RuleNode, key: &'a Key, captures: &mut Captures<'a>) -> Result<(), NoMemory>
+fn bind<'a>(
+    rule: &'a RuleNode,
+    key: &'a Key,
+    captures: &mut Captures<'a, &'a Bump>,
+) -> Result<(), NoMemory>
     ensures { OnOk result (captures.new ≡ captures.old ++ last_bound rule.now.at key.now) }
 {
     if let Some(name) = own_capture(rule) {

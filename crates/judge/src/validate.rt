@@ -1,5 +1,5 @@
 //! Validation: the first failing place.
-ghost use Rattle.std.specs.Prelude.{◌≡◌, ◌≤◌, ◌<◌, ◌++◌, ◌∷◌, [], length, map, reverse, IfOk, OnOk};
+ghost use Rattle.std.specs.Prelude.{◌≡◌, ◌≤◌, ◌<◌, ◌∷◌, length, map, reverse, IfOk, OnOk};
 ghost use Rattle.tree_model.specs.declared.limits.TheConstants.{MAX_DEPTH as most_keys};
 ghost use Rattle.tree_model.specs.Tree.{IsLawful};
 ghost use Rattle.rules_reader.specs.declared.kind.Kind.TheVariants.{Validate as ValidateKind};
@@ -29,7 +29,7 @@ pub(crate) struct Failure<'a> {
 fn failing<'a>(
     asking: &Asking<'a>,
     spot: &Spot<'a>,
-    captures: &Captures<'a>,
+    captures: &Captures<'a, &'a Bump>,
 ) -> Result<Option<Failure<'a>>, NoMemory>
     requires { Stands asking.now spot.now captures.now }
     ensures { IfOk result (FaultsHere (ask_of asking.now) (path_of spot.now)) }
@@ -37,7 +37,7 @@ fn failing<'a>(
     let answer = answer(asking, spot, captures)?;
     match why_of(answer) {
         Some(why) => Ok(Some(Failure {
-            keys: Vec::new(asking.bump),
+            keys: Vec::new(asking.arena),
             pattern: spot.rule.pattern(),
             why,
         })),
@@ -51,7 +51,7 @@ fn failing<'a>(
 fn everywhere<'a>(
     asking: &Asking<'a>,
     spot: &Spot<'a>,
-    captures: &mut Captures<'a>,
+    captures: &mut Captures<'a, &'a Bump>,
 ) -> Result<Option<Failure<'a>>, NoMemory>
     requires here { Stands asking.now spot.now captures.old }
     requires kind { asking.now.kind ≡ ValidateKind }
@@ -88,7 +88,7 @@ fn everywhere_below<'a>(
     asking: &Asking<'a>,
     spot: &Spot<'a>,
     key: &'a Key,
-    captures: &mut Captures<'a>,
+    captures: &mut Captures<'a, &'a Bump>,
 ) -> Result<Option<Failure<'a>>, NoMemory>
     requires here { Stands asking.now spot.now captures.old }
     requires kind { asking.now.kind ≡ ValidateKind }
@@ -114,7 +114,7 @@ pub(crate) fn towards<'a>(
     asking: &Asking<'a>,
     spot: &Spot<'a>,
     locations: &'a [&'a Path],
-    captures: &mut Captures<'a>,
+    captures: &mut Captures<'a, &'a Bump>,
 ) -> Result<Option<Failure<'a>>, NoMemory>
     requires here { Stands asking.now spot.now captures.old }
     requires kind { asking.now.kind ≡ ValidateKind }
@@ -165,7 +165,7 @@ fn towards_below<'a>(
     spot: &Spot<'a>,
     key: &'a Key,
     locations: &'a [&'a Path],
-    captures: &mut Captures<'a>,
+    captures: &mut Captures<'a, &'a Bump>,
 ) -> Result<Option<Failure<'a>>, NoMemory>
     requires here { Stands asking.now spot.now captures.old }
     requires kind { asking.now.kind ≡ ValidateKind }

@@ -1,11 +1,8 @@
 //! What the `.read` rules on the way to a path look at, found out without an evaluation.
-ghost use Rattle.std.specs.Prelude.{◌≡◌, ◌+◌, ◌≤◌, length, option_map, IfSome, IfNone};
+ghost use Rattle.std.specs.Prelude.{◌≡◌, ◌+◌, ◌≤◌, length, IfSome, IfNone};
 ghost use Rattle.tree_model.specs.declared.limits.TheConstants.{MAX_DEPTH as most_keys};
 ghost use Rattle.tree_model.specs.Path.{Path as Keys};
-ghost use Rattle.tree_model.specs.PathMap.{get};
-ghost use Rattle.expr_types.specs.Checked.{Checked};
-ghost use Rattle.rules_reader.specs.Book.{Book, stated_for};
-ghost use Rattle.rules_reader.specs.declared.kind.Kind.TheVariants.{Read};
+ghost use Rattle.rules_reader.specs.Book.{Book};
 ghost use Rattle.rules_reader.specs.Place.{HasOneCapture};
 ghost use Rattle.rules_reader.proofs.Reached.{Reached};
 ghost use Rattle.judge.specs.Watching.{IsWatched, LooksElsewhere};

@@ -126,13 +126,45 @@ fn paths_are_joined(rt: HostRuntime) -> Result<(), Fail> {
     Ok(())
 }
 
+const LONG_BELOW: [LongRow; 5] = [
+    ("", "/a", 31, " b", "32 keys"),
+    ("", "/a", 32, " b", "TooDeep"),
+    ("/b ", "a/", 31, "", "32 keys"),
+    ("/b ", "a/", 32, "", "TooDeep"),
+    ("/b ", "a/", 32, "a.", "BadPath"),
+];
+
+// The path of the second of two texts below that of the first, or its fault.
+fn below(alloc: Global, texts: &str) -> Result<String, Fail> {
+    let (text, other) = texts.split_once(' ').ok_or("one text")?;
+    match Path::parse(alloc, text)?.parse_below(alloc, other) {
+        Ok(path) if path.keys().len() < 4 => Ok(path.print(alloc)?),
+        Ok(path) => Ok(format!(in alloc; "{} keys", path.keys().len())?),
+        Err(fault) => Ok(format!(in alloc; "{fault:?}")?),
+    }
+}
+
+#[test]
+fn paths_below_others(rt: HostRuntime) -> Result<(), Fail> {
+    let other = first_other(rt.alloc(), &JOINED, below)?;
+    assert_eq!(rt; other.as_str(), "");
+    let other = first_other_of_long(rt.alloc(), &LONG_BELOW, below)?;
+    assert_eq!(rt; other.as_str(), "");
+    Ok(())
+}
+
 // ---- patterns
 
-const NAMES: [Row; 9] = [
+const NAMES: [Row; 11] = [
     ("r", "r"),
     ("_", "_"),
     ("Room_2", "Room_2"),
     ("true", "true"),
+    ("a_name_of_24_bytes_in_it", "a_name_of_24_bytes_in_it"),
+    (
+        "a_name_that_is_longer_than_what_lies_in_it",
+        "a_name_that_is_longer_than_what_lies_in_it",
+    ),
     ("", "BadName"),
     ("2r", "BadName"),
     ("$r", "BadName"),
@@ -163,12 +195,17 @@ fn part_of(alloc: Global, text: &str) -> Result<Part, Fail> {
     }
 }
 
-// The pattern of these texts, with slashes between.
+// The pattern of these texts, with slashes between. A key is put behind the others, and a capture makes a
+// longer pattern.
 fn pattern_of(alloc: Global, texts: &str) -> Result<Pattern, Fail> {
     let mut pattern = Pattern::new(alloc);
     for text in texts.split('/') {
-        if !text.is_empty() {
-            pattern.push(part_of(alloc, text)?)?;
+        if text.is_empty() {
+            continue;
+        }
+        match part_of(alloc, text)? {
+            Part::Literal(key) => pattern.push(Part::Literal(key))?,
+            capture => pattern = pattern.below(&capture)?,
         }
     }
     Ok(pattern)

@@ -3,7 +3,7 @@ ghost use Rattle.std.specs.Prelude.{◌≡◌, ◌&&◌, true, not, is_some, opt
 ghost use Rattle.std.specs.Option.{option_map_or};
 ghost use Rattle.tree_model.specs.Primitive.{is_whole, is_primitive};
 ghost use Rattle.json_tree.specs.Leaf.{primitive_of};
-ghost use Rattle.listeners.specs.Query.{is_lawful_order, IsLawfulQuery};
+ghost use Rattle.listeners.specs.Query.{IsLawfulQuery};
 ghost use Rattle.listeners.specs.Working.Parts.{order_seen, first_of, last_of};
 ghost use Rattle.listeners.specs.Working.Said.{order_said, bound_said, query_said};
 

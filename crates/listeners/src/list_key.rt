@@ -1,5 +1,5 @@
 //! A key, with its place in the order of a list's keys.
-ghost use Rattle.std.specs.Prelude.{◌≡◌, ℤ, Option};
+ghost use Rattle.std.specs.Prelude.{◌≡◌, Option};
 ghost use Rattle.listeners.specs.Order.{numbered_cmp, length_cmp};
 ghost use Rattle.listeners.specs.Working.Items.{key_seen};
 ghost use Rattle.listeners.specs.Working.Ranks.{keyed, keyed_cmp};

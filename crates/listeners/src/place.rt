@@ -2,7 +2,7 @@
 ghost use Rattle.std.specs.Prelude.{◌≡◌};
 ghost use Rattle.json_tree.specs.Leaf.{primitive_of};
 ghost use Rattle.path_capture.specs.Write.{tree_or_null};
-ghost use Rattle.listeners.specs.Order.{bool_cmp, primitive_cmp, place_cmp};
+ghost use Rattle.listeners.specs.Order.{primitive_cmp, place_cmp};
 ghost use Rattle.listeners.specs.Selection.{place_of};
 ghost use Rattle.listeners.specs.Working.Items.{place_seen};
 

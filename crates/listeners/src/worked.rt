@@ -1,6 +1,5 @@
 //! Worked values, each computed by the checker: which keys and values come first, and what small queries select.
-ghost use Rattle.std.specs.Prelude.{◌≡◌, ◌∷◌, [], true, false, codes, pos, negsuc, Some, None};
-ghost use Rattle.std.specs.declared.cmp.Ordering.{Ordering};
+ghost use Rattle.std.specs.Prelude.{◌≡◌, ◌∷◌, [], true, false, codes, pos, negsuc, Some};
 ghost use Rattle.std.specs.declared.cmp.Ordering.TheVariants.{Less, Equal};
 ghost use Rattle.tree_model.specs.Primitive.{truth, whole, words};
 ghost use Rattle.tree_model.specs.Tree.{null};

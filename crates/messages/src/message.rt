@@ -529,10 +529,8 @@ fn write_below(alloc: Global, path: &Path, name: &str, value: &Value) -> Result<
 pub(crate) fn path_below(alloc: Global, path: &Path, name: &str) -> Result<Path, MessageFault>
     ensures { Tells (λ at. at) result (path_below path.now name.now) }
 {
-    let mut below = path_of(alloc, name)?;
-    let mut at = path.copy(alloc)?;
-    match at.join(&mut below) {
-        Ok(()) => Ok(at),
+    match path.parse_below(alloc, name) {
+        Ok(at) => Ok(at),
         Err(fault) => Err(fault_of_path(fault)),
     }
 }

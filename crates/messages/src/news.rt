@@ -13,8 +13,9 @@ use json_tree::{NoMemory, write_json};
 use rtdb_core::{News, Notice, Sight, Tiding, Tidings, What};
 use std::alloc::Global;
 
-/// How many bytes an answer has room for at first, which most don't fill.
-pub(crate) const FIRST_ROOM: usize = 192;
+/// How many bytes an answer has room for at first, which most don't fill: so that it takes one growth, and
+/// one that allocators keep at hand.
+pub(crate) const FIRST_ROOM: usize = 1_000;
 
 /// The text of news, in one pass over the notices and two over each tree.
 pub(crate) fn write_news(alloc: Global, news: &News) -> Result<Vec<u8>, NoMemory>

@@ -12,7 +12,10 @@ use path_capture::{Path, Pattern};
 use rtdb_core::{Named, Refusal, Why};
 use std::alloc::{AllocError, Global};
 
-/// Writes a refusal. It takes memory for its text, and for that of a place and of each pattern.
+// For how many bytes the text of a pattern has room at first.
+const PATTERN_ROOM: usize = 128;
+
+/// Writes a refusal. It takes memory for its text, for that of a place, and once for those of all patterns.
 pub(crate) fn put_refusal(
     alloc: Global,
     out: &mut Writer,
@@ -31,7 +34,7 @@ pub(crate) fn put_refusal(
         Refusal::DuplicateId => put_plain(out, Code::DuplicateId),
         Refusal::TooManyListeners => put_plain(out, Code::TooManyListeners),
         Refusal::NoListener => put_plain(out, Code::NoListener),
-        Refusal::ReadDenied(named) => put_read_denied(out, named.as_slice()),
+        Refusal::ReadDenied(named) => put_read_denied(alloc, out, named.as_slice()),
         Refusal::WriteDenied(at, named) => put_write_denied(alloc, out, at, named.as_slice()),
         Refusal::ValidateDenied(at, pattern, why) => {
             put_validate_denied(alloc, out, at, pattern, *why)
@@ -51,13 +54,13 @@ pub(crate) fn put_plain(out: &mut Writer, code: Code) -> Result<(), NoMemory>
     Ok(out.end_object()?)
 }
 
-fn put_read_denied(out: &mut Writer, named: &[Named]) -> Result<(), NoMemory>
+fn put_read_denied(alloc: Global, out: &mut Writer, named: &[Named]) -> Result<(), NoMemory>
     ensures before { out.new.before ≡ out.old.before }
     ensures tokens { OnOk result (out.new.tokens ≡ out.old.tokens ++ json_tokens (outline (read_denied_data named.now))) }
 {
     out.begin_object()?;
     put_members(out, Code::ReadDenied)?;
-    end_with_rules(out, named)
+    end_with_rules(alloc, out, named)
 }
 
 fn put_write_denied(
@@ -74,7 +77,7 @@ fn put_write_denied(
     out.key("at")?;
     out.string(place.as_str())?;
     put_members(out, Code::WriteDenied)?;
-    end_with_rules(out, named)
+    end_with_rules(alloc, out, named)
 }
 
 fn put_validate_denied(
@@ -110,12 +113,12 @@ fn put_members(out: &mut Writer, code: Code) -> Result<(), AllocError>
 }
 
 // The rules that a denial names, and its end.
-fn end_with_rules(out: &mut Writer, named: &[Named]) -> Result<(), NoMemory>
+fn end_with_rules(alloc: Global, out: &mut Writer, named: &[Named]) -> Result<(), NoMemory>
     ensures before { out.new.before ≡ out.old.before }
     ensures tokens { OnOk result (out.new.tokens ≡ out.old.tokens ++ ending_with_rules named.now) }
 {
     out.key("rules")?;
-    put_rules(out, named)?;
+    put_rules(alloc, out, named)?;
     Ok(out.end_object()?)
 }
 
@@ -131,22 +134,25 @@ fn end_with_why(out: &mut Writer, pattern: &str, why: Why) -> Result<(), AllocEr
     out.end_object()
 }
 
-fn put_rules(out: &mut Writer, named: &[Named]) -> Result<(), NoMemory>
+fn put_rules(alloc: Global, out: &mut Writer, named: &[Named]) -> Result<(), NoMemory>
     ensures before { out.new.before ≡ out.old.before }
     ensures tokens { OnOk result (out.new.tokens ≡ out.old.tokens ++ json_tokens (outline (rules_data named.now))) }
 {
+    let mut pattern = String::with_capacity(alloc, PATTERN_ROOM)?;
     out.begin_array()?;
     for rule in named {
-        put_named(out, rule)?;
+        put_named(out, &mut pattern, rule)?;
     }
     Ok(out.end_array()?)
 }
 
-fn put_named(out: &mut Writer, named: &Named) -> Result<(), NoMemory>
+// Writes a rule, with its pattern in place of what the text has.
+fn put_named(out: &mut Writer, pattern: &mut String, named: &Named) -> Result<(), NoMemory>
     ensures before { out.new.before ≡ out.old.before }
     ensures tokens { OnOk result (out.new.tokens ≡ out.old.tokens ++ named_tokens named.now) }
 {
-    let pattern = named.pattern.print()?;
+    pattern.clear();
+    named.pattern.append_to(pattern)?;
     out.begin_object()?;
     Ok(end_with_why(out, pattern.as_str(), named.why)?)
 }

@@ -4,7 +4,7 @@ use Rattle.std.specs.Prelude.{filter, codes, flat_map}
 use Rattle.std.specs.List.{list_all}
 use Rattle.std.specs.Cmp.{first_so, second_so}
 use Rattle.std.proofs.lemmas.Bool.{false≢true}
-use Rattle.std.proofs.lemmas.List.{take_more, take_all, append-nil, length-append, length-take-le}
+use Rattle.std.proofs.lemmas.List.{take_more, take_all, append-nil, append_assoc, length-append, length-take-le}
 use Rattle.std.proofs.lemmas.List.Elements.{filter-append}
 use Rattle.std.proofs.lemmas.List.Folds.{list_all_at, list_all-append}
 use Rattle.std.proofs.lemmas.List.Splits.{length-slice_split, slice_split_none, slice_split_at}
@@ -13,7 +13,7 @@ use Rattle.tree_model.specs.declared.limits.TheConstants.{MAX_DEPTH}
 use Rattle.tree_model.specs.Key.{Key, is_key}
 use Rattle.tree_model.specs.Path.{Path, is_path}
 use Rattle.tree_model.proofs.Choices.{both_so}
-use Rattle.tree_model.proofs.Lawful.{path_keys}
+use Rattle.tree_model.proofs.Lawful.{path_keys, path_length}
 use Rattle.path_capture.specs.Path.{pieces, segments, printed}
 use Rattle.path_capture.proofs.Signs.{key_without_slash, key_is_not_empty}
 
@@ -67,31 +67,31 @@ Counted-with ps n piece count at h lawful so_far =
       is = ap (λ x. x + 1) so_far.is ∙ sym (length-append (named (take n ps)) (piece ∷ [])) ∙ ap length (sym more);
     }
 
--- the keys so far are the segments among the first n pieces, all of them lawful, and not too many
-pub record Keyed (ps : List Key) (n : ℕ) (keys : List Key) : Type 0 where
-  pub is : keys ≡ named (take n ps)
+-- the keys so far are those before and the segments among the first n pieces, all of them lawful, and not too many
+pub record Keyed (front ps : List Key) (n : ℕ) (keys : List Key) : Type 0 where
+  pub is : keys ≡ front ++ named (take n ps)
   pub lawful : list_all is_key keys ≡ true
   pub room : length keys ≤ MAX_DEPTH
 
-pub Keyed-none : (ps : List Key) → Keyed ps 0 []
-Keyed-none ps = record { is = refl; lawful = refl; room = omega arith }
+pub Keyed-none : (front ps : List Key) → is_path front ≡ true → Keyed front ps 0 front
+Keyed-none front ps h = record { is = sym (append-nil front); lawful = path_keys front h; room = path_length front h }
 
-pub Keyed-past : (ps : List Key) (n : ℕ) (piece : Key) (keys : List Key) → IsPieceAt ps n piece → (length piece == 0) ≡ true → Keyed ps n keys → Keyed ps (n + 1) keys
-Keyed-past ps n piece keys at h so_far =
-    record { is = so_far.is ∙ sym (named_past ps n piece at h); lawful = so_far.lawful; room = so_far.room }
+pub Keyed-past : (front ps : List Key) (n : ℕ) (piece : Key) (keys : List Key) → IsPieceAt ps n piece → (length piece == 0) ≡ true → Keyed front ps n keys → Keyed front ps (n + 1) keys
+Keyed-past front ps n piece keys at h so_far =
+    record { is = so_far.is ∙ ap (λ rest. front ++ rest) (sym (named_past ps n piece at h)); lawful = so_far.lawful; room = so_far.room }
 
-pub Keyed-with : (ps : List Key) (n : ℕ) (piece : Key) (keys : List Key) → IsPieceAt ps n piece → (length piece == 0) ≡ false → is_key piece ≡ true → length keys < MAX_DEPTH → Keyed ps n keys → Keyed ps (n + 1) (keys ++ piece ∷ [])
-Keyed-with ps n piece keys at h lawful less so_far =
+pub Keyed-with : (front ps : List Key) (n : ℕ) (piece : Key) (keys : List Key) → IsPieceAt ps n piece → (length piece == 0) ≡ false → is_key piece ≡ true → length keys < MAX_DEPTH → Keyed front ps n keys → Keyed front ps (n + 1) (keys ++ piece ∷ [])
+Keyed-with front ps n piece keys at h lawful less so_far =
     let longer = length-append keys (piece ∷ []) in
     record {
-      is = ap (λ front. front ++ piece ∷ []) so_far.is ∙ sym (named_with ps n piece at h);
+      is = ap (λ all. all ++ piece ∷ []) so_far.is ∙ append_assoc front (named (take n ps)) (piece ∷ []) ∙ ap (λ rest. front ++ rest) (sym (named_with ps n piece at h));
       lawful = list_all-append is_key keys (piece ∷ []) ∙ both_so _ _ so_far.lawful (both_so _ _ lawful refl);
       room = omega arith;
     }
 
--- after all pieces, the keys are the segments, a lawful path
-pub keyed_all : (ps : List Key) (n : ℕ) (keys : List Key) → n ≡ length ps → Keyed ps n keys → keys ≡ named ps
-keyed_all ps n keys h so_far = so_far.is ∙ ap named (take_all n ps (omega arith))
+-- after all pieces, the keys are those before and the segments, a lawful path
+pub keyed_all : (front ps : List Key) (n : ℕ) (keys : List Key) → n ≡ length ps → Keyed front ps n keys → keys ≡ front ++ named ps
+keyed_all front ps n keys h so_far = so_far.is ∙ ap (λ taken. front ++ named taken) (take_all n ps (omega arith))
 
 -- there are no more segments than bytes, and one
 pub Counted-fits : (text : List ℕ) (n count : ℕ) → n < length (pieces text) → Counted (pieces text) n count → count ≤ length text

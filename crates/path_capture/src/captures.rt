@@ -1,10 +1,10 @@
 //! What the captures of a pattern stand for, at one path.
-ghost use Rattle.std.specs.Prelude.{◌≡◌, ◌++◌, [], ◌∷◌, true, length, slice_get, option_map, OnOk, OnErr, MatchOption};
+ghost use Rattle.std.specs.Prelude.{◌≡◌, ◌++◌, [], ◌∷◌, length, slice_get, option_map, OnOk, OnErr, MatchOption};
 ghost use Rattle.path_capture.specs.Captures.{bound, key_named};
 
 use crate::name::CaptureName;
 use json_tree::{Key, NoMemory};
-use std::alloc::Global;
+use std::alloc::{Allocator, Global};
 use std::marker::Model;
 
 /// A capture's name, without its `$`, and the key that it stands for.
@@ -16,14 +16,14 @@ pub struct Binding<'a> {
 
 /// The captures of a pattern and the keys that they stand for, from the root down: a list of pairs of
 /// name and key, which borrows both. It keeps the allocator that it was made with, for all that it
-/// takes later. Contracts see the list of pairs. (Guide "Core syntax", using `$` variables to capture
-/// path segments.)
+/// takes later: an arena is one too, for captures that are bound at each request. Contracts see the
+/// list of pairs. (Guide "Core syntax", using `$` variables to capture path segments.)
 #[derive(Debug, Drop)]
-pub struct Captures<'a> {
-    held: Vec<Binding<'a>>,
+pub struct Captures<'a, A: Allocator = Global> {
+    held: Vec<Binding<'a>, A>,
 }
 
-impl<'a> Model for Captures<'a> {
+impl<'a, A: Allocator> Model for Captures<'a, A> {
     ghost use Rattle.std.specs.Prelude.{ℕ, List, map};
     ghost use Rattle.tree_model.specs.Key.{Key};
     ghost use Rattle.path_capture.specs.Captures.{bound};
@@ -33,9 +33,9 @@ impl<'a> Model for Captures<'a> {
     ghost view = { λ captures. map bound captures.held.items };
 }
 
-impl<'a> Captures<'a> {
+impl<'a, A: Allocator> Captures<'a, A> {
     /// No captures. It takes no memory.
-    pub fn new(alloc: Global) -> Captures<'a>
+    pub fn new(alloc: A) -> Captures<'a, A>
         ensures { result ≡ [] }
     {
         Captures {

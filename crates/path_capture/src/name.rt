@@ -4,6 +4,7 @@ ghost use Rattle.std.specs.List.{list_all};
 ghost use Rattle.path_capture.specs.Name.{is_name, is_name_start, is_name_byte};
 ghost use Rattle.path_capture.specs.declared.name.NameFault.TheVariants.{NoMemory as no_memory};
 
+use arrayvec::ArrayString;
 use json_tree::NoMemory;
 use std::alloc::Global;
 use std::marker::Model;
@@ -27,27 +28,38 @@ impl From<NoMemory> for NameFault {
     }
 }
 
+// How many bytes of a name lie in the name itself, which takes a place beside a key.
+const SHORT_BYTES: usize = 24;
+
 /// The name of a capture, without its `$`: a letter or `_`, and then letters, digits and `_`, all of
-/// them ASCII. Contracts see its bytes. (Reference, core syntax: `$` captures; which names there are
-/// is this project's profile.)
+/// them ASCII. The bytes of a name of at most 24 lie in it, and take no memory. Contracts see its bytes.
+/// (Reference, core syntax: `$` captures; which names there are is this project's profile.)
 #[derive(Debug, Drop)]
 pub struct CaptureName {
-    held: String,
+    held: HeldName,
+}
+
+// The bytes of a name: in itself, or in a growth.
+#[derive(Debug, Drop)]
+pub(crate) enum HeldName {
+    Short(ArrayString<SHORT_BYTES>),
+    Long(String),
 }
 
 impl Model for CaptureName {
-    ghost use Rattle.std.specs.Prelude.{◌≡◌, ℕ, List, true, string_bytes};
+    ghost use Rattle.std.specs.Prelude.{◌≡◌, ℕ, List, true};
     ghost use Rattle.path_capture.specs.Name.{is_name};
+    ghost use Rattle.path_capture.specs.Working.HeldName.{bytes_of};
 
     ghost Value = { List ℕ };
 
-    ghost view = { λ name. string_bytes name.held };
+    ghost view = { λ name. bytes_of name.held };
 
-    ghost invariant = { λ name. is_name (string_bytes name.held) ≡ true };
+    ghost invariant = { λ name. is_name (bytes_of name.held) ≡ true };
 }
 
 impl CaptureName {
-    /// The name of this text, which has no `$`, in one growth.
+    /// The name of this text, which has no `$`, in one growth at most.
     pub fn new(alloc: Global, text: &str) -> Result<CaptureName, NameFault>
         ensures ok { IfOk result (λ name. name ≡ text.now) }
         ensures bad_name { IsErrOf result NameFault.BadName ↔ (is_name text.now ≡ false) }
@@ -63,10 +75,13 @@ impl CaptureName {
         ensures bytes { result.now ≡ self.now }
         ensures lawful { is_name self.now ≡ true }
     {
-        self.held.as_str()
+        match &self.held {
+            HeldName::Short(text) => text.as_str(),
+            HeldName::Long(text) => text.as_str(),
+        }
     }
 
-    /// The same name once more, in one growth.
+    /// The same name once more, in one growth at most.
     pub fn copy(&self, alloc: Global) -> Result<CaptureName, NoMemory>
         ensures { IfOk result (λ name. name ≡ self.now) }
     {
@@ -78,9 +93,11 @@ impl CaptureName {
         requires { is_name text.now ≡ true }
         ensures { IfOk result (λ name. name ≡ text.now) }
     {
-        Ok(CaptureName {
-            held: String::from_str(alloc, text)?,
-        })
+        let held = match ArrayString::from(text) {
+            Ok(short) => HeldName::Short(short),
+            Err(_) => HeldName::Long(String::from_str(alloc, text)?),
+        };
+        Ok(CaptureName { held })
     }
 }
 

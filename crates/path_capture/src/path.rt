@@ -16,6 +16,9 @@ use tree_model::MAX_DEPTH;
 // For how many keys a path that is read has room at first.
 const USUAL_KEYS: usize = 4;
 
+/// For how many bytes the text of a path or of a pattern has room at first.
+pub(crate) const USUAL_TEXT_BYTES: usize = 64;
+
 /// Why a text gives no path.
 #[derive(Clone, Copy, Debug, PartialEq, Eq, Error)]
 pub enum PathFault {
@@ -76,12 +79,23 @@ impl Path {
         ensures bad_path { IsErrOf result PathFault.BadPath ↔ (list_all is_key (segments text.now) ≡ false) }
         ensures too_deep { IsErrOf result PathFault.TooDeep ↔ ((list_all is_key (segments text.now) ≡ true) × (MAX_DEPTH < length (segments text.now))) }
     {
-        if let Some(held) = keys_of(alloc, text) {
+        Path::root(alloc).parse_below(alloc, text)
+    }
+
+    /// The path of a text below this one: these keys, and behind them the segments of the text. It takes as
+    /// much memory as [`parse`](Path::parse) does, and one growth at most for each key of this path.
+    pub fn parse_below(&self, alloc: Global, text: &str) -> Result<Path, PathFault>
+        ensures ok { IfOk result (λ path. path ≡ self.now ++ segments text.now) }
+        ensures bad_path { IsErrOf result PathFault.BadPath ↔ (list_all is_key (segments text.now) ≡ false) }
+        ensures too_deep { IsErrOf result PathFault.TooDeep ↔ ((list_all is_key (segments text.now) ≡ true) × (MAX_DEPTH < length self.now + length (segments text.now))) }
+    {
+        let keys = self.keys();
+        if let Some(held) = keys_below(alloc, keys, text) {
             return Ok(Path { held });
         }
         match count_of_segments(text) {
             None => Err(PathFault::BadPath),
-            Some(count) => if count > MAX_DEPTH {
+            Some(count) => if keys.len().saturating_add(count) > MAX_DEPTH {
                 Err(PathFault::TooDeep)
             } else {
                 Err(PathFault::NoMemory)
@@ -133,7 +147,8 @@ impl Path {
         compare_keys(self.keys(), other.keys())
     }
 
-    /// The text of the path: `/` for the root, else as `/a/b`. It is read back as the same path.
+    /// The text of the path: `/` for the root, else as `/a/b`. It is read back as the same path. It takes one
+    /// growth, and more where it has over 64 bytes.
     pub fn print(&self, alloc: Global) -> Result<String, NoMemory>
         ensures { IfOk result (λ text. string_bytes text ≡ printed self.now) }
     {
@@ -189,13 +204,14 @@ fn count_of_segments(text: &str) -> Option<usize>
     Some(count)
 }
 
-// The keys of a text, or `None` where one of its segments is no lawful key, where there are more than 32, or
-// where memory is wanted.
-fn keys_of(alloc: Global, text: &str) -> Option<Vec<Key>>
-    ensures keys { IfSome result (λ keys. keys.items ≡ segments text.now) }
+// These keys, and behind them those of a text, or `None` where one of its segments is no lawful key, where
+// there are more than 32, or where memory is wanted.
+fn keys_below(alloc: Global, front: &[Key], text: &str) -> Option<Vec<Key>>
+    requires { is_path front.now ≡ true }
+    ensures keys { IfSome result (λ keys. keys.items ≡ front.now ++ segments text.now) }
     ensures path { IfSome result (λ keys. is_path keys.items ≡ true) }
 {
-    let mut keys = Vec::with_capacity(alloc, USUAL_KEYS).ok()?;
+    let mut keys = begun(alloc, front)?;
     for piece in text.split('/') {
         if piece.is_empty() {
             continue;
@@ -204,6 +220,17 @@ fn keys_of(alloc: Global, text: &str) -> Option<Vec<Key>>
             return None;
         }
         keys.push(Key::new(alloc, piece).ok()?).ok()?;
+    }
+    Some(keys)
+}
+
+// The same keys once more, with room for as many as are usual behind them, or `None` where memory is wanted.
+fn begun(alloc: Global, front: &[Key]) -> Option<Vec<Key>>
+    ensures { IfSome result (λ keys. keys.items ≡ front.now) }
+{
+    let mut keys = Vec::with_capacity(alloc, front.len().saturating_add(USUAL_KEYS)).ok()?;
+    for key in front {
+        keys.push(key.copy(alloc).ok()?).ok()?;
     }
     Some(keys)
 }
@@ -231,7 +258,7 @@ fn compare_keys(keys: &[Key], others: &[Key]) -> Ordering
 fn print_keys(alloc: Global, keys: &[Key]) -> Result<String, NoMemory>
     ensures { IfOk result (λ text. string_bytes text ≡ printed keys.now) }
 {
-    let mut text = String::new(alloc);
+    let mut text = String::with_capacity(alloc, USUAL_TEXT_BYTES)?;
     for key in keys {
         text.push('/')?;
         text.push_str(key.text())?;

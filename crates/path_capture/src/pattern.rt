@@ -4,6 +4,7 @@ ghost use Rattle.tree_model.specs.Key.{key_cmp, is_key};
 ghost use Rattle.path_capture.specs.Pattern.{part_of, part_text, part_of_text, pattern_cmp, printed_pattern};
 
 use crate::name::CaptureName;
+use crate::path::USUAL_TEXT_BYTES;
 use json_tree::{Key, NoMemory};
 use std::alloc::Global;
 use std::cmp::Ordering;
@@ -149,11 +150,21 @@ impl Pattern {
         compare_parts(self.held.as_slice(), other.held.as_slice())
     }
 
-    /// The text of the pattern: `/` where it is empty, else as `/rooms/$r`.
+    /// The text of the pattern: `/` where it is empty, else as `/rooms/$r`. It takes one growth, and more
+    /// where it has over 64 bytes.
     pub fn print(&self) -> Result<String, NoMemory>
         ensures { IfOk result (λ text. string_bytes text ≡ printed_pattern self.now) }
     {
-        print_parts(*self.held.allocator(), self.held.as_slice())
+        let mut text = String::with_capacity(*self.held.allocator(), USUAL_TEXT_BYTES)?;
+        self.append_to(&mut text)?;
+        Ok(text)
+    }
+
+    /// Writes the text of the pattern at the end of a text, with no memory where that has room.
+    pub fn append_to(&self, text: &mut String) -> Result<(), NoMemory>
+        ensures { OnOk result (string_bytes text.new ≡ string_bytes text.old ++ printed_pattern self.now) }
+    {
+        append_parts(text, self.held.as_slice())
     }
 
     /// The same pattern once more, by one growth for the list and one at most for each part.
@@ -161,8 +172,18 @@ impl Pattern {
         ensures { IfOk result (λ pattern. pattern ≡ self.now) }
     {
         Ok(Pattern {
-            held: copies(*self.held.allocator(), self.held.as_slice())?,
+            held: copies(*self.held.allocator(), self.held.as_slice(), 0)?,
         })
+    }
+
+    /// The pattern one part further down, by one growth for the list and one at most for each part.
+    pub fn below(&self, part: &Part) -> Result<Pattern, NoMemory>
+        ensures { IfOk result (λ pattern. pattern ≡ self.now ++ part_of part.now ∷ []) }
+    {
+        let alloc = *self.held.allocator();
+        let mut held = copies(alloc, self.held.as_slice(), 1)?;
+        held.push(part.copy(alloc)?)?;
+        Ok(Pattern { held })
     }
 }
 
@@ -197,24 +218,24 @@ fn compare_parts(parts: &[Part], others: &[Part]) -> Ordering
     parts.len().cmp(&others.len())
 }
 
-fn print_parts(alloc: Global, parts: &[Part]) -> Result<String, NoMemory>
-    ensures { IfOk result (λ text. string_bytes text ≡ printed_pattern (map part_of parts.now)) }
+fn append_parts(text: &mut String, parts: &[Part]) -> Result<(), NoMemory>
+    ensures { OnOk result (string_bytes text.new ≡ string_bytes text.old ++ printed_pattern (map part_of parts.now)) }
 {
-    let mut text = String::new(alloc);
     for part in parts {
         text.push('/')?;
-        part.append_to(&mut text)?;
+        part.append_to(text)?;
     }
     if parts.is_empty() {
         text.push('/')?;
     }
-    Ok(text)
+    Ok(())
 }
 
-fn copies(alloc: Global, parts: &[Part]) -> Result<Vec<Part>, NoMemory>
+// The same parts once more, with room for so many behind them.
+fn copies(alloc: Global, parts: &[Part], more: usize) -> Result<Vec<Part>, NoMemory>
     ensures { IfOk result (λ copies. map part_of copies.items ≡ map part_of parts.now) }
 {
-    let mut copies = Vec::with_capacity(alloc, parts.len())?;
+    let mut copies = Vec::with_capacity(alloc, parts.len().saturating_add(more))?;
     for part in parts {
         copies.push(part.copy(alloc)?)?;
     }

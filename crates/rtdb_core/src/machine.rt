@@ -379,7 +379,7 @@ impl Machine {
     {
         let passage = Passage::staying(&self.rules, self.tree.as_ref(), now, was_heard);
         match self.sessions.get(&session) {
-            Some(open) => decide_own(self.alloc, arena, &passage, who, open.listeners()),
+            Some(open) => decide_own(arena, &passage, who, open.listeners()),
             None => unreachable!(),
         }
     }
@@ -850,7 +850,7 @@ impl Machine {
         ensures made { IfOk result (λ decisions. decisions.made.items ≡ sparse 0 (fates_of (tree_before passage.now) passage.now.rules.now (tree_after passage.now) passage.now.moment (all_sessions self.now.sessions))) }
         ensures fits { IfOk result (λ decisions. length (fates_of (tree_before passage.now) passage.now.rules.now (tree_after passage.now) passage.now.moment (all_sessions self.now.sessions)) < 2 ^ 64) }
     {
-        decide_all(self.alloc, arena, passage, &self.sessions)
+        decide_all(arena, passage, &self.sessions)
     }
 
     // Makes what was decided of all listeners.

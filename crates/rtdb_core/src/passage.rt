@@ -20,7 +20,6 @@ use judge::{Scene, may_read, watched};
 use listeners::Listener;
 use path_capture::{Path, Write};
 use rules_reader::Rules;
-use std::alloc::Global;
 
 /// What listeners are judged by: the rules in force after the step, the tree before it, the writes that
 /// it makes, the tree that they propose, the moment, and whether each that is live was granted its read
@@ -66,7 +65,6 @@ impl<'a> Passage<'a> {
 /// they don't grant its read any longer. It takes memory for what they make and bind, and, where its query's
 /// selection may have moved, for that before and after the step.
 pub(crate) fn fate_of<'s>(
-    alloc: Global,
     arena: &Bump,
     passage: &Passage<'_>,
     who: Option<&Identity>,
@@ -85,7 +83,7 @@ pub(crate) fn fate_of<'s>(
     if stays(passage, listener.path) {
         return Ok(None);
     }
-    if !hears(alloc, arena, passage, who, listener)? {
+    if !hears(arena, passage, who, listener)? {
         return Ok(Some(Fate::Cancelled));
     }
     if moved.has(arena, listener.path, listener.query)? {
@@ -111,7 +109,6 @@ fn stays(passage: &Passage<'_>, path: &Path) -> bool
 
 // Whether its read is granted.
 fn hears(
-    alloc: Global,
     arena: &Bump,
     passage: &Passage<'_>,
     who: Option<&Identity>,
@@ -122,7 +119,7 @@ fn hears(
 {
     let asked = asked_for(listener.query);
     let scene = scene(passage, who);
-    may_read(alloc, arena, &scene, listener.path, &asked)
+    may_read(arena, &scene, listener.path, &asked)
 }
 
 fn scene<'a>(passage: &'a Passage<'a>, who: Option<&'a Identity>) -> Scene<'a>

@@ -16,12 +16,10 @@ use bumpalo::Bump;
 use evaluator::Identity;
 use json_tree::NoMemory;
 use listeners::Table;
-use std::alloc::Global;
 use std::collections::BTreeMap;
 
 /// What becomes of all listeners of all sessions.
 pub(crate) fn decide_all<'a, 'p>(
-    alloc: Global,
     arena: &'a Bump,
     passage: &'p Passage<'p>,
     sessions: &BTreeMap<u64, Session>,
@@ -36,7 +34,6 @@ pub(crate) fn decide_all<'a, 'p>(
     let mut moved = Moved::by(arena, passage);
     for session in sessions.values() {
         decide_each(
-            alloc,
             arena,
             passage,
             session.identity(),
@@ -51,7 +48,6 @@ pub(crate) fn decide_all<'a, 'p>(
 
 /// What becomes of the listeners of whoever is signed in.
 pub(crate) fn decide_own<'a, 'p>(
-    alloc: Global,
     arena: &'a Bump,
     passage: &'p Passage<'p>,
     who: Option<&Identity>,
@@ -64,21 +60,12 @@ pub(crate) fn decide_own<'a, 'p>(
 {
     let mut decisions = Decisions::new(arena);
     let mut moved = Moved::by(arena, passage);
-    decide_each(
-        alloc,
-        arena,
-        passage,
-        who,
-        listeners,
-        &mut moved,
-        &mut decisions,
-    )?;
+    decide_each(arena, passage, who, listeners, &mut moved, &mut decisions)?;
     decisions.law();
     Ok(decisions)
 }
 
 fn decide_each<'s>(
-    alloc: Global,
     arena: &Bump,
     passage: &Passage<'_>,
     who: Option<&Identity>,
@@ -94,7 +81,7 @@ fn decide_each<'s>(
     ensures made { OnOk result (decisions.new.made.items ≡ decisions.old.made.items ++ sparse decisions.old.place (map (fate_of (tree_before passage.now) passage.now.rules.now (tree_after passage.now) passage.now.moment (who_of who.entry)) listeners.now)) }
 {
     for index in 0..listeners.len() {
-        let fate = fate_of(alloc, arena, passage, who, &listeners.entry(index), moved)?;
+        let fate = fate_of(arena, passage, who, &listeners.entry(index), moved)?;
         decisions.push(fate)?;
     }
     Ok(())

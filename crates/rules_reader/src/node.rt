@@ -1,7 +1,7 @@
 //! A rule node: an object of a rules file, with the rules that stand there.
-ghost use Rattle.std.specs.Prelude.{◌≡◌, ◌||◌, ℕ, [], true, is_some, Some, None, List, map, length, option_map, option_and_then, MatchOption, slice_get, min, IfSome, IfNone};
+ghost use Rattle.std.specs.Prelude.{◌≡◌, ◌||◌, [], true, is_some, Some, None, option_map, IfSome, IfNone};
 ghost use Rattle.std.specs.List.{AllByRecursion, list_any};
-ghost use Rattle.std.specs.FinMap.{is_sorted, find};
+ghost use Rattle.std.specs.FinMap.{is_sorted};
 ghost use Rattle.std.specs.FinMap as map_of;
 ghost use Rattle.tree_model.specs.Key.{key_cmp};
 ghost use Rattle.tree_model.specs.PathMap.{get};

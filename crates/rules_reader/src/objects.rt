@@ -1,15 +1,14 @@
 //! From the objects of a rules file to its rules.
-ghost use Rattle.std.specs.Prelude.{◌≡◌, ◌++◌, length, [], ◌∷◌, true, Some, None, option_map, option_and_then, map, IfOk, OnOk, IfErr, MatchOption};
+ghost use Rattle.std.specs.Prelude.{◌≡◌, ◌++◌, length, [], ◌∷◌, true, Some, None, option_map, IfOk, OnOk, IfErr};
 ghost use Rattle.std.specs.List.{AllByRecursion};
 ghost use Rattle.std.specs.FinMap.{is_sorted};
 ghost use Rattle.serde_json.specs.View.{view, members_view};
 ghost use Rattle.serde_json.specs.Data.{Members, object};
-ghost use Rattle.serde_json.specs.Find.{get};
 ghost use Rattle.tree_model.specs.Key.{key_cmp};
 ghost use Rattle.path_capture.specs.Captures.{names};
 ghost use Rattle.rules_reader.specs.Part.{texts};
-ghost use Rattle.rules_reader.specs.Book.{rules, own_rules, kind_name, stated_for};
-ghost use Rattle.rules_reader.specs.Spelled.{captured, capture_names, place_of, IsSpelled, IsRule, SpellsRule, IsNoRule, SpellsOptional, SpellsObject};
+ghost use Rattle.rules_reader.specs.Book.{rules, own_rules};
+ghost use Rattle.rules_reader.specs.Spelled.{captured, capture_names, IsSpelled, IsRule, SpellsObject};
 ghost use Rattle.rules_reader.specs.File.{is_object, rule_text, rule_texts, texts_of, faulty, listed};
 ghost use Rattle.rules_reader.specs.Working.Inner.{parts_of, faulty_inner};
 ghost use Rattle.rules_reader.specs.Working.Read.{SpellsParts, rules_below, rule_count};
@@ -72,7 +71,7 @@ fn build_children(
         let Some(part) = part(alloc, name.as_str())? else {
             continue;
         };
-        let longer = below(alloc, pattern, &part)?;
+        let longer = below(pattern, &part)?;
         law_of_member(member, &longer);
         let node = build(alloc, member, longer)?;
         node.law();

@@ -67,7 +67,7 @@ fn count_rules_below(
         let Some(part) = part(alloc, name.as_str())? else {
             continue;
         };
-        let longer = below(alloc, pattern, &part)?;
+        let longer = below(pattern, &part)?;
         count = count.saturating_add(count_rules(alloc, member, longer)?);
     }
     Ok(count)
@@ -104,12 +104,10 @@ pub(crate) fn rule_text(value: &Value, kind: Kind) -> Option<&str>
 }
 
 /// The pattern one part further down.
-pub(crate) fn below(alloc: Global, pattern: &Pattern, part: &Part) -> Result<Pattern, NoMemory>
+pub(crate) fn below(pattern: &Pattern, part: &Part) -> Result<Pattern, NoMemory>
     ensures { IfOk result (λ longer. texts longer ≡ texts pattern.now ++ text_of part.now ∷ []) }
 {
-    let mut longer = pattern.copy()?;
-    longer.push(part.copy(alloc)?)?;
-    Ok(longer)
+    pattern.below(part)
 }
 
 // Whether an object may stand at a pattern.

@@ -27,8 +27,8 @@ validate_denied-requires c =
     let scene = scene_of c.args.scene.now in
     let t = c.in_ok-root.root.now.0 in
     let ls = paths c.args.locations.now in
-    let asking : Asking = record { bump = c.args.bump; scene = c.args.scene; access = Writes c.in_ok-root.root; kind = Write } in
-    let validating : Asking = record { bump = c.args.bump; scene = c.args.scene; access = Writes c.in_ok-root.root; kind = Validate } in
+    let asking : Asking = record { arena = c.args.arena; scene = c.args.scene; access = Writes c.in_ok-root.root; kind = Write } in
+    let validating : Asking = record { arena = c.args.arena; scene = c.args.scene; access = Writes c.in_ok-root.root; kind = Validate } in
     record {
       root = stands_for asking validating c.in_ok-spot.spot refl tt c.in_ok-spot.ensures;
       kind = refl;

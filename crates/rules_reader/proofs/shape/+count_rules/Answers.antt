@@ -93,6 +93,19 @@ count_rules_below-loop-name-preserved-in_ok-count_rules-2 t c =
     counted_more at c.loop-name.count c.in_ok-count_rules.field-0 c.saturating_add-count.result (members_view c.loop-name.name-iterator) (members_view c.next.new.self) all name d
     (ap members_view c.in-Some.ensures.steps) part (sym c.is_object.ensures ∙ c.if-not-is_object.false) c.in_ok-count_rules.ensures.count c.saturating_add-count.ensures (ap (λ (q : Pattern). faulty q d) (sym longer) ∙ c.in_ok-count_rules.ensures.sound) c.loop-name.invariant
 
+pub count_rules_below-loop-name-preserved-in_ok-count_rules-3 : goal.count_rules_below-loop-name-preserved-in_ok-count_rules-3
+count_rules_below-loop-name-preserved-in_ok-count_rules-3 t c =
+    let at = texts c.args.pattern.now in
+    let all = members_view c.args.members.now.entries in
+    let name = string_bytes c.in-Some.name.now in
+    let d = view c.in-Some.member.now in
+    let named = part_found (is_part c.as_str.result.now) c.as_str.result.now (text_of c.in-Some-2.part) (rw c.in-Some-2.is at c.in_ok-part.ensures) in
+    let text : text_of c.in-Some-2.part ≡ name = named.1 ∙ c.as_str.ensures.value in
+    let part : is_part name ≡ true = ap is_part (sym c.as_str.ensures.value) ∙ named.0 in
+    let longer : texts c.in_ok-longer.longer ≡ at ++ name ∷ [] = c.in_ok-longer.ensures ∙ ap (λ (x : PartText). at ++ x ∷ []) text in
+    counted_more at c.loop-name.count c.in_ok-count_rules.field-0 c.saturating_add-count.result (members_view c.loop-name.name-iterator) (members_view c.next.new.self) all name d
+    (ap members_view c.in-Some.ensures.steps) part (sym c.is_object.ensures ∙ c.if-not-is_object.false) c.in_ok-count_rules.ensures.count c.saturating_add-count.ensures (ap (λ (q : Pattern). faulty q d) (sym longer) ∙ c.in_ok-count_rules.ensures.sound) c.loop-name.invariant
+
 pub count_rules_below-loop-name-preserved : goal.count_rules_below-loop-name-preserved
 count_rules_below-loop-name-preserved t c =
     let at = texts c.args.pattern.now in

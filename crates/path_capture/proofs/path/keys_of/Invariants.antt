@@ -1,8 +1,0 @@
-use Rattle.std.proofs.Common.{length}
-use Rattle.path_capture.specs.Path.{pieces}
-use Rattle.path_capture.proofs.Segments.{Keyed}
-use Rattle.path_capture.proofs.path.keys_of.Given as goal
-
--- the keys are the segments so far, all of them lawful, and not too many
-abbrev pub invariant-loop-piece : goal.invariant-loop-piece
-invariant-loop-piece l = Keyed (pieces l.text) (length l.yielded) l.keys.items
