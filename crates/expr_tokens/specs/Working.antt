@@ -1,2 +1,3 @@
 -- Words of private contracts. No public clause stands on them.
 pub mod Scanning
+pub mod HeldName

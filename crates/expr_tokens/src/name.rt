@@ -1,22 +1,35 @@
 //! A name that is kept.
 ghost use Rattle.std.specs.Prelude.{◌≡◌, IfOk};
 
+use arrayvec::ArrayString;
 use std::alloc::{AllocError, Global};
 use std::marker::Model;
 
+// How many bytes of a name lie in the name itself: more than most names have.
+const SHORT_BYTES: usize = 16;
+
 /// A name of an expression, in memory of its own: of a variable, of what stands behind a dot, or of a
-/// capture, without its `$`. Contracts see its bytes.
+/// capture, without its `$`. The bytes of a name of at most 16 lie in it, and take no growth. Contracts see
+/// its bytes.
 #[derive(Debug, Drop)]
 pub struct Name {
-    held: String,
+    held: HeldName,
+}
+
+// The bytes of a name: in itself, or in a growth.
+#[derive(Debug, Drop)]
+pub(crate) enum HeldName {
+    Short(ArrayString<SHORT_BYTES>),
+    Long(String),
 }
 
 impl Model for Name {
-    ghost use Rattle.std.specs.Prelude.{ℕ, List, string_bytes};
+    ghost use Rattle.std.specs.Prelude.{ℕ, List};
+    ghost use Rattle.expr_tokens.specs.Working.HeldName.{bytes_of};
 
     ghost Value = { List ℕ };
 
-    ghost view = { λ name. string_bytes name.held };
+    ghost view = { λ name. bytes_of name.held };
 }
 
 impl Name {
@@ -24,15 +37,20 @@ impl Name {
     pub fn as_str(&self) -> &str
         ensures { result.now ≡ self.now }
     {
-        self.held.as_str()
+        match &self.held {
+            HeldName::Short(text) => text.as_str(),
+            HeldName::Long(text) => text.as_str(),
+        }
     }
 
-    // The name of this text, in one growth.
+    // The name of this text, in one growth at most.
     pub(crate) fn of_text(alloc: Global, text: &str) -> Result<Name, AllocError>
         ensures { IfOk result (λ name. name ≡ text.now) }
     {
-        Ok(Name {
-            held: String::from_str(alloc, text)?,
-        })
+        let held = match ArrayString::from(text) {
+            Ok(short) => HeldName::Short(short),
+            Err(_) => HeldName::Long(String::from_str(alloc, text)?),
+        };
+        Ok(Name { held })
     }
 }

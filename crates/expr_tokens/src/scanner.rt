@@ -14,6 +14,9 @@ use crate::limits::MAX_EXPRESSION_BYTES;
 use crate::token::Token;
 use std::alloc::Global;
 
+// For how many tokens the list has room at first: as many as most rules have.
+const USUAL_TOKENS: usize = 32;
+
 /// The tokens of a text, and beside each the byte where it begins.
 #[derive(Debug, Drop)]
 pub struct Scanned<'a> {
@@ -24,7 +27,7 @@ pub struct Scanned<'a> {
 /// The tokens that the text spells, or its earliest fault.
 ///
 /// It goes over the text once, reads each byte a bounded number of times, and copies none of it: the
-/// tokens borrow their words. The list grows by pushes. Of a text that is too long, no token that begins
+/// tokens borrow their words. The list has room for 32 at first, and doubles where it has more. Of a text that is too long, no token that begins
 /// at byte 4096 or behind it is read. What may fail but for a fault is memory alone.
 pub fn tokens<'a>(alloc: Global, text: &'a str) -> Result<Vec<Token<'a>>, ExprFault>
     // What is answered is spelled.
@@ -61,8 +64,8 @@ pub fn scan<'a>(alloc: Global, text: &'a str) -> Result<Scanned<'a>, ExprFault>
     ensures places { IfOk result (λ found. ArePlaces text.now found.tokens.items found.places.items) }
     ensures fault { IfErr result (λ fault. (fault ≡ NoMemory) ⊎ IsEarliest text.now fault) }
 {
-    let mut tokens = Vec::new(alloc);
-    let mut places = Vec::new(alloc);
+    let mut tokens = Vec::with_capacity(alloc, USUAL_TOKENS)?;
+    let mut places = Vec::with_capacity(alloc, USUAL_TOKENS)?;
     let mut after_dot = false;
     let mut rest = past_blanks(text);
     while !rest.is_empty() {

@@ -14,7 +14,7 @@ use thiserror::Error;
 use tree_model::MAX_DEPTH;
 
 // For how many keys a path that is read has room at first.
-const USUAL_KEYS: usize = 4;
+const USUAL_KEYS: usize = 8;
 
 /// For how many bytes the text of a path or of a pattern has room at first.
 pub(crate) const USUAL_TEXT_BYTES: usize = 64;
@@ -69,7 +69,7 @@ impl Path {
     }
 
     /// The path of a text: its segments between slashes, of which empty ones are dropped. One pass
-    /// makes the path, by one growth for a list of at most four keys, one more each time a longer list
+    /// makes the path, by one growth for a list of at most eight keys, one more each time a longer list
     /// doubles, and one at most for each key; where it gives up, a second finds why, and takes no
     /// memory. (This project's profile.)
     pub fn parse(alloc: Global, text: &str) -> Result<Path, PathFault>

@@ -7,7 +7,7 @@ use Rattle.expr_tokens.proofs.scanner.scan.Goals as goal
 
 pub loop-rest-init : goal.loop-rest-init
 loop-rest-init c = record {
-  kept = rw (c.new-tokens.ensures.items, c.new-places.ensures.items, c.past_blanks-rest.ensures) (kept_start c.args.text.now);
+  kept = rw (c.in_ok-tokens.ensures.items, c.in_ok-places.ensures.items, c.past_blanks-rest.ensures) (kept_start c.args.text.now);
   utf8 = c.past_blanks-rest.utf8;
 }
 
