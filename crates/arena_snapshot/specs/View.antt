@@ -14,12 +14,12 @@ node_or_null (Some node) = node.now
 
 abbrev pub tree_of : Kind → Tree
 tree_of (Stored node) = node.now
-tree_of (Patched node) = changed (node_or_null node.base) (map change_of node.patches.now)
+tree_of (Patched node) = changed (node_or_null node.now.base) (map change_of node.now.patches.now)
 
 -- a stored node, or patches that may stand over one
 abbrev pub IsKind : Kind → Type 0
 IsKind (Stored node) = Unit {0}
-IsKind (Patched node) = IsPatched (node_or_null node.base) node.patches.now node.count node.width
+IsKind (Patched node) = IsPatched (node_or_null node.now.base) node.now.patches.now node.now.count node.now.width
 
 -- a view's tree is not null, and lawful
 pub record IsView (kind : Kind) : Type 0 where

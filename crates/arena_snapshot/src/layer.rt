@@ -24,8 +24,12 @@ pub(crate) struct Layer<'a> {
 }
 
 impl<'a> Layer<'a> {
-    // A layer without children. It takes no memory.
-    pub(crate) fn new(arena: &'a Bump, base: Option<&'a Node>) -> Result<Layer<'a>, NoMemory>
+    // A layer without children, with room for so many.
+    pub(crate) fn new(
+        arena: &'a Bump,
+        base: Option<&'a Node>,
+        room: usize,
+    ) -> Result<Layer<'a>, NoMemory>
         requires { get (node_or_null base) [] ≡ None }
         ensures base { IfOk result (λ layer. layer.base ≡ base.entry) }
         ensures empty { IfOk result (λ layer. map change_of layer.patches.items ≡ []) }
@@ -33,7 +37,7 @@ impl<'a> Layer<'a> {
     {
         Ok(Layer {
             base,
-            patches: Vec::new(arena),
+            patches: Vec::with_capacity(arena, room)?,
             sizes: stored_sizes(base)?,
         })
     }
@@ -70,11 +74,11 @@ impl<'a> Layer<'a> {
     }
 
     // The tree of these children over the node, if any child is left.
-    pub(crate) fn finish(self) -> Option<View<'a>>
+    pub(crate) fn finish(self) -> Result<Option<View<'a>>, NoMemory>
         requires layer { IsLayer (node_or_null self.base) self.patches.items self.sizes }
         requires lawful { IsLawful (changed (node_or_null self.base) (map change_of self.patches.items)) }
-        ensures { result ≡ non_null
-            (changed (node_or_null self.entry.base) (map change_of self.entry.patches.items)) }
+        ensures { IfOk result (λ view. view ≡ non_null
+            (changed (node_or_null self.entry.base) (map change_of self.entry.patches.items))) }
     {
         let Layer {
             base,
@@ -82,15 +86,17 @@ impl<'a> Layer<'a> {
             sizes,
         } = self;
         if sizes.width == 0 {
-            return None;
+            return Ok(None);
         }
-        Some(View {
-            kind: Kind::Patched(Patched {
-                base,
-                patches: into_bump_slice(patches),
-                count: sizes.count,
-                width: sizes.width,
-            }),
-        })
+        let arena = *patches.allocator();
+        let node = arena.try_alloc(Patched {
+            base,
+            patches: into_bump_slice(patches),
+            count: sizes.count,
+            width: sizes.width,
+        })?;
+        Ok(Some(View {
+            kind: Kind::Patched(node),
+        }))
     }
 }

@@ -20,8 +20,11 @@ use bumpalo::Bump;
 use json_tree::{Key, NoMemory, Node};
 use path_capture::Write;
 
+// For how many children a layer has room at first: the writes of an update share most of their keys.
+const USUAL_PATCHES: usize = 4;
+
 /// The tree that these writes propose, if anything is left. For one write of d keys it takes time d ·
-/// log w in nodes of w children, and one growth of the arena for each key and one for the list of
+/// log w in nodes of w children, and two growths of the arena for each key and one for the list of
 /// writes, whatever w is; for n writes the sum of these, and n · log n comparisons of their paths,
 /// which are sorted once. With no writes it takes no memory. A stored tree of more locations or
 /// children than a `usize` counts is answered as want of memory, since no memory holds one.
@@ -108,7 +111,7 @@ fn lay_below<'a>(
     ensures { IfOk result (λ view. view
         ≡ non_null (proposed (node_or_null base.entry) (map (left depth) writes.now))) }
 {
-    let mut layer = Layer::new(arena, base)?;
+    let mut layer = Layer::new(arena, base, writes.len().min(USUAL_PATCHES))?;
     let mut start = 0;
     while start < writes.len() {
         let key = key_of(writes[start], depth);
@@ -118,7 +121,7 @@ fn lay_below<'a>(
         layer.push(key, stored, child)?;
         start = end;
     }
-    Ok(layer.finish())
+    layer.finish()
 }
 
 // The stored tree of an optional node.

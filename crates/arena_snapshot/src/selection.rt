@@ -9,9 +9,8 @@ use crate::view::View;
 use bumpalo::Bump;
 use json_tree::NoMemory;
 
-/// The tree of the children at these indices, if there is one: for n indices, n growths of one list in
-/// the arena at most, and in a patched tree a binary search for each. The children themselves are
-/// borrowed.
+/// The tree of the children at these indices, if there is one: two growths of the arena, and in a patched tree a
+/// binary search for each. The children themselves are borrowed.
 pub fn kept<'a>(
     arena: &'a Bump,
     view: &View<'a>,
@@ -21,11 +20,11 @@ pub fn kept<'a>(
     ensures { IfOk result (λ view_of_kept. view_of_kept ≡ non_null (kept view.now indices.now)) }
 {
     view.law();
-    let mut layer = Layer::new(arena, None)?;
+    let mut layer = Layer::new(arena, None, indices.len())?;
     for index in indices {
         if let Some((key, child)) = view.entry_at(*index) {
             layer.push(key, stored_place(None, key), Some(child))?;
         }
     }
-    Ok(layer.finish())
+    layer.finish()
 }

@@ -24,7 +24,8 @@ pub struct View<'a> {
 pub(crate) enum Kind<'a> {
     // As it is stored.
     Stored(&'a Node),
-    Patched(Patched<'a>),
+    // In the arena, so that a view is small.
+    Patched(&'a Patched<'a>),
 }
 
 // A node, or nothing, whose children at a few keys are other ones, or gone.
@@ -88,12 +89,7 @@ impl<'a> View<'a> {
     {
         let kind = match &self.kind {
             Kind::Stored(node) => Kind::Stored(node),
-            Kind::Patched(node) => Kind::Patched(Patched {
-                base: node.base,
-                patches: node.patches,
-                count: node.count,
-                width: node.width,
-            }),
+            Kind::Patched(node) => Kind::Patched(node),
         };
         View { kind }
     }

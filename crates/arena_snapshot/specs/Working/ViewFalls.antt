@@ -35,6 +35,6 @@ most_le n (p ∷ ps) s a h =
 pub falls : (k : Kind) → IsKind k → max (deep-Kind k) 0 ≤ depth (tree_of k)
 falls (Stored n) h = omega arith
 falls (Patched n) h =
-    let t = node_or_null n.base in
-    let cs = map change_of n.patches.now in
-    omega (arith, most_le (depth (changed t cs)) n.patches.now h.patches.changes.ascending h.patches.changes.each (λ k u found some. depth-change t cs k u h.patches.changes.ascending found some))
+    let t = node_or_null n.now.base in
+    let cs = map change_of n.now.patches.now in
+    omega (arith, most_le (depth (changed t cs)) n.now.patches.now h.patches.changes.ascending h.patches.changes.each (λ k u found some. depth-change t cs k u h.patches.changes.ascending found some))

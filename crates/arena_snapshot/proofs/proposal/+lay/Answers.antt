@@ -1,11 +1,11 @@
-use Rattle.std.proofs.Common.{◌≡◌, ◌+◌, ◌-◌, ◌∷◌, [], true, false, map, take, drop, length, sym, ap, ◌∙◌, subst, arith}
+use Rattle.std.proofs.Common.{◌≡◌, ◌+◌, ◌-◌, ◌∷◌, [], true, false, IfOk, Option, map, take, drop, length, sym, ap, ◌∙◌, subst, arith}
 use Rattle.std.specs.Borrow.{Bor}
 use Rattle.std.specs.List.{list_any}
 use Rattle.std.proofs.lemmas.List.{nil_from_length, length-map}
 use Rattle.std.proofs.lemmas.Result.{IfOk-weaker}
 use Rattle.tree_model.specs.Path.{is_root}
 use Rattle.tree_model.specs.PathMap.{sub}
-use Rattle.tree_model.specs.Tree.{non_null, IsLawful}
+use Rattle.tree_model.specs.Tree.{Tree, non_null, IsLawful}
 use Rattle.tree_model.specs.Write.{Write, location, written, overlaps, proposed}
 use Rattle.tree_model.proofs.Lookups.{get-null}
 use Rattle.tree_model.proofs.Lawful.{IsLawful-null}
@@ -154,4 +154,4 @@ lay_below-returns t c =
     let cs = map change_of c.loop-start.layer.patches.items in
     let laid = c.loop-start.invariant.laid in
     let all = laid_all base ws c.loop-start.start cs laid (let long = length-map c.args.writes.now (left c.args.depth) in omega arith) in
-    c.finish.ensures ∙ ap non_null (ap (λ b. changed (node_or_null b) cs) c.loop-start.invariant.base ∙ changed_is base ws cs c.requires.root c.requires.below laid.ascending all)
+    subst (λ (u : Option Tree). IfOk c.finish.result (λ v. v ≡ u)) (ap non_null (ap (λ b. changed (node_or_null b) cs) c.loop-start.invariant.base ∙ changed_is base ws cs c.requires.root c.requires.below laid.ascending all)) c.finish.ensures

@@ -1,4 +1,4 @@
-use Rattle.std.proofs.Common.{◌++◌, ◌∷◌, [], Some, None, map, take, get_or, sym, ap, ◌∙◌, subst}
+use Rattle.std.proofs.Common.{◌≡◌, ◌++◌, ◌∷◌, [], Some, None, IfOk, Option, map, take, get_or, sym, ap, ◌∙◌, subst}
 use Rattle.std.specs.FinMap.{is_sorted}
 use Rattle.std.proofs.lemmas.List.{map-append, get_or_default}
 use Rattle.tree_model.specs.Key.{Key, key_cmp}
@@ -65,4 +65,4 @@ returns c =
     let all = all_of c.loop-index.index-index c.args.indices.now c.loop-index-test.false in
     let laid = c.loop-index.invariant.laid ∙ ap (λ ps. map put (at_indices c.args.view.now ps)) all in
     let ordered = ap (is_sorted key_cmp) (sym laid) ∙ c.loop-index.invariant.layer.patches.changes.ascending in
-    c.finish.ensures ∙ ap non_null ((λ j. changed (node_or_null (c.loop-index.invariant.base j)) (laid j)) ∙ kept_is c.args.view.now c.args.indices.now ordered)
+    subst (λ (t : Option Tree). IfOk c.finish.result (λ v. v ≡ t)) (ap non_null ((λ j. changed (node_or_null (c.loop-index.invariant.base j)) (laid j)) ∙ kept_is c.args.view.now c.args.indices.now ordered)) c.finish.ensures

@@ -9,4 +9,4 @@ pub returns-in-Patched : goal.returns-in-Patched
 returns-in-Patched c =
     let node = c.in-Patched.field-0 in
     let inside = subst IsKind c.in-Patched.is c.self.invariant.parts in
-    sym (get-changed-root (node_or_null node.base) (map change_of node.patches.now) inside.patches.changes.root) ∙ ap (λ k. get (tree_of k) []) (sym c.in-Patched.is) ∙ ap (λ t. get t []) c.self.view_is
+    sym (get-changed-root (node_or_null node.now.base) (map change_of node.now.patches.now) inside.patches.changes.root) ∙ ap (λ k. get (tree_of k) []) (sym c.in-Patched.is) ∙ ap (λ t. get t []) c.self.view_is
