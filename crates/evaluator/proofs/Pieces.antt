@@ -1,22 +1,25 @@
 -- A text of keys leads to a location, one piece after another.
-use Rattle.std.proofs.Common.{◌≡◌, ℕ, ◌+◌, suc, ◌<◌, ◌≤◌, List, [], ◌∷◌, ◌++◌, length, drop, Bool, true, false, cond, not, ◌&&◌, ◌==◌, nat_le, Option, Some, None, refl, sym, ◌∙◌, ap, arith, append_assoc, length-append}
-use Rattle.std.specs.Prelude.{nat_lt}
+use Rattle.std.proofs.Common.{◌≡◌, ℕ, ◌+◌, suc, ◌<◌, ◌≤◌, List, [], ◌∷◌, ◌++◌, length, drop, Bool, true, false, cond, not, ◌&&◌, ◌==◌, nat_le, Option, Some, None, is_some, refl, sym, ◌∙◌, ap, arith, append_assoc, length-append}
+use Rattle.std.specs.Prelude.{nat_lt, option_map}
 use Rattle.std.specs.Option.{option_and_then}
 use Rattle.std.specs.List.{list_all}
-use Rattle.std.proofs.lemmas.Bool.{ltb-true, le-leb}
+use Rattle.std.proofs.lemmas.Bool.{ltb-true, lt-ltb, le-leb}
 use Rattle.std.proofs.lemmas.List.{append-nil, at_drop_more, drop_all}
 use Rattle.std.proofs.lemmas.Bool.Decides.{nat_tests}
 use Rattle.std.proofs.lemmas.List.Splits.{slice_split_none}
 use Rattle.tree_model.specs.declared.limits.TheConstants.{MAX_DEPTH}
 use Rattle.tree_model.specs.Key.{Key, is_key}
 use Rattle.tree_model.specs.Path.{Path}
-use Rattle.tree_model.specs.Tree.{Tree}
+use Rattle.tree_model.specs.PathMap.{sub}
+use Rattle.tree_model.specs.Tree.{Tree, non_null}
 use Rattle.path_capture.specs.Path.{pieces}
 use Rattle.path_capture.proofs.Segments.{named, IsPieceAt}
 use Rattle.path_capture.proofs.Signs.{key_without_slash, key_is_not_empty}
 use Rattle.evaluator.specs.Value.{Snapshot}
-use Rattle.evaluator.specs.Snapshot.{child_at, below}
-use Rattle.evaluator.specs.Working.Places.{stepped}
+use Rattle.evaluator.specs.Snapshot.{child_at, below, exists_at}
+use Rattle.evaluator.specs.Working.Places.{stepped, down}
+use Rattle.evaluator.proofs.Places.{down_is}
+use Rattle.evaluator.proofs.Snapshots.{exists_is}
 
 -- where these pieces lead, one step after another
 abbrev pub walked : Snapshot → List Key → Option Snapshot
@@ -107,3 +110,9 @@ key-further s k lawful b room =
     ap (λ (e : Bool). cond e (Some s) (cond (is_key k && nat_lt (length s.1) MAX_DEPTH) (Some (below s k)) None)) (key_is_not_empty k lawful)
     ∙ ap (λ (l : Bool). cond (l && nat_lt (length s.1) MAX_DEPTH) (Some (below s k)) None) lawful
     ∙ ap (λ (r : Bool). cond r (Some (below s k)) None) room
+
+-- something exists at the key of a child, in a path that has room for it
+pub child_exists : (s : Snapshot) (k : Key) (o : Option Tree) → is_key k ≡ true → length s.1 < MAX_DEPTH → o ≡ down k (non_null (sub s.0 s.1)) → is_some o ≡ true → option_map exists_at (child_at s k) ≡ Some true
+child_exists s k o lawful room e some =
+    let at : child_at s k ≡ Some (below s k) = sym (key-leads s k (omega arith) lawful) ∙ key-further s k lawful true (lt-ltb _ _ room) in
+    ap (option_map exists_at) at ∙ ap (λ (b : Bool). Some b) (sym (exists_is o (below s k) (e ∙ down_is s.0 s.1 k)) ∙ some)

@@ -4,7 +4,9 @@ ghost use Rattle.json_tree.specs.Leaf.{primitive_of};
 ghost use Rattle.evaluator.specs.Calls.{type_test, snapshot_test, snapshot_call, child_of, has_child, snapshot_call_with, called_with_nothing, called_with, called_with_two};
 ghost use Rattle.evaluator.specs.Working.Parts.{value_of, part_of, holder};
 
-use crate::snapshot::{Snapshot, child_at, exists_at, has_children_at, primitive_at, val_at};
+use crate::snapshot::{
+    Snapshot, child_at, exists_at, exists_below, has_children_at, primitive_at, val_at,
+};
 use crate::texts::{text_change, text_test};
 use crate::value::{Part, Stop, Value, wanted};
 use bumpalo::Bump;
@@ -70,7 +72,10 @@ pub(crate) fn has_child<'a>(
     ensures value { IfOk result (λ b. has_child place.now (value_of given.entry) ≡ Some b) }
     ensures erred { IsErrOf result Stop.Erred → has_child place.now (value_of given.entry) ≡ None }
 {
-    Ok(exists_at(child_of(arena, place, given)?))
+    match given {
+        Value::Words(text) => exists_below(arena, place, text),
+        _ => Err(Stop::Erred),
+    }
 }
 
 #[tactic(auto, unfolding(crate::specs::Calls::snapshot_call_with))]

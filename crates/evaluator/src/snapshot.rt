@@ -1,5 +1,6 @@
 //! A snapshot: a location of a tree.
 ghost use Rattle.std.specs.Prelude.{◌≡◌, ◌<◌, ◌≤◌, [], true, IfOk, IsErrOf, IsSome, Some, None, option_map, length};
+ghost use Rattle.std.specs.Bool.{OnTrue};
 ghost use Rattle.tree_model.specs.declared.limits.TheConstants.{MAX_DEPTH};
 ghost use Rattle.tree_model.specs.Key.{is_key};
 ghost use Rattle.tree_model.specs.PathMap.{sub};
@@ -232,6 +233,28 @@ fn at_keys<'a>(
         at = step(arena, at, piece)?;
     }
     Ok(at)
+}
+
+// Whether something exists at a text of keys. Where the text is the key of a child it does, and no place is taken.
+pub(crate) fn exists_below<'a>(
+    arena: &'a Bump,
+    place: &'a Snapshot<'a>,
+    text: &'a str,
+) -> Result<bool, Stop>
+    ensures value { IfOk result (λ there. option_map exists_at (child_at place.now text.now) ≡ Some there) }
+    ensures erred { IsErrOf result Stop.Erred → option_map exists_at (child_at place.now text.now) ≡ None }
+{
+    if is_child(place, text) {
+        return Ok(true);
+    }
+    Ok(exists_at(child_at(arena, place, text)?))
+}
+
+// Whether a text is the key of a child, in a path that has room for it.
+fn is_child(place: &Snapshot, text: &str) -> bool
+    ensures { OnTrue result (option_map exists_at (child_at place.now text.now) ≡ Some true) }
+{
+    child_of(place.view(), text).is_some() && place.depth() < MAX_DEPTH
 }
 
 fn step<'a>(
