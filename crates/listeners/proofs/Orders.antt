@@ -1,13 +1,16 @@
 -- The orders of keys and of values are total.
-use Rattle.std.proofs.Common.{◌≡◌, ℕ, true, false, ℤ, pos, length, List, [], Option, Some, None, Ordering, Less, Equal, Greater, nat_cmp, sym, refl, subst}
-use Rattle.std.specs.Cmp.{IsTotalOrder}
-use Rattle.std.specs.Ordering.{int_cmp, ordering_then, on, then_cmp}
+use Rattle.std.proofs.Common.{◌≡◌, ◌∙◌, ap, ℕ, Bool, true, false, ℤ, pos, length, List, [], Option, Some, None, Ordering, Less, Equal, Greater, nat_cmp, sym, refl, subst}
+use Rattle.std.specs.Prelude.{◌≢◌}
+use Rattle.std.specs.Bool.{OnTrue, OnFalse}
+use Rattle.std.specs.Cmp.{IsTotalOrder, both_ways, tied_itself}
+use Rattle.std.specs.FinMap.{IsAntisymmetric, int_cmp-IsAntisymmetric}
+use Rattle.std.specs.Ordering.{is_eq, int_cmp, ordering_then, on, then_cmp}
 use Rattle.std.proofs.lemmas.Cmp.{nat_cmp_total, int_cmp_total, on_total, then_total}
 use Rattle.tree_model.specs.Key.{Key, key_cmp}
-use Rattle.tree_model.specs.Primitive.{truth, whole, words}
+use Rattle.tree_model.specs.Primitive.{Primitive, truth, whole, words}
 use Rattle.tree_model.proofs.Orders.{keys_total, exact_keys}
 use Rattle.listeners.specs.Working.Ranks.{Rank, keyed, keyed_cmp, rank_cmp}
-use Rattle.listeners.specs.Order.{number_of, numbered_cmp, length_cmp, list_cmp, Place, nothing, value, location, place_cmp}
+use Rattle.listeners.specs.Order.{number_of, numbered_cmp, length_cmp, list_cmp, Place, nothing, value, location, place_cmp, primitive_cmp}
 
 -- two orders in one place are one
 pub same_total : {X : Type 0} (R S : X → X → Ordering) → ((x y : X) → R x y ≡ S x y) → IsTotalOrder S → IsTotalOrder R
@@ -138,6 +141,31 @@ place_cmp-by location location = refl
 
 pub place_total : IsTotalOrder place_cmp
 place_total = same_total place_cmp place_by place_cmp-by (then_total (on_total kind nat_cmp_total) (then_total (on_total bit nat_cmp_total) (then_total (on_total whole_in int_cmp_total) (on_total words_in keys_total))))
+
+-- only the same primitives are in one place
+exact_primitives : IsAntisymmetric primitive_cmp
+exact_primitives (truth false) (truth false) e = refl
+exact_primitives (truth false) (truth true) e = cc
+exact_primitives (truth true) (truth false) e = cc
+exact_primitives (truth true) (truth true) e = refl
+exact_primitives (truth a) (whole y) e = cc
+exact_primitives (truth a) (words t) e = cc
+exact_primitives (whole x) (truth b) e = cc
+exact_primitives (whole x) (whole y) e = ap whole (int_cmp-IsAntisymmetric x y e)
+exact_primitives (whole x) (words t) e = cc
+exact_primitives (words s) (truth b) e = cc
+exact_primitives (words s) (whole y) e = cc
+exact_primitives (words s) (words t) e = ap words (exact_keys s t e)
+
+equal_if : (o : Ordering) → is_eq o ≡ true → o ≡ Equal
+equal_if Less e = cc
+equal_if Equal e = refl
+equal_if Greater e = cc
+
+pub same_place : (b : Bool) (v w : Primitive) → OnTrue b (v ≡ w) → OnFalse b (v ≢ w) → b ≡ is_eq (place_cmp (value v) (value w))
+unfolding place_cmp
+same_place true v w same differs = ap is_eq (sym (tied_itself place_total (value v)) ∙ ap (λ (u : Primitive). place_cmp (value v) (value u)) same)
+same_place false v w same differs = both_ways false (is_eq (place_cmp (value v) (value w))) (λ e. cc) (λ e. absurd (differs (exact_primitives v w (equal_if _ e))))
 
 -- ---- children
 

@@ -10,7 +10,7 @@ ghost use Rattle.listeners.specs.Working.Ranks.{key_in, mark_of, mark_cmp, is_be
 use crate::item::Item;
 use crate::list_key::ListKey;
 use crate::order::Order;
-use crate::place::{Place, compare};
+use crate::place::{Place, compare, is_value};
 use json_tree::Leaf;
 use std::cmp::Ordering;
 
@@ -63,7 +63,8 @@ fn is_at(item: &Item<'_>, mark: &Option<Mark<'_>>) -> bool
     ensures { result ≡ option_map_or (λ m. is_eq (mark_cmp (rank_seen item.now) m)) (option_map mark_seen mark.now) true }
 {
     match mark {
-        Some(mark) => beside(item, mark).is_eq(),
+        Some(Mark::Key(key)) => item.key.compare(key).is_eq(),
+        Some(Mark::Value(leaf)) => is_value(&item.place, leaf),
         None => true,
     }
 }

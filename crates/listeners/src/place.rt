@@ -2,11 +2,13 @@
 ghost use Rattle.std.specs.Prelude.{◌≡◌};
 ghost use Rattle.json_tree.specs.Leaf.{primitive_of};
 ghost use Rattle.path_capture.specs.Write.{tree_or_null};
+ghost use Rattle.std.specs.Ordering.{is_eq};
+ghost use Rattle.listeners.specs.Order as orders;
 ghost use Rattle.listeners.specs.Order.{primitive_cmp, place_cmp};
 ghost use Rattle.listeners.specs.Selection.{place_of};
 ghost use Rattle.listeners.specs.Working.Items.{place_seen};
 
-use arena_snapshot::View;
+use arena_snapshot::{View, is_same_leaf};
 use json_tree::Leaf;
 use std::cmp::Ordering;
 
@@ -31,6 +33,17 @@ pub(crate) fn place_of<'a>(view: Option<View<'a>>) -> Place<'a>
             }
         }
         None => Place::Nothing,
+    }
+}
+
+// Whether it is this primitive, which takes less than to find where it stands beside it.
+#[tactic(auto, unfolding(crate::specs::Order::place_cmp), using(crate::proofs::Orders::same_place))]
+pub(crate) fn is_value(place: &Place<'_>, leaf: &Leaf) -> bool
+    ensures { result ≡ is_eq (place_cmp (place_seen place.now) (orders.value (primitive_of leaf.now))) }
+{
+    match place {
+        Place::Value(own) => is_same_leaf(own, leaf),
+        Place::Nothing | Place::Location => false,
     }
 }
 
