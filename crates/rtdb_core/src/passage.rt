@@ -62,8 +62,8 @@ impl<'a> Passage<'a> {
 }
 
 /// What becomes of a listener of whoever is signed in. Its rules are evaluated only where it may be that
-/// they don't grant its read any longer. It takes memory for what they make and bind, and, where its query's
-/// selection may have moved, for that before and after the step.
+/// they don't grant its read any longer. The arena takes what they make and bind, and, where its query's
+/// selection may have moved, that before and after the step.
 pub(crate) fn fate_of<'s>(
     arena: &Bump,
     passage: &Passage<'_>,
