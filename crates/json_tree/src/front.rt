@@ -32,11 +32,6 @@ impl Front {
         Front(u64::from_be_bytes(first_of(text.as_bytes())))
     }
 
-    // Whether it stands before another, or is the same.
-    pub(crate) fn is_within(self, other: Front) -> bool {
-        self.0 <= other.0
-    }
-
     // Where it stands beside another.
     pub(crate) fn compare(self, other: Front) -> Ordering
         ensures { result ≡ nat_cmp self.0 other.0 }

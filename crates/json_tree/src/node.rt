@@ -1,7 +1,6 @@
 //! A node: the stored tree in memory, a leaf or children in the order of their keys.
-ghost use Rattle.std.specs.Prelude.{◌≡◌, ◌≢◌, ◌<◌, ◌≤◌, true, ◌∷◌, [], length, min, map, count_by, All, IsOk, IfOk, option_map, slice_get, None, IfSome};
-ghost use Rattle.std.specs.List.{AllByRecursion, HoldsAt};
-ghost use Rattle.std.specs.declared.cmp.Ordering.TheVariants.{Equal};
+ghost use Rattle.std.specs.Prelude.{◌≡◌, ◌≢◌, ◌<◌, ◌≤◌, true, ◌∷◌, [], length, min, map, count_by, All, IsOk, IfOk, option_map, slice_get, None};
+ghost use Rattle.std.specs.List.{AllByRecursion};
 ghost use Rattle.std.specs.List.Sorted.{IsSearchInRange, IsBinarySearchResult};
 ghost use Rattle.std.specs.Ordering.{is_lt};
 ghost use Rattle.std.specs.FinMap.{is_sorted};
@@ -374,54 +373,14 @@ fn place_of<'a>(children: &'a Vec<Child>, name: &str) -> Place<'a>
     }
 }
 
-// Where the child of this key is, or where it would go, by a binary search. Where a child is, mostly the fronts tell.
+// Where the child of this key is, or where it would go, by a binary search.
 pub(crate) fn index_of(children: &Vec<Child>, name: &str) -> Result<usize, usize>
     ensures bound { IsSearchInRange result (length children.now.items) }
     ensures position { IsBinarySearchResult (λ child. key_cmp child.0 name.now)
         children.now.items result }
 {
     let sought = Sought::of(name);
-    if let Some(index) = index_by_fronts(children, &sought) {
-        return Ok(index);
-    }
     children.binary_search_by(|child| child.compare(&sought))
-}
-
-// Where the child of this key is, if no other child has its front.
-fn index_by_fronts(children: &Vec<Child>, sought: &Sought<'_>) -> Option<usize>
-    ensures bound { IfSome result (λ index. index < length children.now.items) }
-    ensures child { IfSome result (HoldsAt (λ child. key_cmp child.0 sought.now ≡ Equal) children.now.items) }
-{
-    if children.is_empty() {
-        return None;
-    }
-    let index = last_within(children, sought.front);
-    if children[index].compare(sought) == Ordering::Equal {
-        Some(index)
-    } else {
-        None
-    }
-}
-
-// Where the last child is whose front is at most this one, and 0 where none is. What is compared decides no branch,
-// so a processor has none to guess.
-fn last_within(children: &Vec<Child>, front: Front) -> usize
-    requires { 0 < length children.now.items }
-    ensures { result < length children.now.items }
-{
-    let mut first = 0;
-    let mut count = children.len();
-    while count > 1 {
-        let half = count / 2;
-        let middle = first + half;
-        first = if children[middle].front.is_within(front) {
-            middle
-        } else {
-            first
-        };
-        count -= half;
-    }
-    first
 }
 
 fn key_of(children: &Vec<Child>, i: usize) -> Option<&Key>
