@@ -73,7 +73,7 @@ impl<'a> Layer<'a> {
         Ok(())
     }
 
-    // The tree of these children over the node, if any child is left.
+    // The tree of these children over the node, if any child is left, by one growth of the arena.
     pub(crate) fn finish(self) -> Result<Option<View<'a>>, NoMemory>
         requires layer { IsLayer (node_or_null self.base) self.patches.items self.sizes }
         requires lawful { IsLawful (changed (node_or_null self.base) (map change_of self.patches.items)) }

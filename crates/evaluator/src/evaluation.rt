@@ -323,8 +323,9 @@ pub enum Outcome {
 
 /// Whether a rule of this expression holds: Yes exactly where it means true, No exactly where it means
 /// false, and Erred in every other case. Each part is evaluated at most once, and only where it is
-/// looked at. Growths are taken for a text that `+` or `replace` makes, and one for each key that `child`,
-/// `hasChild` or `hasChildren` goes down; every other text is borrowed. (Reference, rules types.)
+/// looked at. Growths are taken for a text that `+` or `replace` makes, and one for each key that `child` goes
+/// down, as `hasChild` and `hasChildren` do where no child has the key; every other text is borrowed.
+/// (Reference, rules types.)
 pub fn evaluate<'a>(
     arena: &'a Bump,
     checked: &'a Checked,
