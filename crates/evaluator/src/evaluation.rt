@@ -42,7 +42,7 @@ fn part<'a>(arena: &'a Bump, expr: &'a Expr, env: &Env<'a, '_>) -> Result<Part<'
         Expr::Group(inner) => part(arena, inner, env),
         Expr::Member(receiver, name) => member_part(arena, receiver, name.as_str(), env),
         Expr::Call(receiver, name, given) => {
-            let receiver = part(arena, receiver, env)?;
+            let receiver = receiver_of(arena, receiver, env)?;
             call(arena, receiver, name.as_str(), given.as_slice(), env)
         }
         Expr::Not(inner) => other_truth(arena, inner, env),
@@ -65,6 +65,8 @@ fn number_part<'a>(number: u64) -> Result<Part<'a>, Stop>
     Ok(Part::Value(wanted(literal(number))?))
 }
 
+// It stays a function of its own, since it is called from several places.
+#[inline(never)]
 fn variable_part<'a>(name: &str, env: &Env<'a, '_>) -> Result<Part<'a>, Stop>
     ensures value { IfOk result (λ p. variable name.now (env_of env.now) ≡ Some (part_of p)) }
     ensures erred { IsErrOf result Stop.Erred → variable name.now (env_of env.now) ≡ None }
@@ -72,6 +74,7 @@ fn variable_part<'a>(name: &str, env: &Env<'a, '_>) -> Result<Part<'a>, Stop>
     wanted(variable(name, env))
 }
 
+#[inline(never)]
 fn capture_part<'a>(name: &str, env: &Env<'a, '_>) -> Result<Part<'a>, Stop>
     ensures value { IfOk result (λ p. capture name.now (env_of env.now) ≡ Some (part_of p)) }
     ensures erred { IsErrOf result Stop.Erred → capture name.now (env_of env.now) ≡ None }
@@ -90,8 +93,20 @@ fn member_part<'a>(
     ensures value { IfOk result (λ p. option_and_then (member name.now) (mean (view receiver.now) (env_of env.now)) ≡ Some (part_of p)) }
     ensures erred { IsErrOf result Stop.Erred → option_and_then (member name.now) (mean (view receiver.now) (env_of env.now)) ≡ None }
 {
-    let receiver = part(arena, receiver, env)?;
+    let receiver = receiver_of(arena, receiver, env)?;
     wanted(member(name, receiver))
+}
+
+// What stands before a dot. A variable, as most are, is no part that has to be looked into.
+#[cycle(evaluation)]
+fn receiver_of<'a>(arena: &'a Bump, expr: &'a Expr, env: &Env<'a, '_>) -> Result<Part<'a>, Stop>
+    ensures value { IfOk result (λ p. mean (view expr.now) (env_of env.now) ≡ Some (part_of p)) }
+    ensures erred { IsErrOf result Stop.Erred → mean (view expr.now) (env_of env.now) ≡ None }
+{
+    match expr {
+        Expr::Variable(name) => variable_part(name.as_str(), env),
+        _ => part(arena, expr, env),
+    }
 }
 
 // Its value as a part, where one is wanted.
@@ -103,7 +118,8 @@ fn value_part<'a>(arena: &'a Bump, expr: &'a Expr, env: &Env<'a, '_>) -> Result<
     Ok(Part::Value(value(arena, expr, env)?))
 }
 
-// Its value, where one is wanted. A text, as most arguments are, is no part that has to be looked into.
+// Its value, where one is wanted. A text, null, a variable and a capture, as most operands and arguments are,
+// are no parts that have to be looked into.
 #[cycle(evaluation)]
 fn value<'a>(arena: &'a Bump, expr: &'a Expr, env: &Env<'a, '_>) -> Result<Value<'a>, Stop>
     ensures value { IfOk result (λ v. as_value (mean (view expr.now) (env_of env.now)) ≡ Some (value_of v)) }
@@ -111,6 +127,15 @@ fn value<'a>(arena: &'a Bump, expr: &'a Expr, env: &Env<'a, '_>) -> Result<Value
 {
     match expr {
         Expr::Text(text) => Ok(Value::Words(text.as_str())),
+        Expr::Null => Ok(Value::Null),
+        Expr::Variable(name) => {
+            let part = variable_part(name.as_str(), env)?;
+            wanted(in_value(part))
+        }
+        Expr::Capture(name) => {
+            let part = capture_part(name.as_str(), env)?;
+            wanted(in_value(part))
+        }
         _ => {
             let part = part(arena, expr, env)?;
             wanted(in_value(part))

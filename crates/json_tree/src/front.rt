@@ -29,7 +29,7 @@ impl Front {
     pub(crate) fn of(text: &str) -> Front
         ensures { IsFrontOf text.now result.0 }
     {
-        Front(u64::from_be_bytes(first_of(text.as_bytes())))
+        Front(number_of(text.as_bytes()))
     }
 
     // Where it stands beside another.
@@ -40,20 +40,21 @@ impl Front {
     }
 }
 
-// The first bytes, and 0 for each that is not there.
-fn first_of(bytes: &[u8]) -> [u8; FRONT_BYTES]
-    ensures { from_be_bytes w64 result ≡ from_be_bytes w64 bytes.now }
+// The first bytes as one number, where one that is not there is 0. An arm for each length, so that its bytes are
+// read together.
+fn number_of(bytes: &[u8]) -> u64
+    ensures { result ≡ from_be_bytes w64 bytes.now }
 {
     match *bytes {
-        [] => [0, 0, 0, 0, 0, 0, 0, 0],
-        [a] => [a, 0, 0, 0, 0, 0, 0, 0],
-        [a, b] => [a, b, 0, 0, 0, 0, 0, 0],
-        [a, b, c] => [a, b, c, 0, 0, 0, 0, 0],
-        [a, b, c, d] => [a, b, c, d, 0, 0, 0, 0],
-        [a, b, c, d, e] => [a, b, c, d, e, 0, 0, 0],
-        [a, b, c, d, e, f] => [a, b, c, d, e, f, 0, 0],
-        [a, b, c, d, e, f, g] => [a, b, c, d, e, f, g, 0],
-        [a, b, c, d, e, f, g, h, ..] => [a, b, c, d, e, f, g, h],
+        [a, b, c, d, e, f, g, h, ..] => u64::from_be_bytes([a, b, c, d, e, f, g, h]),
+        [a, b, c, d, e, f, g] => u64::from_be_bytes([a, b, c, d, e, f, g, 0]),
+        [a, b, c, d, e, f] => u64::from_be_bytes([a, b, c, d, e, f, 0, 0]),
+        [a, b, c, d, e] => u64::from_be_bytes([a, b, c, d, e, 0, 0, 0]),
+        [a, b, c, d] => u64::from_be_bytes([a, b, c, d, 0, 0, 0, 0]),
+        [a, b, c] => u64::from_be_bytes([a, b, c, 0, 0, 0, 0, 0]),
+        [a, b] => u64::from_be_bytes([a, b, 0, 0, 0, 0, 0, 0]),
+        [a] => u64::from_be_bytes([a, 0, 0, 0, 0, 0, 0, 0]),
+        [] => 0,
     }
 }
 

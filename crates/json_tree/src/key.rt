@@ -139,7 +139,11 @@ fn has_key_bytes(bytes: &[u8]) -> bool
 fn is_key_byte(b: u8) -> bool
     ensures { result ≡ is_key_byte b }
 {
-    32 <= b && b != 127 && !matches!(b, b'.' | b'$' | b'#' | b'[' | b']' | b'/')
+    // Most bytes of keys are small letters.
+    if b'^' <= b {
+        return b != 127;
+    }
+    32 <= b && !matches!(b, b'.' | b'$' | b'#' | b'[' | b']' | b'/')
 }
 
 /// The same keys once more, by one growth for the list and one at most for each key.

@@ -2,7 +2,7 @@
 ghost use Rattle.std.specs.Prelude.{◌≡◌, ◌<◌, ◌≤◌, ◌++◌, ◌∷◌, [], Some, length, option_map, IfOk, IfSome, OnOk, IsErrOf};
 ghost use Rattle.std.specs.List.{list_all, list_any};
 ghost use Rattle.std.specs.Str.{bytes_eq};
-ghost use Rattle.serde_json.specs.Data.{string};
+ghost use Rattle.serde_json.specs.Data.{number, unsigned, string};
 ghost use Rattle.serde_json.specs.View.{view, members_view};
 ghost use Rattle.path_capture.specs.Write.{tree_or_null};
 ghost use Rattle.tokens.specs.Tokens.{names_of, has_only, text_at};
@@ -13,9 +13,11 @@ ghost use Rattle.messages.specs.Working.Faults.{fault_of_path};
 ghost use Rattle.messages.specs.Working.Outline.{said_data, object_data, source_data, message_data};
 
 use crate::limits::MAX_MESSAGE_BYTES;
+use crate::named::is_read_back;
 use crate::outline::{Member, Part, Said};
 use crate::reader::MessageReader;
 use crate::source::{Message, Object, Source};
+use crate::trees::node_of_whole;
 use json_tree::{Leaf, NoMemory, Node, ValueFault, from_json};
 use listeners::{ListenerId, Query, QueryFault};
 use path_capture::{Path, PathFault, Write};
@@ -561,10 +563,23 @@ pub(crate) fn tree_of(alloc: Global, said: Said<'_>) -> Result<Option<Node>, Mes
     match said {
         Said::Null => tree_of_value(alloc, &Value::Null),
         Said::Truth(truth) => tree_of_value(alloc, &Value::Bool(truth)),
-        Said::Whole(whole) => tree_of_value(alloc, &Value::from(whole)),
+        Said::Whole(whole) => tree_of_whole(alloc, whole),
         Said::Negative(negative) => tree_of_value(alloc, &Value::from(negative)),
         Said::Words(text) => tree_of_text(alloc, text),
         Said::Named(named) => named.into_tree(alloc),
+    }
+}
+
+fn tree_of_whole(alloc: Global, whole: u64) -> Result<Option<Node>, MessageFault>
+    ensures { Tells tree_or_null result (tree_of_value (number (unsigned whole))) }
+{
+    match node_of_whole(whole) {
+        Some(node) => {
+            let tree = Some(node);
+            is_read_back(&tree);
+            Ok(tree)
+        }
+        None => tree_of_value(alloc, &Value::from(whole)),
     }
 }
 

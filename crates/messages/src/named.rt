@@ -84,8 +84,8 @@ impl Entry<'_> {
     }
 }
 
-// What a tree is written as is read as that tree.
-fn is_read_back(tree: &Option<Node>)
+/// What a tree is written as is read as that tree.
+pub(crate) fn is_read_back(tree: &Option<Node>)
     ensures { tree_of_value (value_of (tree_or_null tree.now)) ≡ Ok (tree_or_null tree.now) }
 {
     match tree {

@@ -102,6 +102,17 @@ fn node_of_number(text: &str) -> Option<Node>
     node_of_leaf(Leaf::Whole(whole))
 }
 
+/// The tree of a whole number that is not negative. None where it is over the limit.
+pub(crate) fn node_of_whole(whole: u64) -> Option<Node>
+    ensures { IfSome result (λ node. value_of node ≡ number (unsigned whole)) }
+{
+    if whole > MAX_POSITIVE {
+        return None;
+    }
+    let number = Number::new(whole as i64)?;
+    node_of_leaf(Leaf::Whole(number))
+}
+
 // The whole number from -2^63 to 2^63 - 1 that a number's text is.
 fn integer_of(text: &str) -> Option<i64>
     ensures { IfSome result (λ integer. number_of text.now ≡ Some (of_integer integer)) }
