@@ -68,7 +68,7 @@ is_spelt (a ∷ b ∷ c ∷ d ∷ e ∷ f ∷ []) = omega arith
 is_spelt (a ∷ b ∷ c ∷ d ∷ e ∷ f ∷ g ∷ []) = omega arith
 is_spelt (a ∷ b ∷ c ∷ d ∷ e ∷ f ∷ g ∷ h ∷ k) = omega arith
 
-front_less : (k l : Key) (m n : ℕ) → IsFrontOf k m → IsFrontOf l n → m < n → key_cmp k l ≡ Less
+pub front_less : (k l : Key) (m n : ℕ) → IsFrontOf k m → IsFrontOf l n → m < n → key_cmp k l ≡ Less
 front_less k l m n h g less =
     let left : m ≡ spelt 8 k = h.is ∙ is_spelt k in
     let right : n ≡ spelt 8 l = g.is ∙ is_spelt l in

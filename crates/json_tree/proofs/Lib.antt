@@ -18,3 +18,4 @@ pub mod Proposing
 pub mod ChildEdits
 pub mod Undoing
 pub mod Fronts
+pub mod Searching

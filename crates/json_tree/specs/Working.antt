@@ -1,4 +1,5 @@
 -- Words of private contracts. No public clause stands on them.
+pub mod Search
 pub mod Share
 pub mod NodeFalls
 pub mod Levels

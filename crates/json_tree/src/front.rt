@@ -1,5 +1,5 @@
 //! The front of a text: what mostly tells it from another, without a look at the text.
-ghost use Rattle.std.specs.Prelude.{◌≡◌, true};
+ghost use Rattle.std.specs.Prelude.{◌≡◌, ◌<◌, true};
 ghost use Rattle.std.specs.Int.{w64, from_be_bytes};
 ghost use Rattle.std.specs.Ordering.{nat_cmp};
 ghost use Rattle.json_tree.specs.Working.Front.{IsFrontOf, IsTold};
@@ -30,6 +30,13 @@ impl Front {
         ensures { IsFrontOf text.now result.0 }
     {
         Front(number_of(text.as_bytes()))
+    }
+
+    // Whether it stands before another.
+    pub(crate) fn is_before(self, other: Front) -> bool
+        ensures { result ≡ true → self.0 < other.0 }
+    {
+        self.0 < other.0
     }
 
     // Where it stands beside another.

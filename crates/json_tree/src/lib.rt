@@ -14,6 +14,7 @@ mod leaf;
 mod memory;
 mod node;
 mod puts;
+mod search;
 mod share;
 mod undo;
 

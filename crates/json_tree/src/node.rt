@@ -3,6 +3,7 @@ ghost use Rattle.std.specs.Prelude.{◌≡◌, ◌≢◌, ◌<◌, ◌≤◌, tr
 ghost use Rattle.std.specs.List.{AllByRecursion};
 ghost use Rattle.std.specs.List.Sorted.{IsSearchInRange, IsBinarySearchResult};
 ghost use Rattle.std.specs.Ordering.{is_lt};
+ghost use Rattle.std.specs.declared.cmp.Ordering.TheVariants.{Less};
 ghost use Rattle.std.specs.FinMap.{is_sorted};
 ghost use Rattle.std.specs.FinMap as map_of;
 ghost use Rattle.tree_model.specs.Key.{key_cmp};
@@ -15,6 +16,7 @@ use crate::front::{Front, Sought};
 use crate::key::Key;
 use crate::leaf::Leaf;
 use crate::memory::NoMemory;
+use crate::search::count_in_front;
 use std::alloc::Global;
 use std::cmp::Ordering;
 use std::marker::Model;
@@ -110,9 +112,16 @@ impl Child {
         &self.held.1
     }
 
+    // Whether the front alone tells that the key stands before a text.
+    pub(crate) fn is_in_front_of(&self, sought: &Sought<'_>) -> bool
+        ensures { result ≡ true → key_cmp self.now.0 sought.now ≡ Less }
+    {
+        self.front.is_before(sought.front)
+    }
+
     // Where the key stands beside a text: the fronts tell, and where they are the same, either that no other
     // key has this front, or the key.
-    fn compare(&self, sought: &Sought<'_>) -> Ordering
+    pub(crate) fn compare(&self, sought: &Sought<'_>) -> Ordering
         ensures { result ≡ key_cmp self.now.0 sought.now }
     {
         match self.front.compare(sought.front) {
@@ -373,14 +382,32 @@ fn place_of<'a>(children: &'a Vec<Child>, name: &str) -> Place<'a>
     }
 }
 
-// Where the child of this key is, or where it would go, by a binary search.
+// Where the child of this key is, or where it would go. Fronts lead to one child, and only where that has the
+// front of the text, and is another, the whole is searched.
 pub(crate) fn index_of(children: &Vec<Child>, name: &str) -> Result<usize, usize>
     ensures bound { IsSearchInRange result (length children.now.items) }
     ensures position { IsBinarySearchResult (λ child. key_cmp child.0 name.now)
         children.now.items result }
 {
     let sought = Sought::of(name);
-    children.binary_search_by(|child| child.compare(&sought))
+    let index = count_in_front(children, &sought);
+    if index == children.len() {
+        return Err(index);
+    }
+    match children[index].compare(&sought) {
+        Ordering::Equal => Ok(index),
+        Ordering::Greater => Err(index),
+        Ordering::Less => searched(children, &sought),
+    }
+}
+
+// The same by a binary search.
+fn searched(children: &Vec<Child>, sought: &Sought<'_>) -> Result<usize, usize>
+    ensures bound { IsSearchInRange result (length children.now.items) }
+    ensures position { IsBinarySearchResult (λ child. key_cmp child.0 sought.now)
+        children.now.items result }
+{
+    children.binary_search_by(|child| child.compare(sought))
 }
 
 fn key_of(children: &Vec<Child>, i: usize) -> Option<&Key>
