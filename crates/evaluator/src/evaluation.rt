@@ -5,8 +5,8 @@ ghost use Rattle.expr_parser.specs.View.{view, view_argument, views, arguments};
 ghost use Rattle.expr_parser.specs.Tree.{argument, no_argument};
 ghost use Rattle.expr_types.specs.HasSort.{is_value};
 ghost use Rattle.evaluator.specs.Value as meanings;
-ghost use Rattle.evaluator.specs.Value.{as_value, sort_of_part, value, in_range};
-ghost use Rattle.evaluator.specs.Operators.{in_truth, as_truth, other_truth, minus_of, operated};
+ghost use Rattle.evaluator.specs.Value.{as_value, sort_of_part, value, truth, in_range};
+ghost use Rattle.evaluator.specs.Operators.{in_truth, as_truth, other_truth, minus_of, both, either, operated};
 ghost use Rattle.evaluator.specs.Calls.{call_of, called_with, called_with_two, called_with_list, have_children};
 ghost use Rattle.evaluator.specs.Members.{member};
 ghost use Rattle.evaluator.specs.Env.{env_of, variable, capture, Suits};
@@ -118,8 +118,8 @@ fn value_part<'a>(arena: &'a Bump, expr: &'a Expr, env: &Env<'a, '_>) -> Result<
     Ok(Part::Value(value(arena, expr, env)?))
 }
 
-// Its value, where one is wanted. A text, null, a variable and a capture, as most operands and arguments are,
-// are no parts that have to be looked into.
+// Its value, where one is wanted. What can be nothing but a value is no part that has to be looked into, nor are
+// variables and captures.
 #[cycle(evaluation)]
 fn value<'a>(arena: &'a Bump, expr: &'a Expr, env: &Env<'a, '_>) -> Result<Value<'a>, Stop>
     ensures value { IfOk result (λ v. as_value (mean (view expr.now) (env_of env.now)) ≡ Some (value_of v)) }
@@ -127,7 +127,14 @@ fn value<'a>(arena: &'a Bump, expr: &'a Expr, env: &Env<'a, '_>) -> Result<Value
 {
     match expr {
         Expr::Text(text) => Ok(Value::Words(text.as_str())),
+        Expr::Number(number) => wanted(literal(*number)),
+        Expr::True => Ok(Value::Truth(true)),
+        Expr::False => Ok(Value::Truth(false)),
         Expr::Null => Ok(Value::Null),
+        Expr::Operation(operator, left, right) => {
+            let left = value(arena, left, env)?;
+            operated(arena, *operator, left, right, env)
+        }
         Expr::Variable(name) => {
             let part = variable_part(name.as_str(), env)?;
             wanted(in_value(part))
@@ -149,8 +156,45 @@ fn truth<'a>(arena: &'a Bump, expr: &'a Expr, env: &Env<'a, '_>) -> Result<bool,
     ensures value { IfOk result (λ b. as_truth (as_value (mean (view expr.now) (env_of env.now))) ≡ Some b) }
     ensures erred { IsErrOf result Stop.Erred → as_truth (as_value (mean (view expr.now) (env_of env.now))) ≡ None }
 {
-    let value = value(arena, expr, env)?;
-    wanted(in_truth(value))
+    match expr {
+        Expr::Operation(Operator::And, left, right) => {
+            let left = truth(arena, left, env)?;
+            both(arena, left, right, env)
+        }
+        Expr::Operation(Operator::Or, left, right) => {
+            let left = truth(arena, left, env)?;
+            either(arena, left, right, env)
+        }
+        Expr::Not(inner) => Ok(!truth(arena, inner, env)?),
+        _ => {
+            let value = value(arena, expr, env)?;
+            wanted(in_truth(value))
+        }
+    }
+}
+
+// Whether both are true, behind the left one. Where that is false, the right one is not evaluated.
+#[cycle(evaluation)]
+fn both<'a>(arena: &'a Bump, left: bool, right: &'a Expr, env: &Env<'a, '_>) -> Result<bool, Stop>
+    ensures value { IfOk result (λ b. both (Some (truth left)) (as_value (mean (view right.now) (env_of env.now))) ≡ Some (truth b)) }
+    ensures erred { IsErrOf result Stop.Erred → both (Some (truth left)) (as_value (mean (view right.now) (env_of env.now))) ≡ None }
+{
+    if !left {
+        return Ok(false);
+    }
+    truth(arena, right, env)
+}
+
+// Whether one of both is true, behind the left one. Where that is, the right one is not evaluated.
+#[cycle(evaluation)]
+fn either<'a>(arena: &'a Bump, left: bool, right: &'a Expr, env: &Env<'a, '_>) -> Result<bool, Stop>
+    ensures value { IfOk result (λ b. either (Some (truth left)) (as_value (mean (view right.now) (env_of env.now))) ≡ Some (truth b)) }
+    ensures erred { IsErrOf result Stop.Erred → either (Some (truth left)) (as_value (mean (view right.now) (env_of env.now))) ≡ None }
+{
+    if left {
+        return Ok(true);
+    }
+    truth(arena, right, env)
 }
 
 // The other boolean.
@@ -203,16 +247,12 @@ fn operated<'a>(
 {
     match operator {
         Operator::And => {
-            if !wanted(in_truth(left))? {
-                return Ok(Value::Truth(false));
-            }
-            Ok(Value::Truth(truth(arena, right, env)?))
+            let left = wanted(in_truth(left))?;
+            Ok(Value::Truth(both(arena, left, right, env)?))
         }
         Operator::Or => {
-            if wanted(in_truth(left))? {
-                return Ok(Value::Truth(true));
-            }
-            Ok(Value::Truth(truth(arena, right, env)?))
+            let left = wanted(in_truth(left))?;
+            Ok(Value::Truth(either(arena, left, right, env)?))
         }
         _ => {
             let second = value(arena, right, env)?;
@@ -361,10 +401,9 @@ pub fn evaluate<'a>(
     ensures sorted { (p : meanings.Part) → mean checked.now.tree (env_of env.now) ≡ Some p → is_value (sort_of_part p) ≡ true }
 {
     checked.law();
-    match value(arena, checked.expr(), env) {
-        Ok(Value::Truth(true)) => Ok(Outcome::Yes),
-        Ok(Value::Truth(false)) => Ok(Outcome::No),
-        Ok(_) => Ok(Outcome::Erred),
+    match truth(arena, checked.expr(), env) {
+        Ok(true) => Ok(Outcome::Yes),
+        Ok(false) => Ok(Outcome::No),
         Err(Stop::Erred) => Ok(Outcome::Erred),
         Err(Stop::NoMemory) => Err(NoMemory),
     }
