@@ -25,6 +25,9 @@ use expr_parser::{Argument, Expr, Operator};
 use expr_types::Checked;
 use json_tree::NoMemory;
 
+// Of the functions below, those that are marked so are not made one with the functions that call them: for what
+// such a one needs on its way, room would be made and cleared at each call of these.
+
 // What a part of an expression means.
 #[cycle(evaluation)]
 fn part<'a>(arena: &'a Bump, expr: &'a Expr, env: &Env<'a, '_>) -> Result<Part<'a>, Stop>
@@ -65,7 +68,6 @@ fn number_part<'a>(number: u64) -> Result<Part<'a>, Stop>
     Ok(Part::Value(wanted(literal(number))?))
 }
 
-// It stays a function of its own, since it is called from several places.
 #[inline(never)]
 fn variable_part<'a>(name: &str, env: &Env<'a, '_>) -> Result<Part<'a>, Stop>
     ensures value { IfOk result (λ p. variable name.now (env_of env.now) ≡ Some (part_of p)) }
@@ -84,6 +86,7 @@ fn capture_part<'a>(name: &str, env: &Env<'a, '_>) -> Result<Part<'a>, Stop>
 
 // What a name behind a dot means.
 #[cycle(evaluation)]
+#[inline(never)]
 fn member_part<'a>(
     arena: &'a Bump,
     receiver: &'a Expr,
@@ -111,6 +114,7 @@ fn receiver_of<'a>(arena: &'a Bump, expr: &'a Expr, env: &Env<'a, '_>) -> Result
 
 // Its value as a part, where one is wanted.
 #[cycle(evaluation)]
+#[inline(never)]
 fn value_part<'a>(arena: &'a Bump, expr: &'a Expr, env: &Env<'a, '_>) -> Result<Part<'a>, Stop>
     ensures value { IfOk result (λ p. option_map value (as_value (mean (view expr.now) (env_of env.now))) ≡ Some (part_of p)) }
     ensures erred { IsErrOf result Stop.Erred → option_map value (as_value (mean (view expr.now) (env_of env.now))) ≡ None }
@@ -121,6 +125,7 @@ fn value_part<'a>(arena: &'a Bump, expr: &'a Expr, env: &Env<'a, '_>) -> Result<
 // Its value, where one is wanted. What can be nothing but a value is no part that has to be looked into, nor are
 // variables and captures.
 #[cycle(evaluation)]
+#[inline(never)]
 fn value<'a>(arena: &'a Bump, expr: &'a Expr, env: &Env<'a, '_>) -> Result<Value<'a>, Stop>
     ensures value { IfOk result (λ v. as_value (mean (view expr.now) (env_of env.now)) ≡ Some (value_of v)) }
     ensures erred { IsErrOf result Stop.Erred → as_value (mean (view expr.now) (env_of env.now)) ≡ None }
@@ -199,6 +204,7 @@ fn either<'a>(arena: &'a Bump, left: bool, right: &'a Expr, env: &Env<'a, '_>) -
 
 // The other boolean.
 #[cycle(evaluation)]
+#[inline(never)]
 fn other_truth<'a>(arena: &'a Bump, expr: &'a Expr, env: &Env<'a, '_>) -> Result<Part<'a>, Stop>
     ensures value { IfOk result (λ p. option_map value (other_truth (as_value (mean (view expr.now) (env_of env.now)))) ≡ Some (part_of p)) }
     ensures erred { IsErrOf result Stop.Erred → option_map value (other_truth (as_value (mean (view expr.now) (env_of env.now)))) ≡ None }
@@ -209,6 +215,7 @@ fn other_truth<'a>(arena: &'a Bump, expr: &'a Expr, env: &Env<'a, '_>) -> Result
 
 // The number with the other sign.
 #[cycle(evaluation)]
+#[inline(never)]
 fn opposite<'a>(arena: &'a Bump, expr: &'a Expr, env: &Env<'a, '_>) -> Result<Part<'a>, Stop>
     ensures value { IfOk result (λ p. option_map value (option_and_then minus_of (as_value (mean (view expr.now) (env_of env.now)))) ≡ Some (part_of p)) }
     ensures erred { IsErrOf result Stop.Erred → option_map value (option_and_then minus_of (as_value (mean (view expr.now) (env_of env.now)))) ≡ None }
@@ -220,6 +227,7 @@ fn opposite<'a>(arena: &'a Bump, expr: &'a Expr, env: &Env<'a, '_>) -> Result<Pa
 
 // What an operator gives behind its left value, as a part.
 #[cycle(evaluation)]
+#[inline(never)]
 fn operation<'a>(
     arena: &'a Bump,
     operator: Operator,
@@ -235,6 +243,7 @@ fn operation<'a>(
 
 // What an operator gives behind its left value. Where that decides, the right operand is not evaluated.
 #[cycle(evaluation)]
+#[inline(never)]
 fn operated<'a>(
     arena: &'a Bump,
     operator: Operator,
@@ -263,6 +272,7 @@ fn operated<'a>(
 
 // What a call gives.
 #[cycle(evaluation)]
+#[inline(never)]
 fn call<'a>(
     arena: &'a Bump,
     receiver: Part<'a>,

@@ -238,6 +238,8 @@ impl Machine {
         Ok(())
     }
 
+    // What becomes of an event. But for `set`, what answers it is not made one with this: room is made and cleared
+    // at each call for what any of them would need.
     fn answer(
         &mut self,
         arena: &mut Bump,
@@ -304,6 +306,7 @@ impl Machine {
         self.sessions.contains_key(&session)
     }
 
+    #[inline(never)]
     fn open(&mut self, arena: &mut Bump, now: u64, session: u64) -> Result<Reply, NoMemory>
         ensures ok { IfOk result (λ reply. outcome self.old now session Event.Open ≡ record { reply = reply; after = self.new }) }
         ensures err { OnErr result (self.new ≡ self.old) }
@@ -322,6 +325,7 @@ impl Machine {
     }
 
     #[tactic(auto, using(crate::proofs::Sessions::none_gone))]
+    #[inline(never)]
     fn close(&mut self, session: u64) -> Reply
         ensures { closes self.old session ≡ record { reply = result; after = self.new } }
     {
@@ -340,6 +344,7 @@ impl Machine {
         self.sessions.remove(&session).is_some()
     }
 
+    #[inline(never)]
     fn sign(
         &mut self,
         arena: &mut Bump,
@@ -396,6 +401,7 @@ impl Machine {
         open.settle(Docket::new(decisions));
     }
 
+    #[inline(never)]
     fn listen(
         &mut self,
         arena: &mut Bump,
@@ -456,6 +462,7 @@ impl Machine {
         open.listen(id, path, query)
     }
 
+    #[inline(never)]
     fn unlisten(&mut self, session: u64, id: &ListenerId) -> Reply
         ensures { unlistens self.old session id.now ≡ record { reply = result; after = self.new } }
     {
@@ -481,6 +488,7 @@ impl Machine {
         open.unlisten(id)
     }
 
+    #[inline(never)]
     fn poll(&mut self, arena: &mut Bump, now: u64, session: u64) -> Result<Reply, NoMemory>
         requires moment { now ≤ MAX_MOMENT }
         requires heard { AllHeard self.old }
@@ -534,6 +542,7 @@ impl Machine {
         open.take_marked();
     }
 
+    #[inline(never)]
     fn tick(&mut self, arena: &mut Bump, now: u64) -> Result<Reply, NoMemory>
         requires moment { now ≤ MAX_MOMENT }
         requires heard { AllHeard self.old }
@@ -546,6 +555,7 @@ impl Machine {
         Ok(Reply::Done)
     }
 
+    #[inline(never)]
     fn deploy(
         &mut self,
         arena: &mut Bump,
@@ -625,6 +635,7 @@ impl Machine {
         Ok(())
     }
 
+    #[inline(never)]
     fn get(
         &self,
         arena: &mut Bump,
@@ -676,6 +687,7 @@ impl Machine {
         }
     }
 
+    #[inline(never)]
     fn update(
         &mut self,
         arena: &mut Bump,
