@@ -16,7 +16,7 @@ use Rattle.std.proofs.lemmas.Bool.{leb-true}
 use Rattle.std.proofs.lemmas.Bool.Decides.{nat_tests}
 use Rattle.json_tree.specs.Json.{value_of}
 use Rattle.json_tree.proofs.Edits.{IsGap}
-use Rattle.messages.specs.Working.Named.{is_plain, members_named}
+use Rattle.messages.specs.Working.TreeMembers.{is_plain, members_named}
 
 -- ---- a member is put
 

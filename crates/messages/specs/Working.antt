@@ -2,6 +2,6 @@
 pub mod Faults
 pub mod Opening
 pub mod Asking
-pub mod Named
+pub mod TreeMembers
 pub mod Outline
 pub mod Writing

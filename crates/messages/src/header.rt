@@ -12,8 +12,9 @@ ghost use Rattle.messages.specs.Working.Opening.{OpensBy, header_seen};
 ghost use Rattle.serde_json.specs.Data.{Data as AnyData};
 ghost use Rattle.messages.specs.declared.header.HeaderFault.TheVariants.{Line as of_line, Rules as of_rules};
 
-use crate::message::{MessageFault, read_value, tree_of_value};
+use crate::message::{MessageFault, read_value};
 use crate::source::Source;
+use crate::writes::tree_of_value;
 use json_tree::Node;
 use rtdb_core::Core;
 use rules_reader::{Rules, RulesFault, compile};

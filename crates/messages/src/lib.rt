@@ -11,13 +11,16 @@ mod code;
 mod header;
 mod limits;
 mod message;
-mod named;
 mod news;
 mod outline;
 mod reader;
 mod refusal;
 mod source;
+mod tree_members;
 mod trees;
+mod verb_members;
+mod wanted;
+mod writes;
 
 pub use answer::{
     write_accepted, write_bad_tokens, write_fault, write_line_fault, write_refusal, write_reply,

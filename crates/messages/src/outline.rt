@@ -7,7 +7,7 @@ ghost use Rattle.serde_json.specs.Find.{get_member};
 ghost use Rattle.serde_json.specs.Read.{read};
 ghost use Rattle.messages.specs.Working.Outline.{said_data, part_data, put_all, IsRead, Gives};
 
-use crate::named::Named;
+use crate::tree_members::TreeMembers;
 use crate::trees::{named_from, negative_of, whole_of};
 use bumpalo::Bump;
 use json::{Reader, Scratch, Token};
@@ -32,7 +32,7 @@ pub(crate) enum Said<'a> {
     Negative(i64),
     Words(&'a str),
     /// An object of trees.
-    Named(Named<'a>),
+    Trees(TreeMembers<'a>),
 }
 
 /// What a member of a message is, borrowed.
@@ -46,7 +46,7 @@ pub(crate) enum Part<'a> {
     Negative(i64),
     Words(&'a str),
     /// An object of trees.
-    Named(&'a Named<'a>),
+    Trees(&'a TreeMembers<'a>),
     /// Any value.
     Held(&'a Value),
 }
@@ -61,7 +61,7 @@ impl Said<'_> {
             Said::Whole(whole) => Part::Whole(*whole),
             Said::Negative(negative) => Part::Negative(*negative),
             Said::Words(text) => Part::Words(text),
-            Said::Named(named) => Part::Named(named),
+            Said::Trees(named) => Part::Trees(named),
         }
     }
 }
@@ -153,7 +153,7 @@ fn said_from<'a>(alloc: Global, reader: &mut Reader<'a>, token: Token<'a>) -> Op
         Token::Null => Some(Said::Null),
         Token::BeginObject => {
             let named = named_from(alloc, reader, MAX_MEMBER_LEVELS - 1)?;
-            Some(Said::Named(named))
+            Some(Said::Trees(named))
         }
         _ => None,
     }

@@ -10,9 +10,10 @@ ghost use Rattle.tokens.specs.Tokens.{text_at};
 ghost use Rattle.messages.specs.Message.{Tells, tree_of_value, writes_below};
 ghost use Rattle.messages.specs.Working.Outline.{part_data, object_data, source_data, message_data};
 
-use crate::message::{MessageFault, tree_of, tree_of_value, writes_below};
-use crate::named::Named;
+use crate::message::MessageFault;
 use crate::outline::{Member, Outline, Part, Said, part_at};
+use crate::tree_members::TreeMembers;
+use crate::writes::{tree_of, tree_of_value, writes_below};
 use json_tree::Node;
 use path_capture::{Path, Write};
 use serde_json::Value;
@@ -62,7 +63,7 @@ impl<'a> Message<'a> {
     {
         match self {
             Message::Outlined(outline) => match outline.take(name) {
-                Some(Said::Named(named)) => named.into_writes(alloc, path),
+                Some(Said::Trees(named)) => named.into_writes(alloc, path),
                 _ => Ok(Vec::new(alloc)),
             },
             Message::Held(value) => match value.get(name).and_then(Value::as_object) {
@@ -83,7 +84,7 @@ pub(crate) enum Source<'a> {
 /// An object, borrowed.
 #[derive(Clone, Copy)]
 pub(crate) enum Object<'a> {
-    Named(&'a Named<'a>),
+    Trees(&'a TreeMembers<'a>),
     Held(&'a Value),
 }
 
@@ -114,7 +115,7 @@ impl<'a> Part<'a> {
         match self {
             Part::Words(text) => Some(text),
             Part::Held(value) => value.as_str(),
-            Part::Null | Part::Truth(_) | Part::Whole(_) | Part::Negative(_) | Part::Named(_) =>
+            Part::Null | Part::Truth(_) | Part::Whole(_) | Part::Negative(_) | Part::Trees(_) =>
                 None,
         }
     }
@@ -127,7 +128,7 @@ impl<'a> Part<'a> {
             Part::Whole(whole) => Some(whole),
             Part::Negative(negative) => Value::from(negative).as_u64(),
             Part::Held(value) => value.as_u64(),
-            Part::Null | Part::Truth(_) | Part::Words(_) | Part::Named(_) => None,
+            Part::Null | Part::Truth(_) | Part::Words(_) | Part::Trees(_) => None,
         }
     }
 
@@ -136,7 +137,7 @@ impl<'a> Part<'a> {
         ensures { option_map object_data result ≡ option_map (λ members. part_data self.entry) (as_object (part_data self.entry)) }
     {
         match self {
-            Part::Named(named) => Some(Object::Named(named)),
+            Part::Trees(named) => Some(Object::Trees(named)),
             Part::Held(value) => if value.is_object() {
                 Some(Object::Held(value))
             } else {

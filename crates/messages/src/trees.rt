@@ -9,10 +9,10 @@ ghost use Rattle.serde_json.specs.Read.{number_of, number_from};
 ghost use Rattle.json_tree.specs.Leaf.{primitive_of};
 ghost use Rattle.json_tree.specs.Json.{data_of, value_of};
 ghost use Rattle.path_capture.specs.Write.{tree_or_null};
-ghost use Rattle.messages.specs.Working.Named.{members_named};
+ghost use Rattle.messages.specs.Working.TreeMembers.{members_named};
 ghost use Rattle.messages.specs.Working.Outline.{IsRead, Gives};
 
-use crate::named::Named;
+use crate::tree_members::TreeMembers;
 use fast_float::Numeral;
 use json::{Reader, Token};
 use json_tree::{Leaf, Node, Number};
@@ -29,11 +29,11 @@ pub(crate) fn named_from<'a>(
     alloc: Global,
     reader: &mut Reader<'a>,
     depth: usize,
-) -> Option<Named<'a>>
+) -> Option<TreeMembers<'a>>
     ensures value { IfSome result (λ named. Gives depth reader.old (members_named named) reader.new) }
     ensures shorter { IfSome result (λ named. length reader.new ≤ length reader.old) }
 {
-    let mut named = Named::new(alloc);
+    let mut named = TreeMembers::new(alloc);
     'members: while let Some(name) = reader.next_key().ok()? {
         let token = reader.next()?;
         let tree = tree_from(alloc, reader, token, depth)?;
@@ -68,7 +68,7 @@ fn tree_from<'a>(
     }
 }
 
-fn node_of(alloc: Global, named: Named<'_>) -> Option<Node>
+fn node_of(alloc: Global, named: TreeMembers<'_>) -> Option<Node>
     ensures { IfSome result (λ node. value_of node ≡ object (members_named named.entry)) }
 {
     if named.is_plain() {

@@ -4,6 +4,7 @@
 //! its contract says what is said to an input.
 #![tactic(auto)]
 
+mod ahead;
 mod desk;
 mod line;
 mod outgoing;

@@ -17,7 +17,7 @@ use Rattle.messages.specs.declared.source.Object.{Object}
 use Rattle.messages.specs.declared.source.Object.TheVariants as objects
 use Rattle.messages.specs.declared.source.Source.{Source}
 use Rattle.messages.specs.declared.source.Source.TheVariants as sources
-use Rattle.messages.specs.Working.Named.{members_named}
+use Rattle.messages.specs.Working.TreeMembers.{members_named}
 
 -- ---- what is read
 
@@ -28,7 +28,7 @@ said_data (says.Truth b) = boolean b
 said_data (says.Whole n) = number (unsigned n)
 said_data (says.Negative z) = number (of_integer z)
 said_data (says.Words s) = string s.now
-said_data (says.Named es) = object (members_named es)
+said_data (says.Trees es) = object (members_named es)
 
 abbrev pub part_data : Part → Data
 part_data parts.Null = null
@@ -36,11 +36,11 @@ part_data (parts.Truth b) = boolean b
 part_data (parts.Whole n) = number (unsigned n)
 part_data (parts.Negative z) = number (of_integer z)
 part_data (parts.Words s) = string s.now
-part_data (parts.Named es) = object (members_named es.now)
+part_data (parts.Trees es) = object (members_named es.now)
 part_data (parts.Held value) = view value.now
 
 abbrev pub object_data : Object → Data
-object_data (objects.Named es) = object (members_named es.now)
+object_data (objects.Trees es) = object (members_named es.now)
 object_data (objects.Held value) = view value.now
 
 -- these members put one after another, the later in the place of the earlier, among those that are there

@@ -2,7 +2,7 @@ use Rattle.std.proofs.Common.{option_map, ap, refl, arith}
 use Rattle.json.specs.Reads.{token_of}
 use Rattle.serde_json.specs.Data.{boolean, null, string, number, object, unsigned}
 use Rattle.serde_json.specs.Find.{of_integer}
-use Rattle.messages.specs.Working.Named.{members_named}
+use Rattle.messages.specs.Working.TreeMembers.{members_named}
 use Rattle.messages.proofs.Reading.{as_read, string_read, truth_read, null_read, number_read, object_read}
 use Rattle.messages.proofs.outline.said_from.Goals as goal
 

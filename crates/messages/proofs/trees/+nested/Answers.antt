@@ -6,7 +6,7 @@ use Rattle.serde_json.specs.Data.{boolean, null, string, object, put}
 use Rattle.json_tree.specs.Json.{value_of}
 use Rattle.json_tree.proofs.Written.{value_of-null}
 use Rattle.path_capture.specs.Write.{tree_or_null}
-use Rattle.messages.specs.Working.Named.{members_named}
+use Rattle.messages.specs.Working.TreeMembers.{members_named}
 use Rattle.messages.proofs.Reading.{Leads, as_read, string_read, truth_read, null_read, number_read, at_first, one_more, at_last, object_read}
 use Rattle.messages.proofs.trees.+nested.Goals as goal
 

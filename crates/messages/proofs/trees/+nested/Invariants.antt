@@ -1,5 +1,5 @@
 use Rattle.std.proofs.Common.{◌+◌, ◌*◌, ◌≤◌, length}
-use Rattle.messages.specs.Working.Named.{members_named}
+use Rattle.messages.specs.Working.TreeMembers.{members_named}
 use Rattle.messages.proofs.Reading.{Leads}
 use Rattle.messages.proofs.trees.+nested.Given as goal
 
