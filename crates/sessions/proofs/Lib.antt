@@ -5,7 +5,6 @@ pub mod Standing
 pub mod Answering
 pub mod Polling
 pub mod Feeding
-pub mod ReadAhead
 pub mod Going
 pub mod Ending
 pub mod Running

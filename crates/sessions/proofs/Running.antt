@@ -50,14 +50,6 @@ tokens_in other unopened = other
 tokens_in other refused = other
 tokens_in other (running tokens state) = tokens
 
-pub same_state : (own tokens : Tokens) (core state : State) → running own core ≡ running tokens state → core ≡ state
-unfolding state_in
-same_state own tokens core state e = ap (state_in state) e
-
-pub same_tokens : (own tokens : Tokens) (core state : State) → running own core ≡ running tokens state → own ≡ tokens
-unfolding tokens_in
-same_tokens own tokens core state e = ap (tokens_in tokens) e
-
 continued : (said_to : List (List ℕ)) (header : List ℕ) (lines : List (List ℕ)) (tokens : Tokens) (state : State) (out : List ℕ) → said_to ≡ header ∷ lines → (opened : Result Opened HeaderFault) → Opens header opened → Continues opened lines (running tokens state) out → IsSaidByRun said_to tokens state out
 unfolding state_in tokens_in
 continued said_to header lines tokens state out is (Err fault) opens h = let e : running tokens state ≡ refused = h.0 in cc

@@ -2,4 +2,3 @@
 pub mod Parts
 pub mod Sent
 pub mod Follow
-pub mod Ahead

@@ -1,24 +1,18 @@
 //! Where lines are answered, one at a time, and their answers put behind one another.
-ghost use Rattle.std.specs.Prelude.{◌≡◌, ◌≢◌, ℕ, ◌++◌, ◌∷◌, [], false, List, reverse, IfOk, IfErr, OnOk, MatchResult};
+ghost use Rattle.std.specs.Prelude.{◌≡◌, ◌≢◌, ℕ, ◌++◌, ◌∷◌, [], false, List, IfOk, IfErr, OnOk, MatchResult};
 ghost use Rattle.sessions.specs.Lines.{non_blank};
 ghost use Rattle.sessions.specs.Working.Sent.{tells, Passes};
-ghost use Rattle.tokens.specs.Tokens.{Tokens};
-ghost use Rattle.rtdb_core.specs.State.{State};
-ghost use Rattle.messages.specs.Ask.{IsAsked};
-ghost use Rattle.messages.specs.declared.message.Form.TheVariants.{Script};
-ghost use Rattle.sessions.specs.Said.{unopened, refused, running, IsWritten};
+ghost use Rattle.sessions.specs.Said.{unopened, refused, IsWritten};
 ghost use Rattle.sessions.specs.declared.desk.Stop.TheVariants.{NoMemory as no_memory, WriteFault as write_fault};
 ghost use Rattle.sessions.specs.Working.Parts.{ShowsFront};
-ghost use Rattle.sessions.specs.Working.Ahead.{AreAheadAt, IsTimely, Runs};
 ghost use Rattle.sessions.specs.Working.Follow.{phase_of, AnswersAt, StopsAt, HasAnswered, StopsAfter};
 
-use crate::ahead::{MAX_AHEAD, read_lines};
 use crate::outgoing::Outgoing;
-use crate::respond::{Stage, respond, respond_to};
+use crate::respond::{Stage, respond};
 use crate::stream::{Broken, Sink};
 use bumpalo::Bump;
 use json_tree::NoMemory;
-use messages::{Asked, LineFault, MessageReader};
+use messages::MessageReader;
 use std::alloc::Global;
 
 /// Why a script stops before the end of its input.
@@ -54,15 +48,12 @@ pub struct Desk {
     alloc: Global,
     reader: MessageReader,
     stage: Stage,
-    /// The messages that are read and not answered yet, the last one first.
-    pub ahead: Vec<Result<Asked, LineFault>>,
     /// The answers that are not written yet.
     pub outgoing: Outgoing,
 }
 
 impl Desk {
-    /// A desk before the first line. It takes all memory for answers on their way, and the list for messages
-    /// that are read ahead.
+    /// A desk before the first line. It takes all memory for answers on their way.
     pub fn new(alloc: Global) -> Result<Desk, NoMemory>
         ensures { IfOk result (λ desk. (phase_of desk.stage ≡ unopened) × (desk.outgoing.bytes.items ≡ [])) }
     {
@@ -71,7 +62,6 @@ impl Desk {
             alloc,
             reader: MessageReader::new(alloc),
             stage: Stage::Unopened,
-            ahead: Vec::with_capacity(alloc, MAX_AHEAD)?,
             outgoing,
         })
     }
@@ -125,52 +115,5 @@ impl Desk {
             Stage::Refused => Err(Stop::BadHeader),
             _ => Ok(()),
         }
-    }
-
-    /// Reads lines at the front of a text ahead of their answers, as [`read_lines`] does: these lines, and what
-    /// comes after them. None are read unless a database runs.
-    pub fn read_ahead<'t>(&mut self, text: &'t [u8]) -> (&'t [u8], &'t [u8])
-        ensures parts { text.now ≡ result.0.now ++ result.1.now }
-        ensures ahead { AreAheadAt (phase_of self.old.stage) (reverse self.new.ahead.items) result.0.now }
-        ensures stage { self.new.stage ≡ self.old.stage }
-        ensures outgoing { self.new.outgoing ≡ self.old.outgoing }
-    {
-        self.ahead.clear();
-        let rest = match &self.stage {
-            Stage::Running(opened) => {
-                read_lines(&mut self.reader, &opened.tokens, text, &mut self.ahead)
-            }
-            Stage::Unopened | Stage::Refused => text,
-        };
-        self.ahead.reverse();
-        text.split_at(text.len() - rest.len())
-    }
-
-    /// Answers a message that was read ahead, of a database that runs.
-    pub fn answer_message<W: Sink>(
-        &mut self,
-        sink: &mut W,
-        arena: &mut Bump,
-        message: Result<Asked, LineFault>,
-    ) -> Result<(), Stop>
-        requires sound { W.failed sink.old ≡ false }
-        requires runs { Runs (phase_of self.old.stage) }
-        requires timely { IsTimely message }
-        ensures ok { (tokens : Tokens) (old : State) (line : List ℕ)
-            → phase_of self.old.stage ≡ running tokens old
-            → IsAsked tokens Script line message
-            → OnOk result ((new : State) × (phase_of self.new.stage ≡ running tokens new)
-            × (out : List ℕ) × AnswersAt (running tokens old) line (running tokens new) out
-            × Passes (W.written sink.old) (W.written sink.new) (self.old.outgoing.bytes.items ++ out) self.new.outgoing.bytes.items) }
-        ensures err { (tokens : Tokens) (old : State) (line : List ℕ)
-            → phase_of self.old.stage ≡ running tokens old
-            → IsAsked tokens Script line message
-            → IfErr result (λ stop. StopsAt stop (tells (W.written sink.old) (W.written sink.new) (W.failed sink.new)) (running tokens old) line self.old.outgoing.bytes.items self.new.outgoing.bytes.items) }
-        ensures ahead { self.new.ahead ≡ self.old.ahead }
-        ensures sound { MatchResult result (λ _. W.failed sink.new ≡ W.failed sink.old) (λ stop. stop ≢ Stop.WriteFault → W.failed sink.new ≡ W.failed sink.old) }
-    {
-        let answer = respond_to(self.alloc, &mut self.stage, arena, message)?;
-        self.outgoing.put(sink, answer.as_slice())?;
-        Ok(())
     }
 }

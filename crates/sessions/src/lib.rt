@@ -4,7 +4,6 @@
 //! its contract says what is said to an input.
 #![tactic(auto)]
 
-mod ahead;
 mod desk;
 mod line;
 mod outgoing;

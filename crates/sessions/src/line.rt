@@ -1,10 +1,9 @@
 //! The line that comes in pieces.
-ghost use Rattle.std.specs.Prelude.{◌≡◌, ℕ, ◌≤◌, ◌++◌, ◌∷◌, ◌↔◌, [], List, vec_len, IsTrue, OnOk, IfSome, IfNone};
+ghost use Rattle.std.specs.Prelude.{◌≡◌, ℕ, ◌≤◌, ◌++◌, ◌↔◌, [], List, vec_len, IsTrue, OnOk};
 ghost use Rattle.sessions.specs.Lines.{is_blank};
-ghost use Rattle.sessions.specs.Working.Parts.{FRONT_BYTES, front, KeepsFront, IsPlain};
+ghost use Rattle.sessions.specs.Working.Parts.{FRONT_BYTES, front, KeepsFront};
 
 use json_tree::NoMemory;
-use memchr::memchr;
 use messages::MAX_MESSAGE_BYTES;
 use std::alloc::{AllocError, Global};
 
@@ -84,15 +83,4 @@ fn keep(kept: &mut Vec<u8>, piece: &[u8]) -> Result<(), AllocError>
         kept.extend_from_slice(piece)?;
     }
     Ok(())
-}
-
-/// The first line of a text, without its line feed, and what comes after that.
-pub fn split_line(text: &[u8]) -> Option<(&[u8], &[u8])>
-    ensures some { IfSome result (λ p. IsPlain p.0.now × (text.now ≡ p.0.now ++ 10 ∷ p.1.now)) }
-    ensures none { IfNone result (IsPlain text.now) }
-{
-    match memchr(b'\n', text) {
-        Some(n) => Some((&text[..n], &text[n + 1..])),
-        None => None,
-    }
 }

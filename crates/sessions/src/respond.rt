@@ -3,11 +3,6 @@ ghost use Rattle.std.specs.Prelude.{◌≡◌, ◌≢◌, ◌≤◌, ℕ, List, 
 ghost use Rattle.messages.specs.AnswerText.{text, fault_text, rules_fault_text, line_fault_text};
 ghost use Rattle.sessions.specs.Said.{unopened, refused, running, as_line, IsAnsweredBy, header_fault_text};
 ghost use Rattle.sessions.specs.Working.Follow.{phase_of, bytes_of, AnswersAt};
-ghost use Rattle.sessions.specs.Working.Ahead.{IsTimely, Runs};
-ghost use Rattle.tokens.specs.Tokens.{Tokens};
-ghost use Rattle.rtdb_core.specs.State.{State};
-ghost use Rattle.messages.specs.Ask.{IsAsked};
-ghost use Rattle.messages.specs.declared.message.Form.TheVariants.{Script};
 ghost use Rattle.rtdb_core.specs.declared.reply.Reply.TheVariants as replies;
 ghost use Rattle.rtdb_core.specs.declared.reply.Refusal.TheVariants as refusals;
 ghost use Rattle.rules_reader.specs.declared.fault.RulesFault.TheVariants as rules_faults;
@@ -98,42 +93,8 @@ fn answer_request(
 ) -> Result<Answer, NoMemory>
     ensures { IfOk result (λ answer. AnswersAt (running opened.old.tokens opened.old.core) line.now (running opened.new.tokens opened.new.core) (bytes_of answer)) }
 {
-    let message = reader.read_asked(&opened.tokens, line, Form::Script);
-    answer_message(alloc, &mut opened.core, arena, message)
-}
-
-/// Answers a message that is read, of a database that runs.
-pub fn respond_to(
-    alloc: Global,
-    stage: &mut Stage,
-    arena: &mut Bump,
-    message: Result<Asked, LineFault>,
-) -> Result<Answer, NoMemory>
-    requires runs { Runs (phase_of stage.old) }
-    requires timely { IsTimely message }
-    ensures { (tokens : Tokens) (old : State) (line : List ℕ)
-        → phase_of stage.old ≡ running tokens old
-        → IsAsked tokens Script line message
-        → IfOk result (λ answer. (new : State) × (phase_of stage.new ≡ running tokens new) × AnswersAt (running tokens old) line (running tokens new) (bytes_of answer)) }
-{
-    match stage {
-        Stage::Running(opened) => answer_message(alloc, &mut opened.core, arena, message),
-        Stage::Unopened | Stage::Refused => unreachable!(),
-    }
-}
-
-// Answers what a message asks, or its fault.
-fn answer_message(
-    alloc: Global,
-    core: &mut Core,
-    arena: &mut Bump,
-    message: Result<Asked, LineFault>,
-) -> Result<Answer, NoMemory>
-    requires { IsTimely message }
-    ensures { IfOk result (λ answer. (said : List ℕ) × IsAnsweredBy core.old message said core.new × (bytes_of answer ≡ as_line said)) }
-{
-    match message {
-        Ok(asked) => answer_asked(alloc, core, arena, asked),
+    match reader.read_asked(&opened.tokens, line, Form::Script) {
+        Ok(asked) => answer_asked(alloc, &mut opened.core, arena, asked),
         Err(fault) => say_line_fault(alloc, &fault),
     }
 }

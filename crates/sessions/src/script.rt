@@ -1,19 +1,19 @@
 //! A script: a header and then requests, one to a line, each answered by a line.
-ghost use Rattle.std.specs.Prelude.{◌≡◌, ◌≢◌, ℕ, ◌<◌, ◌++◌, ◌∷◌, [], true, false, List, length, reverse, vec_len, IfOk, IfErr, OnOk, MatchResult, Option};
+ghost use Rattle.std.specs.Prelude.{◌≡◌, ◌≢◌, ℕ, ◌<◌, ◌++◌, ◌∷◌, [], true, false, List, length, vec_len, IfOk, IfErr, OnOk, MatchResult, IfSome, IfNone, Option};
 ghost use Rattle.std.specs.Io.KnownBytes.{Appends, Consumes};
 ghost use Rattle.sessions.specs.Lines.{non_blank};
 ghost use Rattle.sessions.specs.Said.{refused, IsWritten};
 ghost use Rattle.sessions.specs.Working.Parts.{KeepsFront, IsPlain};
 ghost use Rattle.sessions.specs.Working.Sent.{tells};
-ghost use Rattle.sessions.specs.Working.Ahead.{AreAheadAt};
 ghost use Rattle.sessions.specs.Working.Follow.{phase_of, HasAnswered, StopsAfter, IsAfter, StopsWithin, Halts, Sends};
 ghost use Rattle.sessions.specs.Ends.{SourceTells, Ends};
 
 use crate::desk::{Desk, Stop};
-use crate::line::{Line, is_blank, split_line};
+use crate::line::{Line, is_blank};
 use crate::stream::{Sink, Source};
 use bumpalo::Bump;
 use json_tree::NoMemory;
+use memchr::memchr;
 use std::alloc::Global;
 
 /// How many bytes are read at a time, 64 KiB: most lines lie whole within a block, and are answered
@@ -112,64 +112,6 @@ impl Script {
         Ok(())
     }
 
-    // Takes complete lines at the front of a text, some at a time: they are read, and then answered. What comes
-    // after them is given back. None are taken where part of a line is held.
-    fn take_lines<'t, W: Sink>(
-        &mut self,
-        sink: &mut W,
-        arena: &mut Bump,
-        text: &'t [u8],
-    ) -> Result<&'t [u8], Stop>
-        requires sound { W.failed sink.old ≡ false }
-        requires going { phase_of self.old.desk.stage ≢ refused }
-        ensures ok { IfOk result (λ rest. (front : List ℕ) × (text.now ≡ front ++ rest.now) × ((taken sent : List ℕ)
-            → IsAfter self.old taken sent
-            → (more : List ℕ) × Appends (W.written sink.old) (W.written sink.new) more
-            × IsAfter self.new (taken ++ front) (sent ++ more))) }
-        ensures err { (taken sent : List ℕ)
-            → IsAfter self.old taken sent
-            → IfErr result (λ stop. StopsWithin stop (tells (W.written sink.old) (W.written sink.new) (W.failed sink.new))
-            self.new.desk.outgoing.bytes.items (taken ++ text.now) sent) }
-        ensures going { OnOk result (phase_of self.new.desk.stage ≢ refused) }
-        ensures sound { MatchResult result (λ _. W.failed sink.new ≡ W.failed sink.old) (λ stop. stop ≢ Stop.WriteFault → W.failed sink.new ≡ W.failed sink.old) }
-    {
-        if !self.line.is_empty() {
-            return Ok(text);
-        }
-        let (front, rest) = self.desk.read_ahead(text);
-        self.answer_ahead(sink, arena, front)?;
-        Ok(rest)
-    }
-
-    // Answers the messages that were read ahead, in their order. They are the lines of this text.
-    fn answer_ahead<W: Sink>(
-        &mut self,
-        sink: &mut W,
-        arena: &mut Bump,
-        text: &[u8],
-    ) -> Result<(), Stop>
-        requires empty { self.old.line.kept.items ≡ [] }
-        requires ahead { AreAheadAt (phase_of self.old.desk.stage) (reverse self.old.desk.ahead.items) text.now }
-        requires sound { W.failed sink.old ≡ false }
-        requires going { phase_of self.old.desk.stage ≢ refused }
-        ensures ok { (taken sent : List ℕ)
-            → IsAfter self.old taken sent
-            → OnOk result ((more : List ℕ) × Appends (W.written sink.old) (W.written sink.new) more
-            × IsAfter self.new (taken ++ text.now) (sent ++ more)) }
-        ensures err { (taken sent : List ℕ)
-            → IsAfter self.old taken sent
-            → IfErr result (λ stop. StopsWithin stop (tells (W.written sink.old) (W.written sink.new) (W.failed sink.new))
-            self.new.desk.outgoing.bytes.items (taken ++ text.now) sent) }
-        ensures going { OnOk result (phase_of self.new.desk.stage ≢ refused) }
-        ensures sound { MatchResult result (λ _. W.failed sink.new ≡ W.failed sink.old) (λ stop. stop ≢ Stop.WriteFault → W.failed sink.new ≡ W.failed sink.old) }
-    {
-        let _text = text;
-        'messages: while let Some(message) = self.desk.ahead.pop() {
-            self.desk.answer_message(sink, arena, message)?;
-        }
-        Ok(())
-    }
-
     // Takes the next piece of the input, and answers each line that ends in it.
     fn feed<W: Sink>(&mut self, sink: &mut W, arena: &mut Bump, piece: &[u8]) -> Result<(), Stop>
         requires sound { W.failed sink.old ≡ false }
@@ -188,7 +130,7 @@ impl Script {
         let mut rest = piece;
         while let Some((part, after)) = split_line(rest) {
             self.take_line(sink, arena, part)?;
-            rest = self.take_lines(sink, arena, after)?;
+            rest = after;
         }
         self.line.add(rest)?;
         Ok(())
@@ -333,4 +275,15 @@ fn new_block(alloc: Global) -> Result<Vec<u8>, NoMemory>
     ensures { IfOk result (λ block. 0 < vec_len block) }
 {
     Ok(vec![in alloc; 0u8; BLOCK_BYTES]?)
+}
+
+// The first line of a text, without its line feed, and what comes after that.
+fn split_line(text: &[u8]) -> Option<(&[u8], &[u8])>
+    ensures some { IfSome result (λ p. IsPlain p.0.now × (text.now ≡ p.0.now ++ 10 ∷ p.1.now)) }
+    ensures none { IfNone result (IsPlain text.now) }
+{
+    match memchr(b'\n', text) {
+        Some(n) => Some((&text[..n], &text[n + 1..])),
+        None => None,
+    }
 }

@@ -9,17 +9,14 @@ use Rattle.sessions.proofs.script.Script.feed.Goals as goal
 pub loop-part-preserved : goal.loop-part-preserved
 loop-part-preserved g c =
     let i = c.loop-part.invariant in
-    let part = c.in-Some.part.now in
-    let done = i.0 ++ (part ++ 10 ∷ []) in
-    let ahead = c.in_ok-rest.ensures.ok in (
-      done ++ ahead.0,
-      piece-append _ i.0 _ part _ i.1 c.in-Some.ensures.some.1 ∙ ap (λ x. done ++ x) ahead.1 ∙ sym (append_assoc done ahead.0 c.in_ok-rest.rest.now),
+    let part = c.in-Some.part.now in (
+      i.0 ++ (part ++ 10 ∷ []),
+      piece-append _ i.0 _ part _ i.1 c.in-Some.ensures.some.1,
       λ taken sent f.
           let r = i.2 taken sent f in
-          let s = Follows-after _ _ _ taken i.0 (part ++ 10 ∷ []) sent r.0 r.1 (c.in_ok-take_line.ensures.ok (taken ++ i.0) (sent ++ r.0) r.2) in
-          Follows-after _ _ _ taken done ahead.0 sent s.0 s.1 (ahead.2 (taken ++ done) (sent ++ s.0) s.2),
-      c.in_ok-rest.ensures.sound ∙ c.in_ok-take_line.ensures.sound ∙ i.3,
-      c.in_ok-rest.ensures.going,
+          Follows-after _ _ _ taken i.0 (part ++ 10 ∷ []) sent r.0 r.1 (c.in_ok-take_line.ensures.ok (taken ++ i.0) (sent ++ r.0) r.2),
+      c.in_ok-take_line.ensures.sound ∙ i.3,
+      c.in_ok-take_line.ensures.going,
     )
 
 pub returns-in_err-take_line-clause-err : goal.returns-in_err-take_line-clause-err
@@ -33,24 +30,6 @@ returns-in_err-take_line-clause-err g c = λ taken sent f.
     ∙ ap (λ x. taken ++ x) (sym (piece-append _ i.0 _ part _ i.1 c.in-Some.ensures.some.1)) in
     let p = err_from_is_err_and c.from_residual.result c.from_residual.ensures.1 in
     rw (p.1, p.2) (StopsWithin-after c.in_err-take_line.field-0.0 _ _ _ _ _ _ c.in-Some.after.now _ sent r.0 whole r.1 (c.in_err-take_line.ensures.err (taken ++ i.0) (sent ++ r.0) r.2))
-
-pub returns-in_err-rest-clause-err : goal.returns-in_err-rest-clause-err
-returns-in_err-rest-clause-err g c = λ taken sent f.
-    let i = c.loop-part.invariant in
-    let r = i.2 taken sent f in
-    let part = c.in-Some.part.now in
-    let after = c.in-Some.after.now in
-    let done = i.0 ++ (part ++ 10 ∷ []) in
-    let s = Follows-after _ _ _ taken i.0 (part ++ 10 ∷ []) sent r.0 r.1 (c.in_ok-take_line.ensures.ok (taken ++ i.0) (sent ++ r.0) r.2) in
-    let whole : ((taken ++ done) ++ after) ++ [] ≡ taken ++ c.args.piece.now =
-    append-nil _ ∙ append_assoc taken done after ∙ ap (λ x. taken ++ x) (sym (piece-append _ i.0 _ part _ i.1 c.in-Some.ensures.some.1)) in
-    let p = err_from_is_err_and c.from_residual-in_err-rest.result c.from_residual-in_err-rest.ensures.1 in
-    rw (p.1, p.2) (StopsWithin-after c.in_err-rest.field-0.0 _ _ _ _ _ _ [] _ sent s.0 whole s.1 (c.in_err-rest.ensures.err (taken ++ done) (sent ++ s.0) s.2))
-
-pub returns-in_err-rest-clause-sound : goal.returns-in_err-rest-clause-sound
-returns-in_err-rest-clause-sound g c =
-    let p = err_from_is_err_and c.from_residual-in_err-rest.result c.from_residual-in_err-rest.ensures.1 in
-    rw (p.1, p.2) (λ n. c.in_err-rest.ensures.sound n ∙ c.in_ok-take_line.ensures.sound ∙ c.loop-part.invariant.3)
 
 pub returns-clause-ok : goal.returns-clause-ok
 returns-clause-ok g c = λ taken sent f.
