@@ -57,9 +57,6 @@ impl Answer {
     }
 }
 
-// Of the functions below, those that are marked so answer what comes seldom, or from two places. They are not made
-// one with what calls them, which would make room for what they need at each call.
-
 /// Answers a line that is not blank: the header, where there is no database yet, else a request. An
 /// error is want of memory for the answer's text, and the request may have been done.
 pub fn respond(
@@ -156,7 +153,6 @@ fn answer_plain_read(
 }
 
 // Answers a read by a query.
-#[inline(never)]
 fn answer_query(
     alloc: Global,
     core: &Core,
@@ -178,7 +174,6 @@ fn answer_query(
 }
 
 // Answers a poll: what it tells is written from where it stands, before it counts as told.
-#[inline(never)]
 fn answer_poll(
     alloc: Global,
     core: &mut Core,
@@ -215,7 +210,6 @@ fn answer_news(
 }
 
 // Where a header leads, and the answer to it.
-#[inline(never)]
 fn open(alloc: Global, line: &[u8]) -> Result<(Stage, Answer), NoMemory>
     ensures { IfOk result (λ r. AnswersAt unopened line.now (phase_of r.0) (bytes_of r.1)) }
 {
@@ -273,7 +267,6 @@ fn say_fault(alloc: Global, fault: MessageFault) -> Result<Answer, NoMemory>
     }
 }
 
-#[inline(never)]
 fn say_line_fault(alloc: Global, fault: &LineFault) -> Result<Answer, NoMemory>
     ensures line { IfOk result (λ answer. bytes_of answer ≡ as_line (line_fault_text fault.now)) }
 {
