@@ -140,19 +140,41 @@ fn value<'a>(arena: &'a Bump, expr: &'a Expr, env: &Env<'a, '_>) -> Result<Value
             let left = value(arena, left, env)?;
             operated(arena, *operator, left, right, env)
         }
-        Expr::Variable(name) => {
-            let part = variable_part(name.as_str(), env)?;
-            wanted(in_value(part))
-        }
-        Expr::Capture(name) => {
-            let part = capture_part(name.as_str(), env)?;
-            wanted(in_value(part))
-        }
-        _ => {
-            let part = part(arena, expr, env)?;
-            wanted(in_value(part))
-        }
+        Expr::Variable(name) => variable_value(name.as_str(), env),
+        Expr::Capture(name) => capture_value(name.as_str(), env),
+        _ => value_of_part(arena, expr, env),
     }
+}
+
+// The value of a variable.
+#[inline(never)]
+fn variable_value<'a>(name: &str, env: &Env<'a, '_>) -> Result<Value<'a>, Stop>
+    ensures value { IfOk result (λ v. as_value (variable name.now (env_of env.now)) ≡ Some (value_of v)) }
+    ensures erred { IsErrOf result Stop.Erred → as_value (variable name.now (env_of env.now)) ≡ None }
+{
+    let part = variable_part(name, env)?;
+    wanted(in_value(part))
+}
+
+// The value of a capture.
+#[inline(never)]
+fn capture_value<'a>(name: &str, env: &Env<'a, '_>) -> Result<Value<'a>, Stop>
+    ensures value { IfOk result (λ v. as_value (capture name.now (env_of env.now)) ≡ Some (value_of v)) }
+    ensures erred { IsErrOf result Stop.Erred → as_value (capture name.now (env_of env.now)) ≡ None }
+{
+    let part = capture_part(name, env)?;
+    wanted(in_value(part))
+}
+
+// The value of what may be another part.
+#[cycle(evaluation)]
+#[inline(never)]
+fn value_of_part<'a>(arena: &'a Bump, expr: &'a Expr, env: &Env<'a, '_>) -> Result<Value<'a>, Stop>
+    ensures value { IfOk result (λ v. as_value (mean (view expr.now) (env_of env.now)) ≡ Some (value_of v)) }
+    ensures erred { IsErrOf result Stop.Erred → as_value (mean (view expr.now) (env_of env.now)) ≡ None }
+{
+    let part = part(arena, expr, env)?;
+    wanted(in_value(part))
 }
 
 // Whether it is true, where a boolean is wanted.

@@ -1,9 +1,11 @@
 //! Where a walk stands: the rule node there, and what its rules see.
-ghost use Rattle.std.specs.Prelude.{◌≡◌, ◌<◌, ◌++◌, ℕ, List, length, option_map, IfOk, OnOk};
+ghost use Rattle.std.specs.Prelude.{◌≡◌, ◌<◌, ◌++◌, ℕ, List, [], Some, length, option_map, IfOk, OnOk};
 ghost use Rattle.tree_model.specs.declared.limits.TheConstants.{MAX_DEPTH as most_keys};
 ghost use Rattle.tree_model.specs.Key.{Key as KeyBytes};
 ghost use Rattle.path_capture.specs.Pattern.{part_of, part_text};
-ghost use Rattle.rules_reader.specs.Spelled.{captured};
+ghost use Rattle.tree_model.specs.PathMap.{get};
+ghost use Rattle.rules_reader.specs.Book.{stated_for};
+ghost use Rattle.rules_reader.specs.Spelled.{captured, IsLawful};
 ghost use Rattle.evaluator.specs.Env.{access_of};
 ghost use Rattle.judge.specs.Working.Standing.{ask_of, path_of, last_name, last_bound, access_below, AccessHasRoom, coming_at, Stands, Entering};
 
@@ -11,6 +13,7 @@ use crate::scene::Scene;
 use arena_snapshot::View;
 use bumpalo::Bump;
 use evaluator::{Access, Env, Outcome, Snapshot, evaluate};
+use expr_types::Checked;
 use json_tree::{Key, NoMemory};
 use path_capture::{CaptureName, Captures, Part};
 use rules_reader::{Kind, RuleNode};
@@ -52,9 +55,26 @@ pub(crate) fn answer<'a>(
     requires { Stands asking.now spot.now captures.now }
     ensures { IfOk result (λ answer. option_map (λ a. (spot.now.rule.now.at, a)) answer ≡ ask_of asking.now (path_of spot.now)) }
 {
-    let Some(rule) = spot.rule.rule(asking.kind) else {
-        return Ok(None);
-    };
+    match spot.rule.rule(asking.kind) {
+        Some(rule) => answer_of(asking, spot, rule, captures),
+        None => Ok(None),
+    }
+}
+
+// What this rule answers, which is that of the kind that is asked. It stays a function of its own, since most nodes
+// on a walk state none, and room for what an expression needs would be made and cleared at each of them.
+#[inline(never)]
+fn answer_of<'a>(
+    asking: &Asking<'a>,
+    spot: &Spot<'a>,
+    rule: &'a Checked,
+    captures: &Captures<'a, &'a Bump>,
+) -> Result<Option<Outcome>, NoMemory>
+    requires here { Stands asking.now spot.now captures.now }
+    requires stated { option_map (stated_for asking.now.kind) (get spot.now.rule.now.book []) ≡ Some (Some rule.now) }
+    requires lawful { IsLawful spot.now.rule.now.at asking.now.kind rule.now }
+    ensures { IfOk result (λ answer. option_map (λ a. (spot.now.rule.now.at, a)) answer ≡ ask_of asking.now (path_of spot.now)) }
+{
     let env = Env {
         auth: asking.scene.auth,
         moment: asking.scene.moment,
