@@ -25,8 +25,8 @@ use expr_parser::{Argument, Expr, Operator};
 use expr_types::Checked;
 use json_tree::NoMemory;
 
-// Of the functions below, those that are marked so are not made one with the functions that call them: for what
-// such a one needs on its way, room would be made and cleared at each call of these.
+// A function below that is marked `inline(never)` is not made one with the functions that call it: room for what it
+// needs on its way would be made and cleared at each call of these.
 
 // What a part of an expression means.
 #[cycle(evaluation)]
@@ -122,8 +122,8 @@ fn value_part<'a>(arena: &'a Bump, expr: &'a Expr, env: &Env<'a, '_>) -> Result<
     Ok(Part::Value(value(arena, expr, env)?))
 }
 
-// Its value, where one is wanted. What can be nothing but a value is no part that has to be looked into, nor are
-// variables and captures.
+// Its value, where one is wanted. Literals and operations are values as they stand, and variables and captures are
+// told by their names; only what else there is has to be looked into as a part.
 #[cycle(evaluation)]
 #[inline(never)]
 fn value<'a>(arena: &'a Bump, expr: &'a Expr, env: &Env<'a, '_>) -> Result<Value<'a>, Stop>

@@ -1,6 +1,6 @@
 //! Puts in place: one location of a stored tree is written, and memory is taken before anything
 //! changes.
-ghost use Rattle.std.specs.Prelude.{◌≡◌, ◌+◌, ◌<◌, ◌≤◌, ◌∷◌, [], true, length, reverse, unwrap_or, IfOk, IsOk, IsNone, IfSome, OnSome, IfNone, OnOk, OnErr};
+ghost use Rattle.std.specs.Prelude.{◌≡◌, ◌+◌, ◌<◌, ◌≤◌, ◌∷◌, [], true, length, reverse, unwrap_or, if◌then◌else◌, IfOk, IsOk, IsNone, IfSome, OnSome, IfNone, OnOk, OnErr};
 ghost use Rattle.std.specs.Bool.{OnTrue, OnFalse};
 ghost use Rattle.tree_model.specs.PathMap.{sub, exists, depth};
 ghost use Rattle.tree_model.specs.Tree.{null};
@@ -11,11 +11,12 @@ ghost use Rattle.json_tree.specs.Working.Changed.{changed_at};
 ghost use Rattle.json_tree.specs.Working.Share.{Exchanges};
 
 use crate::key::Key;
+use crate::leaf::Leaf;
 use crate::memory::NoMemory;
 use crate::node::{Child, Kind, Node, index_of};
 use crate::share::{Exchange, NO_EXCHANGE, NO_SHARE, share_of, sizes_after};
 use std::alloc::Global;
-use std::mem::replace;
+use std::mem::{replace, swap};
 use tree_model::MAX_DEPTH;
 
 /// Puts a tree at a path of a stored tree, or removes what is there, in place. The keys of the path
@@ -69,7 +70,14 @@ pub(crate) fn put_node(
     let mut keys = path;
     keys.reverse();
     match tree {
-        Some(node) => insert(alloc, node, &mut keys, value),
+        Some(node) => {
+            let mut held = value;
+            if insert(alloc, node, &mut keys, &mut held)? {
+                Ok(Some(held))
+            } else {
+                Ok(None)
+            }
+        }
         None => {
             *tree = Some(chain(alloc, &mut keys, value)?);
             Ok(None)
@@ -77,57 +85,60 @@ pub(crate) fn put_node(
     }
 }
 
-// Puts a tree at a path of a node, and gives what stood where that changes it. Of the keys of the path
-// the first stands last, from where each is taken.
+// Puts a tree at a path of a node, and leaves in its stead what stood where that changes the node, or, where
+// nothing did, a tree of no use, and is then false. So trees are handed on by reference, down to where one is
+// moved. Of the keys of the path the first stands last, from where each is taken.
 #[cycle(insert)]
 fn insert(
     alloc: Global,
     node: &mut Node,
     keys: &mut Vec<Key>,
-    value: Node,
-) -> Result<Option<Node>, NoMemory>
-    requires { length keys.old.items + depth value ≤ MAX_DEPTH }
-    ensures ok { OnOk result (node.new ≡ proposed node.old ((reverse keys.old.items, value) ∷ [])) }
-    ensures was { IfOk result (λ was. unwrap_or was null
+    value: &mut Node,
+) -> Result<bool, NoMemory>
+    requires { length keys.old.items + depth value.old ≤ MAX_DEPTH }
+    ensures ok { OnOk result (node.new ≡ proposed node.old ((reverse keys.old.items, value.old) ∷ [])) }
+    ensures was { IfOk result (λ stood. (if stood then value.new else null)
         ≡ sub node.old (changed_at node.old (reverse keys.old.items))) }
     ensures err { OnErr result (node.new ≡ node.old) }
     ensures existing { exists node.old (reverse keys.old.items) ≡ true → IsOk result }
 {
     let Some(key) = keys.pop() else {
-        return Ok(Some(replace(node, value)));
+        swap(node, value);
+        return Ok(true);
     };
     match &mut node.kind {
         Kind::Primitive(_) => {
             value.law();
-            let parent = only_child(alloc, key, chain(alloc, keys, value)?)?;
-            Ok(Some(replace(node, parent)))
+            let parent = only_child(alloc, key, chain(alloc, keys, taken(value))?)?;
+            *value = replace(node, parent);
+            Ok(true)
         }
         Kind::Parent(children) => {
-            let (exchange, was) = insert_below(alloc, children, key, keys, value)?;
+            let (exchange, stood) = insert_below(alloc, children, key, keys, value)?;
             let (depth, count) = sizes_after(children, node.depth, node.count, exchange);
             node.depth = depth;
             node.count = count;
-            Ok(was)
+            Ok(stood)
         }
     }
 }
 
-// Puts a tree at a path below the child of a key.
+// Puts a tree at a path below the child of a key, and leaves in its stead what stood there.
 #[cycle(insert)]
 fn insert_below(
     alloc: Global,
     children: &mut Vec<Child>,
     key: Key,
     keys: &mut Vec<Key>,
-    value: Node,
-) -> Result<(Exchange, Option<Node>), NoMemory>
+    value: &mut Node,
+) -> Result<(Exchange, bool), NoMemory>
     requires children { AreLawfulChildren children.old.items }
-    requires room { length keys.old.items + depth value < MAX_DEPTH }
+    requires room { length keys.old.items + depth value.old < MAX_DEPTH }
     ensures children { AreLawfulChildren children.new.items }
     ensures exchange { IfOk result (λ made. Exchanges children.old.items children.new.items made.0) }
     ensures ok { OnOk result (graft children.new.items
-        ≡ proposed (graft children.old.items) ((key ∷ reverse keys.old.items, value) ∷ [])) }
-    ensures was { IfOk result (λ made. unwrap_or made.1 null
+        ≡ proposed (graft children.old.items) ((key ∷ reverse keys.old.items, value.old) ∷ [])) }
+    ensures was { IfOk result (λ made. (if made.1 then value.new else null)
         ≡ sub (graft children.old.items) (changed_at (graft children.old.items) (key ∷ reverse keys.old.items))) }
     ensures err { OnErr result (children.new.items ≡ children.old.items) }
     ensures existing { exists (graft children.old.items) (key ∷ reverse keys.old.items) ≡ true → IsOk result }
@@ -135,12 +146,12 @@ fn insert_below(
     match index_of(children, key.text()) {
         Ok(index) => {
             let before = share_of(children[index].node());
-            let was = insert(alloc, &mut children[index].held.1, keys, value)?;
+            let stood = insert(alloc, &mut children[index].held.1, keys, value)?;
             let after = share_of(children[index].node());
-            Ok((Exchange { before, after }, was))
+            Ok((Exchange { before, after }, stood))
         }
         Err(index) => {
-            let below = chain(alloc, keys, value)?;
+            let below = chain(alloc, keys, taken(value))?;
             let after = share_of(&below);
             let child = Child::new(alloc, key, below)?;
             children.insert(index, child)?;
@@ -149,10 +160,22 @@ fn insert_below(
                     before: NO_SHARE,
                     after,
                 },
-                None,
+                false,
             ))
         }
     }
+}
+
+// The tree that stands there, in whose stead a leaf of no use is left.
+fn taken(value: &mut Node) -> Node
+    ensures { result ≡ value.old }
+{
+    let nothing = Node {
+        kind: Kind::Primitive(Leaf::Truth(false)),
+        depth: 0,
+        count: 1,
+    };
+    replace(value, nothing)
 }
 
 // The tree of a tree at a path: one child at each key.

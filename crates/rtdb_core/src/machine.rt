@@ -306,7 +306,6 @@ impl Machine {
         self.sessions.contains_key(&session)
     }
 
-    #[inline(never)]
     fn open(&mut self, arena: &mut Bump, now: u64, session: u64) -> Result<Reply, NoMemory>
         ensures ok { IfOk result (λ reply. outcome self.old now session Event.Open ≡ record { reply = reply; after = self.new }) }
         ensures err { OnErr result (self.new ≡ self.old) }
@@ -325,7 +324,6 @@ impl Machine {
     }
 
     #[tactic(auto, using(crate::proofs::Sessions::none_gone))]
-    #[inline(never)]
     fn close(&mut self, session: u64) -> Reply
         ensures { closes self.old session ≡ record { reply = result; after = self.new } }
     {
@@ -344,7 +342,6 @@ impl Machine {
         self.sessions.remove(&session).is_some()
     }
 
-    #[inline(never)]
     fn sign(
         &mut self,
         arena: &mut Bump,
@@ -401,7 +398,6 @@ impl Machine {
         open.settle(Docket::new(decisions));
     }
 
-    #[inline(never)]
     fn listen(
         &mut self,
         arena: &mut Bump,
@@ -462,7 +458,6 @@ impl Machine {
         open.listen(id, path, query)
     }
 
-    #[inline(never)]
     fn unlisten(&mut self, session: u64, id: &ListenerId) -> Reply
         ensures { unlistens self.old session id.now ≡ record { reply = result; after = self.new } }
     {
@@ -488,7 +483,6 @@ impl Machine {
         open.unlisten(id)
     }
 
-    #[inline(never)]
     fn poll(&mut self, arena: &mut Bump, now: u64, session: u64) -> Result<Reply, NoMemory>
         requires moment { now ≤ MAX_MOMENT }
         requires heard { AllHeard self.old }
@@ -542,7 +536,6 @@ impl Machine {
         open.take_marked();
     }
 
-    #[inline(never)]
     fn tick(&mut self, arena: &mut Bump, now: u64) -> Result<Reply, NoMemory>
         requires moment { now ≤ MAX_MOMENT }
         requires heard { AllHeard self.old }
@@ -555,7 +548,6 @@ impl Machine {
         Ok(Reply::Done)
     }
 
-    #[inline(never)]
     fn deploy(
         &mut self,
         arena: &mut Bump,
@@ -635,7 +627,6 @@ impl Machine {
         Ok(())
     }
 
-    #[inline(never)]
     fn get(
         &self,
         arena: &mut Bump,
@@ -687,7 +678,6 @@ impl Machine {
         }
     }
 
-    #[inline(never)]
     fn update(
         &mut self,
         arena: &mut Bump,

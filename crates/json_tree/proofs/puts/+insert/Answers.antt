@@ -41,19 +41,20 @@ insert-invariant_of-node-in-Parent t c =
 pub insert-returns-in_default-clause-ok : goal.insert-returns-in_default-clause-ok
 insert-returns-in_default-clause-ok t c =
     let none = nil_from_length c.args.keys.now.items (omega (arith, c.args.keys.now.ok.0, c.in_default.ensures.cases.0)) in
-    c.replace.ensures.after ∙ sym (ap (λ p. proposed c.args.node.now ((reverse p, c.args.value) ∷ [])) none ∙ proposed-root c.args.node.now c.args.value)
+    c.swap.ensures.x_after ∙ sym (ap (λ p. proposed c.args.node.now ((reverse p, c.args.value.now) ∷ [])) none ∙ proposed-root c.args.node.now c.args.value.now)
 
 pub insert-returns-in_default-clause-was : goal.insert-returns-in_default-clause-was
 insert-returns-in_default-clause-was t c =
     let none = nil_from_length c.args.keys.now.items (omega (arith, c.args.keys.now.ok.0, c.in_default.ensures.cases.0)) in
-    c.replace.ensures.value ∙ sym (ap (λ p. sub c.args.node.now (changed_at c.args.node.now (reverse p))) none ∙ sub-root c.args.node.now)
+    c.swap.ensures.y_after ∙ sym (ap (λ p. sub c.args.node.now (changed_at c.args.node.now (reverse p))) none ∙ sub-root c.args.node.now)
 
 pub insert-only_child-requires : goal.insert-only_child-requires
 insert-only_child-requires t c =
     let rest = c.pop.new.self.items in
     let long = popped_length c.args.keys.now.items rest c.in-Some.key c.in-Some.ensures.items in
     let back = length-reverse rest in
-    let deep = depth-chain c.in_ok-chain-in-Primitive.field-0 (reverse rest) c.args.value c.in_ok-chain-in-Primitive.ensures in
+    let made = c.in_ok-chain-in-Primitive.ensures ∙ ap (λ v. proposed null ((reverse rest, v) ∷ [])) c.taken.ensures in
+    let deep = depth-chain c.in_ok-chain-in-Primitive.field-0 (reverse rest) c.args.value.now made in
     let room = c.requires in
     omega arith
 
@@ -74,10 +75,11 @@ insert-returns-in_ok-parent-in-Primitive-clause-ok t c =
     let rest = reverse c.pop.new.self.items in
     let path = popped c.args.keys.now.items c.pop.new.self.items c.in-Some.key c.in-Some.ensures.items in
     let node = at_primitive c.node.view_is c.in-Primitive.is in
-    let value = c.args.value in
-    c.replace-in-Primitive.ensures.after
+    let value = c.args.value.now in
+    let made = c.in_ok-chain-in-Primitive.ensures ∙ ap (λ v. proposed null ((rest, v) ∷ [])) c.taken.ensures in
+    c.replace.ensures.after
     ∙ c.in_ok-parent-in-Primitive.ensures
-    ∙ proposed-chain c.in-Some.key rest c.in_ok-chain-in-Primitive.field-0 value c.in_ok-chain-in-Primitive.ensures
+    ∙ proposed-chain c.in-Some.key rest c.in_ok-chain-in-Primitive.field-0 value made
     ∙ sym (proposed-lone (primitive_of c.in-Primitive.field-0) c.in-Some.key rest value c.law.ensures.some)
     ∙ sym (λ i. proposed (node i) ((path i, value) ∷ []))
 
@@ -85,7 +87,7 @@ pub insert-returns-in_ok-parent-in-Primitive-clause-was : goal.insert-returns-in
 insert-returns-in_ok-parent-in-Primitive-clause-was t c =
     let path = popped c.args.keys.now.items c.pop.new.self.items c.in-Some.key c.in-Some.ensures.items in
     let node = at_primitive c.node.view_is c.in-Primitive.is in
-    c.replace-in-Primitive.ensures.value
+    c.replace.ensures.value
     ∙ c.node.view_is
     ∙ node
     ∙ sym (changed-lone (primitive_of c.in-Primitive.field-0) c.in-Some.key (reverse c.pop.new.self.items))
@@ -93,8 +95,8 @@ insert-returns-in_ok-parent-in-Primitive-clause-was t c =
 
 -- ---- its children
 
-pub insert_below-returns-in_ok-was-in-Ok-clause-children : goal.insert_below-returns-in_ok-was-in-Ok-clause-children
-insert_below-returns-in_ok-was-in-Ok-clause-children t c =
+pub insert_below-returns-in_ok-stood-in-Ok-clause-children : goal.insert_below-returns-in_ok-stood-in-Ok-clause-children
+insert_below-returns-in_ok-stood-in-Ok-clause-children t c =
     let cs = c.args.children.now.items in
     let was : Key × Tree = c.index_mut.result.now in
     let d : Key × Tree = c.deref_mut.result.now in
@@ -102,13 +104,13 @@ insert_below-returns-in_ok-was-in-Ok-clause-children t c =
     let found : StandsAt cs c.in-Ok.index d c.text.result.now = subst (λ (x : Key × Tree). StandsAt cs c.in-Ok.index x c.text.result.now) opened (record { children = c.requires.children; within = c.in-Ok.ensures.bound; at = c.index_mut.ensures.value; tied = c.in-Ok.ensures.position was }) in
     let back = length-reverse c.args.keys.now.items in
     let within = c.requires.room in
-    let room = room_after c.insert.result d.1 c.insert.new.node (reverse c.args.keys.now.items) c.args.value c.insert.ensures.ok c.insert.ensures.err (depth_there found) (omega arith) in
+    let room = room_after c.insert.result d.1 c.insert.new.node (reverse c.args.keys.now.items) c.args.value.now c.insert.ensures.ok c.insert.ensures.err (depth_there found) (omega arith) in
     let after = set_there cs c.in-Ok.index (d.0, c.insert.new.node) c.index-in-Ok.result.now c.in-Ok.ensures.bound c.index-in-Ok.ensures in
     let there : c.node-in-Ok.result.now ≡ c.insert.new.node = c.node-in-Ok.ensures ∙ ap (λ (x : Key × Tree). x.1) after in
     children-set found c.insert.new.node (subst (λ (x : Tree). x ≢ null) there c.share_of-after.ensures.some) (subst IsLawful there c.share_of-after.ensures.lawful) room
 
-pub insert_below-returns-in_ok-was-in-Ok-clause-exchange : goal.insert_below-returns-in_ok-was-in-Ok-clause-exchange
-insert_below-returns-in_ok-was-in-Ok-clause-exchange t c =
+pub insert_below-returns-in_ok-stood-in-Ok-clause-exchange : goal.insert_below-returns-in_ok-stood-in-Ok-clause-exchange
+insert_below-returns-in_ok-stood-in-Ok-clause-exchange t c =
     let cs = c.args.children.now.items in
     let was : Key × Tree = c.index_mut.result.now in
     let d : Key × Tree = c.deref_mut.result.now in
@@ -121,14 +123,14 @@ insert_below-returns-in_ok-was-in-Ok-clause-exchange t c =
     (subst (λ (x : Tree). IsShareOf x c.share_of-before.result.depth c.share_of-before.result.count) c.node.ensures (record { depth = before.depth; count = before.count }))
     (subst (λ (x : Tree). IsShareOf x c.share_of-after.result.depth c.share_of-after.result.count) there (record { depth = later.depth; count = later.count }))
 
-pub insert_below-returns-in_ok-was-in-Ok-clause-ok : goal.insert_below-returns-in_ok-was-in-Ok-clause-ok
-insert_below-returns-in_ok-was-in-Ok-clause-ok t c =
+pub insert_below-returns-in_ok-stood-in-Ok-clause-ok : goal.insert_below-returns-in_ok-stood-in-Ok-clause-ok
+insert_below-returns-in_ok-stood-in-Ok-clause-ok t c =
     let cs = c.args.children.now.items in
     let was : Key × Tree = c.index_mut.result.now in
     let d : Key × Tree = c.deref_mut.result.now in
     let opened : was ≡ d = sym (c.deref_mut.ensures.value ∙ c.behind-children.view_is) in
     let found : StandsAt cs c.in-Ok.index d c.text.result.now = subst (λ (x : Key × Tree). StandsAt cs c.in-Ok.index x c.text.result.now) opened (record { children = c.requires.children; within = c.in-Ok.ensures.bound; at = c.index_mut.ensures.value; tied = c.in-Ok.ensures.position was }) in
-    graft-set found (reverse c.args.keys.now.items) c.insert.new.node c.args.value c.in_ok-was-in-Ok.ensures.ok ∙ ap (λ k. proposed (graft cs) ((k ∷ (reverse c.args.keys.now.items), c.args.value) ∷ [])) c.text.ensures.bytes
+    graft-set found (reverse c.args.keys.now.items) c.insert.new.node c.args.value.now c.in_ok-stood-in-Ok.ensures.ok ∙ ap (λ k. proposed (graft cs) ((k ∷ (reverse c.args.keys.now.items), c.args.value.now) ∷ [])) c.text.ensures.bytes
 
 pub insert_below-returns-in_ok-insert-in-Err-clause-children : goal.insert_below-returns-in_ok-insert-in-Err-clause-children
 insert_below-returns-in_ok-insert-in-Err-clause-children t c =
@@ -136,7 +138,8 @@ insert_below-returns-in_ok-insert-in-Err-clause-children t c =
     let below : Tree = c.in_ok-below-in-Err.below in
     let missing = missing_at cs c.in-Err.index c.text.result.now c.requires.children c.in-Err.ensures.bound c.in-Err.ensures.position in
     let items = c.in_ok-insert-in-Err.ensures.items ∙ ap (insert cs c.in-Err.index) c.in_ok-child-in-Err.ensures ∙ ap (λ k. insert cs c.in-Err.index (k, below)) (sym c.text.ensures.bytes) in
-    let deep = depth-chain below (reverse c.args.keys.now.items) c.args.value c.in_ok-below-in-Err.ensures in
+    let made = c.in_ok-below-in-Err.ensures ∙ ap (λ v. proposed null ((reverse c.args.keys.now.items, v) ∷ [])) c.taken.ensures in
+    let deep = depth-chain below (reverse c.args.keys.now.items) c.args.value.now made in
     let within = c.requires.room in
     let back = length-reverse c.args.keys.now.items in
     let room : depth below < MAX_DEPTH = omega arith in
@@ -155,20 +158,21 @@ insert_below-returns-in_ok-insert-in-Err-clause-ok t c =
     let below : Tree = c.in_ok-below-in-Err.below in
     let missing = missing_at cs c.in-Err.index c.text.result.now c.requires.children c.in-Err.ensures.bound c.in-Err.ensures.position in
     let items = c.in_ok-insert-in-Err.ensures.items ∙ ap (insert cs c.in-Err.index) c.in_ok-child-in-Err.ensures ∙ ap (λ k. insert cs c.in-Err.index (k, below)) (sym c.text.ensures.bytes) in
+    let made = c.in_ok-below-in-Err.ensures ∙ ap (λ v. proposed null ((reverse c.args.keys.now.items, v) ∷ [])) c.taken.ensures in
     ap graft items
-    ∙ graft-insert missing (reverse c.args.keys.now.items) below c.args.value c.in_ok-below-in-Err.ensures
-    ∙ ap (λ k. proposed (graft cs) ((k ∷ (reverse c.args.keys.now.items), c.args.value) ∷ [])) c.text.ensures.bytes
+    ∙ graft-insert missing (reverse c.args.keys.now.items) below c.args.value.now made
+    ∙ ap (λ k. proposed (graft cs) ((k ∷ (reverse c.args.keys.now.items), c.args.value.now) ∷ [])) c.text.ensures.bytes
 
 -- what stood there
 
-pub insert_below-returns-in_ok-was-in-Ok-clause-was : goal.insert_below-returns-in_ok-was-in-Ok-clause-was
-insert_below-returns-in_ok-was-in-Ok-clause-was t c =
+pub insert_below-returns-in_ok-stood-in-Ok-clause-was : goal.insert_below-returns-in_ok-stood-in-Ok-clause-was
+insert_below-returns-in_ok-stood-in-Ok-clause-was t c =
     let cs = c.args.children.now.items in
     let was : Key × Tree = c.index_mut.result.now in
     let d : Key × Tree = c.deref_mut.result.now in
     let opened : was ≡ d = sym (c.deref_mut.ensures.value ∙ c.behind-children.view_is) in
     let found : StandsAt cs c.in-Ok.index d c.text.result.now = subst (λ (x : Key × Tree). StandsAt cs c.in-Ok.index x c.text.result.now) opened (record { children = c.requires.children; within = c.in-Ok.ensures.bound; at = c.index_mut.ensures.value; tied = c.in-Ok.ensures.position was }) in
-    c.in_ok-was-in-Ok.ensures.was ∙ sym (changed-there found (reverse c.args.keys.now.items)) ∙ ap (λ k. sub (graft cs) (changed_at (graft cs) (k ∷ reverse c.args.keys.now.items))) c.text.ensures.bytes
+    c.in_ok-stood-in-Ok.ensures.was ∙ sym (changed-there found (reverse c.args.keys.now.items)) ∙ ap (λ k. sub (graft cs) (changed_at (graft cs) (k ∷ reverse c.args.keys.now.items))) c.text.ensures.bytes
 
 pub insert_below-returns-in_ok-insert-in-Err-clause-was : goal.insert_below-returns-in_ok-insert-in-Err-clause-was
 insert_below-returns-in_ok-insert-in-Err-clause-was t c =
@@ -178,15 +182,15 @@ insert_below-returns-in_ok-insert-in-Err-clause-was t c =
 
 -- what exists is replaced without memory
 
-pub insert_below-returns-in_err-was-in-Ok-clause-existing : goal.insert_below-returns-in_err-was-in-Ok-clause-existing
-insert_below-returns-in_err-was-in-Ok-clause-existing t c there =
+pub insert_below-returns-in_err-stood-in-Ok-clause-existing : goal.insert_below-returns-in_err-stood-in-Ok-clause-existing
+insert_below-returns-in_err-stood-in-Ok-clause-existing t c there =
     let cs = c.args.children.now.items in
     let was : Key × Tree = c.index_mut.result.now in
     let d : Key × Tree = c.deref_mut.result.now in
     let opened : was ≡ d = sym (c.deref_mut.ensures.value ∙ c.behind-children.view_is) in
     let found : StandsAt cs c.in-Ok.index d c.text.result.now = subst (λ (x : Key × Tree). StandsAt cs c.in-Ok.index x c.text.result.now) opened (record { children = c.requires.children; within = c.in-Ok.ensures.bound; at = c.index_mut.ensures.value; tied = c.in-Ok.ensures.position was }) in
     let below : exists d.1 (reverse c.args.keys.now.items) ≡ true = sym (exists-there found (reverse c.args.keys.now.items)) ∙ ap (λ k. exists (graft cs) (k ∷ reverse c.args.keys.now.items)) c.text.ensures.bytes ∙ there in
-    absurd (false≢true (sym (ap is_ok c.in_err-was-in-Ok.was) ∙ c.insert.ensures.existing below))
+    absurd (false≢true (sym (ap is_ok c.in_err-stood-in-Ok.was) ∙ c.insert.ensures.existing below))
 
 pub insert_below-returns-in_err-below-in-Err-clause-existing : goal.insert_below-returns-in_err-below-in-Err-clause-existing
 insert_below-returns-in_err-below-in-Err-clause-existing t c there =
