@@ -5,6 +5,7 @@ pub mod Inside
 pub mod Replacing
 pub mod Names
 pub mod Lists
+pub mod Placed
 pub mod Sorted
 pub mod Beneath
 pub mod Depends

@@ -48,7 +48,7 @@ fn snapshot_call<'a>(name: &str, place: &Snapshot<'a>) -> Option<Part<'a>>
     }
 }
 
-fn child_of<'a>(
+pub(crate) fn child_of<'a>(
     arena: &'a Bump,
     place: &'a Snapshot<'a>,
     given: Value<'a>,

@@ -7,19 +7,21 @@ ghost use Rattle.expr_types.specs.HasSort.{is_value};
 ghost use Rattle.evaluator.specs.Value as meanings;
 ghost use Rattle.evaluator.specs.Value.{as_value, sort_of_part, value, truth, in_range};
 ghost use Rattle.evaluator.specs.Operators.{in_truth, as_truth, other_truth, minus_of, both, either, operated};
-ghost use Rattle.evaluator.specs.Calls.{call_of, called_with, called_with_two, called_with_list, have_children};
+ghost use Rattle.evaluator.specs.Calls.{call_of, called_with, called_with_two, called_with_list, have_children, snapshot_call};
 ghost use Rattle.evaluator.specs.Members.{member};
 ghost use Rattle.evaluator.specs.Env.{env_of, variable, capture, Suits};
 ghost use Rattle.evaluator.specs.Mean.{mean, given as meant, values};
 ghost use Rattle.evaluator.specs.Holds.{outcome};
-ghost use Rattle.evaluator.specs.Working.Parts.{value_of, part_of, argument_value};
+ghost use Rattle.evaluator.specs.Working.Parts.{value_of, part_of, argument_value, as_place};
 
-use crate::calls::{called_with, called_with_nothing, called_with_two, has_child, holder};
+use crate::calls::{
+    called_with, called_with_nothing, called_with_two, child_of, has_child, holder,
+};
 use crate::env::Env;
 use crate::members::{capture, member, variable};
 use crate::operators::{in_truth, literal, minus_of, of_both};
 use crate::snapshot::Snapshot;
-use crate::value::{Part, Stop, Value, in_value, wanted};
+use crate::value::{Part, Stop, Value, in_place, in_value, wanted};
 use bumpalo::Bump;
 use expr_parser::{Argument, Expr, Operator};
 use expr_types::Checked;
@@ -61,6 +63,7 @@ fn part<'a>(arena: &'a Bump, expr: &'a Expr, env: &Env<'a, '_>) -> Result<Part<'
     }
 }
 
+#[inline(never)]
 fn number_part<'a>(number: u64) -> Result<Part<'a>, Stop>
     ensures value { IfOk result (λ p. option_map value (in_range (pos number)) ≡ Some (part_of p)) }
     ensures erred { IsErrOf result Stop.Erred → option_map value (in_range (pos number)) ≡ None }
@@ -122,8 +125,7 @@ fn value_part<'a>(arena: &'a Bump, expr: &'a Expr, env: &Env<'a, '_>) -> Result<
     Ok(Part::Value(value(arena, expr, env)?))
 }
 
-// Its value, where one is wanted. Literals and operations are values as they stand, and variables and captures are
-// told by their names; only what else there is has to be looked into as a part.
+// Its value, where one is wanted. What is seldom asked for one is looked into as a part.
 #[cycle(evaluation)]
 #[inline(never)]
 fn value<'a>(arena: &'a Bump, expr: &'a Expr, env: &Env<'a, '_>) -> Result<Value<'a>, Stop>
@@ -142,7 +144,8 @@ fn value<'a>(arena: &'a Bump, expr: &'a Expr, env: &Env<'a, '_>) -> Result<Value
         }
         Expr::Variable(name) => variable_value(name.as_str(), env),
         Expr::Capture(name) => capture_value(name.as_str(), env),
-        _ => value_of_part(arena, expr, env),
+        Expr::Member(receiver, name) => member_value(arena, receiver, name.as_str(), env),
+        _ => call_value(arena, expr, env),
     }
 }
 
@@ -164,6 +167,101 @@ fn capture_value<'a>(name: &str, env: &Env<'a, '_>) -> Result<Value<'a>, Stop>
 {
     let part = capture_part(name, env)?;
     wanted(in_value(part))
+}
+
+// The value of what a name behind a dot means.
+#[cycle(evaluation)]
+#[inline(never)]
+fn member_value<'a>(
+    arena: &'a Bump,
+    receiver: &'a Expr,
+    name: &str,
+    env: &Env<'a, '_>,
+) -> Result<Value<'a>, Stop>
+    ensures value { IfOk result (λ v. as_value (option_and_then (member name.now) (mean (view receiver.now) (env_of env.now))) ≡ Some (value_of v)) }
+    ensures erred { IsErrOf result Stop.Erred → as_value (option_and_then (member name.now) (mean (view receiver.now) (env_of env.now))) ≡ None }
+{
+    let receiver = receiver_of(arena, receiver, env)?;
+    let part = wanted(member(name, receiver))?;
+    wanted(in_value(part))
+}
+
+// The value of what a call gives. Most calls are about a location, which is then no part that has to be looked into.
+#[cycle(evaluation)]
+#[inline(never)]
+fn call_value<'a>(arena: &'a Bump, expr: &'a Expr, env: &Env<'a, '_>) -> Result<Value<'a>, Stop>
+    ensures value { IfOk result (λ v. as_value (mean (view expr.now) (env_of env.now)) ≡ Some (value_of v)) }
+    ensures erred { IsErrOf result Stop.Erred → as_value (mean (view expr.now) (env_of env.now)) ≡ None }
+{
+    let Expr::Call(receiver, name, given) = expr else {
+        return value_of_part(arena, expr, env);
+    };
+    match given.as_slice() {
+        [] => {
+            let at = place(arena, receiver, env)?;
+            value_at(name.as_str(), at)
+        }
+        [only] => match only {
+            Argument::One(key) if name.as_str() == "hasChild" => {
+                let at = place(arena, receiver, env)?;
+                let key = value(arena, key, env)?;
+                Ok(Value::Truth(has_child(arena, at, key)?))
+            }
+            Argument::List(items) if name.as_str() == "hasChildren" => {
+                let at = place(arena, receiver, env)?;
+                let all = have_children(arena, at, items.as_slice(), env)?;
+                Ok(Value::Truth(all))
+            }
+            _ => value_of_part(arena, expr, env),
+        },
+        _ => value_of_part(arena, expr, env),
+    }
+}
+
+// The value of what a call with nothing gives at a location.
+fn value_at<'a>(name: &str, at: &'a Snapshot<'a>) -> Result<Value<'a>, Stop>
+    ensures value { IfOk result (λ v. as_value (snapshot_call name.now at.now) ≡ Some (value_of v)) }
+    ensures erred { IsErrOf result Stop.Erred → as_value (snapshot_call name.now at.now) ≡ None }
+{
+    let part = wanted(called_with_nothing(name, Part::Snapshot(at)))?;
+    wanted(in_value(part))
+}
+
+// The location that it is, where one is wanted: most are children, one below another.
+#[cycle(evaluation)]
+fn place<'a>(arena: &'a Bump, expr: &'a Expr, env: &Env<'a, '_>) -> Result<&'a Snapshot<'a>, Stop>
+    ensures value { IfOk result (λ at. as_place (mean (view expr.now) (env_of env.now)) ≡ Some at.now) }
+    ensures erred { IsErrOf result Stop.Erred → as_place (mean (view expr.now) (env_of env.now)) ≡ None }
+{
+    let Expr::Call(receiver, name, given) = expr else {
+        return place_of_part(arena, expr, env);
+    };
+    match given.as_slice() {
+        [only] => match only {
+            Argument::One(key) if name.as_str() == "child" => {
+                let at = place(arena, receiver, env)?;
+                let key = value(arena, key, env)?;
+                child_of(arena, at, key)
+            }
+            _ => place_of_part(arena, expr, env),
+        },
+        _ => place_of_part(arena, expr, env),
+    }
+}
+
+// The location that may be another part.
+#[cycle(evaluation)]
+#[inline(never)]
+fn place_of_part<'a>(
+    arena: &'a Bump,
+    expr: &'a Expr,
+    env: &Env<'a, '_>,
+) -> Result<&'a Snapshot<'a>, Stop>
+    ensures value { IfOk result (λ at. as_place (mean (view expr.now) (env_of env.now)) ≡ Some at.now) }
+    ensures erred { IsErrOf result Stop.Erred → as_place (mean (view expr.now) (env_of env.now)) ≡ None }
+{
+    let part = receiver_of(arena, expr, env)?;
+    wanted(in_place(part))
 }
 
 // The value of what may be another part.

@@ -4,7 +4,7 @@ ghost use Rattle.json_tree.specs.Leaf.{primitive_of};
 ghost use Rattle.evaluator.specs.declared.value.Stop.TheVariants.{NoMemory as no_memory};
 ghost use Rattle.evaluator.specs.Value.{in_value, of_primitive};
 ghost use Rattle.evaluator.specs.Members.{text_or_null, primitive_or_null, number_or_null};
-ghost use Rattle.evaluator.specs.Working.Parts.{value_of, part_of};
+ghost use Rattle.evaluator.specs.Working.Parts.{value_of, part_of, in_place};
 
 use crate::asked::Asked;
 use crate::identity::{Claims, Identity};
@@ -81,6 +81,16 @@ pub(crate) fn in_value<'a>(part: Part<'a>) -> Option<Value<'a>>
         Part::Auth(None) | Part::Token(None) => Some(Value::Null),
         Part::Auth(Some(_)) | Part::Token(Some(_)) => Some(Value::Record),
         Part::Snapshot(_) | Part::Query(_) => None,
+    }
+}
+
+// The location, where one is wanted.
+pub(crate) fn in_place<'a>(part: Part<'a>) -> Option<&'a Snapshot<'a>>
+    ensures { option_map (λ s. s.now) result ≡ in_place (part_of part.entry) }
+{
+    match part {
+        Part::Snapshot(place) => Some(place),
+        _ => None,
     }
 }
 

@@ -238,8 +238,7 @@ impl Machine {
         Ok(())
     }
 
-    // What becomes of an event. But for `set`, what answers it is not made one with this: room is made and cleared
-    // at each call for what any of them would need.
+    // What becomes of an event.
     fn answer(
         &mut self,
         arena: &mut Bump,

@@ -1,5 +1,6 @@
 -- The values and the parts of the code.
 use Rattle.std.specs.Prelude.{ℕ, ℤ, List, Option, Some, None, option_map, codes, if◌then◌else◌}
+use Rattle.std.specs.Option.{option_and_then}
 use Rattle.std.specs.Str.{bytes_eq}
 use Rattle.expr_parser.specs.Tree.{Argument, One, Listed}
 use Rattle.evaluator.specs.declared.value.Value as code
@@ -45,3 +46,12 @@ holder f _ = None
 abbrev pub argument_value : Argument → Env → Option Value
 argument_value (One x) env = as_value (mean x env)
 argument_value (Listed xs) env = None
+
+-- the location that a part is, if it is one
+abbrev pub in_place : Part → Option Snapshot
+in_place (snapshot s) = Some s
+in_place _ = None
+
+-- the location of what may be an error
+abbrev pub as_place : Option Part → Option Snapshot
+as_place m = option_and_then in_place m
