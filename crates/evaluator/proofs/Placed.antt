@@ -1,5 +1,7 @@
 -- What calls give, by the location that the receiver is, if it is one.
-use Rattle.std.proofs.Common.{◌≡◌, ℕ, ◌≤◌, ◌<◌, List, [], ◌∷◌, length, get_or, Bool, Option, Some, None, Vec, Global, refl, ◌∙◌, ap, sym, arith}
+use Rattle.std.proofs.Common.{◌≡◌, ℕ, ◌≤◌, ◌<◌, List, [], ◌∷◌, length, get_or, Bool, true, false, Option, Some, None, Result, Ok, IfOk, Vec, Global, refl, ◌∙◌, ap, sym, subst, arith}
+use Rattle.std.specs.Borrow.{Bor}
+use Rattle.std.specs.Str.{bytes_eq}
 use Rattle.std.specs.Prelude.{option_map, codes}
 use Rattle.std.specs.declared.boxed.Box.{Box}
 use Rattle.std.specs.Option.{option_and_then}
@@ -9,18 +11,45 @@ use Rattle.expr_parser.specs.Tree as t
 use Rattle.expr_parser.specs.View.{view, views, arguments}
 use Rattle.expr_parser.proofs.Knots.{view-Call, view-List}
 use Rattle.evaluator.specs.Value.{Value, truth, Part, value, snapshot, auth, token, query, Snapshot, as_value}
+use Rattle.tree_model.proofs.Orders.{same_key}
+use Rattle.evaluator.specs.declared.value.Stop.{Stop}
+use Rattle.evaluator.specs.Snapshot.{parent_at}
 use Rattle.evaluator.specs.Texts.{text_test}
-use Rattle.evaluator.specs.Calls.{nothing, one, listed, called, child_of, has_child, have_children, snapshot_call, snapshot_call_with, snapshot_call_listed}
+use Rattle.evaluator.specs.Calls.{nothing, one, listed, called, child_of, has_child, have_children, type_test, snapshot_test, snapshot_call, snapshot_call_with, snapshot_call_listed}
 use Rattle.evaluator.specs.Env.{Env}
 use Rattle.evaluator.specs.Mean.{mean, given, values}
 use Rattle.evaluator.specs.Working.Parts.{as_place}
 
 -- ---- with nothing
 
-pub value_of_nothing_at : (f : List ℕ) (m : Option Part) → as_value (called f m nothing) ≡ option_and_then (λ s. as_value (snapshot_call f s)) (as_place m)
+value_of_places : (o : Option Snapshot) → as_value (option_map snapshot o) ≡ None
+value_of_places None = refl
+value_of_places (Some s) = refl
+
+value_of_values : (o : Option Value) → as_value (option_map value o) ≡ o
+value_of_values None = refl
+value_of_values (Some v) = refl
+
+-- `parent` gives no value
+parent_is_no_test : (s : Snapshot) → as_value (snapshot_call (codes "parent") s) ≡ snapshot_test (codes "parent") s
+unfolding snapshot_call snapshot_test type_test
+parent_is_no_test s = value_of_places (parent_at s)
+
+other_is_test : (f : List ℕ) (s : Snapshot) → bytes_eq (codes "parent") f ≡ false → as_value (snapshot_call f s) ≡ snapshot_test f s
+unfolding snapshot_call
+other_is_test f s other = rw other (value_of_values (snapshot_test f s))
+
+value_by : (f : List ℕ) (s : Snapshot) (b : Bool) → bytes_eq (codes "parent") f ≡ b → as_value (snapshot_call f s) ≡ snapshot_test f s
+value_by f s true is = subst (λ g. as_value (snapshot_call g s) ≡ snapshot_test g s) (same_key (codes "parent") f is) (parent_is_no_test s)
+value_by f s false other = other_is_test f s other
+
+value_of_call : (f : List ℕ) (s : Snapshot) → as_value (snapshot_call f s) ≡ snapshot_test f s
+value_of_call f s = value_by f s (bytes_eq (codes "parent") f) refl
+
+value_of_nothing_at : (f : List ℕ) (m : Option Part) → as_value (called f m nothing) ≡ option_and_then (snapshot_test f) (as_place m)
 value_of_nothing_at f None = refl
 value_of_nothing_at f (Some (value v)) = refl
-value_of_nothing_at f (Some (snapshot s)) = refl
+value_of_nothing_at f (Some (snapshot s)) = value_of_call f s
 value_of_nothing_at f (Some (auth who)) = refl
 value_of_nothing_at f (Some (token claims)) = refl
 value_of_nothing_at f (Some (query a)) = refl
@@ -38,10 +67,6 @@ place_of_values (Some v) = refl
 value_of_truths : (o : Option Bool) → as_value (option_map (λ b. value (truth b)) o) ≡ option_map truth o
 value_of_truths None = refl
 value_of_truths (Some b) = refl
-
-value_of_values : (o : Option Value) → as_value (option_map value o) ≡ o
-value_of_values None = refl
-value_of_values (Some v) = refl
 
 pub child_at_place : (m : Option Part) (w : Option Value) → as_place (called (codes "child") m (one w)) ≡ option_and_then (λ s. option_and_then (child_of s) w) (as_place m)
 unfolding snapshot_call_with
@@ -99,7 +124,7 @@ module _ (e x : Expr) (receiver : Box Expr Global) (f g : List ℕ) (xs : Vec Ar
       ∙ ap (λ ys. called g (mean (view x) env) (given (arguments ys) env)) (sym same)
 
   -- with nothing
-  pub value_with_nothing : given (arguments args) env ≡ nothing → as_value (mean (view e) env) ≡ option_and_then (λ s. as_value (snapshot_call g s)) (as_place (mean (view x) env))
+  pub value_with_nothing : given (arguments args) env ≡ nothing → as_value (mean (view e) env) ≡ option_and_then (snapshot_test g) (as_place (mean (view x) env))
   value_with_nothing none = ap as_value called_is ∙ ap (λ h. as_value (called g (mean (view x) env) h)) none ∙ value_of_nothing_at g (mean (view x) env)
 
   -- with a value
@@ -130,3 +155,11 @@ given_list (a ∷ []) x items ys env few many at is same =
     ap (λ z. given (arguments (z ∷ [])) env) (sym at ∙ is)
     ∙ ap (λ z. given (t.argument z t.no_argument) env) (view-List items)
     ∙ ap (λ zs. listed (values (views zs) env)) (sym same)
+
+-- ---- what is found
+
+pub found_value : (o : Option Snapshot) (f r : Result (Bor Snapshot) Stop) → f ≡ r → IfOk r (λ at. o ≡ Some at.now) → IfOk f (λ at. o ≡ Some at.now)
+found_value o f r is h = subst (λ (x : Result (Bor Snapshot) Stop). IfOk x (λ at. o ≡ Some at.now)) (sym is) h
+
+pub found_at : (o : Option Snapshot) (f r : Result (Bor Snapshot) Stop) (at : Bor Snapshot) → r ≡ f → r ≡ Ok at → IfOk f (λ s. o ≡ Some s.now) → o ≡ Some at.now
+found_at o f r at is ok h = subst (λ (x : Result (Bor Snapshot) Stop). IfOk x (λ s. o ≡ Some s.now)) (sym is ∙ ok) h

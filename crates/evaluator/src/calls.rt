@@ -2,10 +2,10 @@
 ghost use Rattle.std.specs.Prelude.{◌≡◌, Some, None, IfOk, IsErrOf, option_map};
 ghost use Rattle.json_tree.specs.Leaf.{primitive_of};
 ghost use Rattle.evaluator.specs.Calls.{type_test, snapshot_test, snapshot_call, child_of, has_child, snapshot_call_with, called_with_nothing, called_with, called_with_two};
-ghost use Rattle.evaluator.specs.Working.Parts.{value_of, part_of, holder};
+ghost use Rattle.evaluator.specs.Working.Parts.{value_of, part_of, holder, result_of};
 
 use crate::snapshot::{
-    Snapshot, child_at, exists_at, exists_below, has_children_at, primitive_at, val_at,
+    Found, Snapshot, child_at, exists_at, exists_below, has_children_at, primitive_at, val_at,
 };
 use crate::texts::{text_change, text_test};
 use crate::value::{Part, Stop, Value, wanted};
@@ -27,7 +27,7 @@ fn type_test<'a>(name: &str, leaf: Option<&Leaf>) -> Option<Value<'a>>
 }
 
 #[tactic(auto, unfolding(crate::specs::Calls::snapshot_test))]
-fn snapshot_test<'a>(name: &str, place: &Snapshot<'a>) -> Option<Value<'a>>
+pub(crate) fn snapshot_test<'a>(name: &str, place: &Snapshot<'a>) -> Option<Value<'a>>
     ensures { option_map value_of result ≡ snapshot_test name.now place.now }
 {
     match name {
@@ -48,17 +48,13 @@ fn snapshot_call<'a>(name: &str, place: &Snapshot<'a>) -> Option<Part<'a>>
     }
 }
 
-pub(crate) fn child_of<'a>(
-    arena: &'a Bump,
-    place: &'a Snapshot<'a>,
-    given: Value<'a>,
-) -> Result<&'a Snapshot<'a>, Stop>
-    ensures value { IfOk result (λ at. child_of place.now (value_of given.entry) ≡ Some at.now) }
-    ensures erred { IsErrOf result Stop.Erred → child_of place.now (value_of given.entry) ≡ None }
+pub(crate) fn child_of<'a>(arena: &'a Bump, place: &'a Snapshot<'a>, given: Value<'a>) -> Found<'a>
+    ensures value { IfOk (result_of result) (λ at. child_of place.now (value_of given.entry) ≡ Some at.now) }
+    ensures erred { IsErrOf (result_of result) Stop.Erred → child_of place.now (value_of given.entry) ≡ None }
 {
     match given {
         Value::Words(text) => child_at(arena, place, text),
-        _ => Err(Stop::Erred),
+        _ => Found::Erred,
     }
 }
 
@@ -89,7 +85,7 @@ fn snapshot_call_with<'a>(
     ensures erred { IsErrOf result Stop.Erred → snapshot_call_with name.now place.now (value_of given.entry) ≡ None }
 {
     match name {
-        "child" => Ok(Part::Snapshot(child_of(arena, place, given)?)),
+        "child" => Ok(Part::Snapshot(child_of(arena, place, given).get()?)),
         "hasChild" => Ok(Part::Value(Value::Truth(has_child(arena, place, given)?))),
         _ => Err(Stop::Erred),
     }

@@ -7,20 +7,20 @@ ghost use Rattle.expr_types.specs.HasSort.{is_value};
 ghost use Rattle.evaluator.specs.Value as meanings;
 ghost use Rattle.evaluator.specs.Value.{as_value, sort_of_part, value, truth, in_range};
 ghost use Rattle.evaluator.specs.Operators.{in_truth, as_truth, other_truth, minus_of, both, either, operated};
-ghost use Rattle.evaluator.specs.Calls.{call_of, called_with, called_with_two, called_with_list, have_children, snapshot_call};
+ghost use Rattle.evaluator.specs.Calls.{call_of, called_with, called_with_two, called_with_list, have_children, child_of};
 ghost use Rattle.evaluator.specs.Members.{member};
 ghost use Rattle.evaluator.specs.Env.{env_of, variable, capture, Suits};
 ghost use Rattle.evaluator.specs.Mean.{mean, given as meant, values};
 ghost use Rattle.evaluator.specs.Holds.{outcome};
-ghost use Rattle.evaluator.specs.Working.Parts.{value_of, part_of, argument_value, as_place};
+ghost use Rattle.evaluator.specs.Working.Parts.{value_of, part_of, argument_value, as_place, result_of};
 
 use crate::calls::{
-    called_with, called_with_nothing, called_with_two, child_of, has_child, holder,
+    called_with, called_with_nothing, called_with_two, child_of, has_child, holder, snapshot_test,
 };
 use crate::env::Env;
 use crate::members::{capture, member, variable};
 use crate::operators::{in_truth, literal, minus_of, of_both};
-use crate::snapshot::Snapshot;
+use crate::snapshot::{Found, Snapshot, child_at};
 use crate::value::{Part, Stop, Value, in_place, in_value, wanted};
 use bumpalo::Bump;
 use expr_parser::{Argument, Expr, Operator};
@@ -198,17 +198,17 @@ fn call_value<'a>(arena: &'a Bump, expr: &'a Expr, env: &Env<'a, '_>) -> Result<
     };
     match given.as_slice() {
         [] => {
-            let at = place(arena, receiver, env)?;
-            value_at(name.as_str(), at)
+            let at = place(arena, receiver, env).get()?;
+            wanted(snapshot_test(name.as_str(), at))
         }
         [only] => match only {
             Argument::One(key) if name.as_str() == "hasChild" => {
-                let at = place(arena, receiver, env)?;
+                let at = place(arena, receiver, env).get()?;
                 let key = value(arena, key, env)?;
                 Ok(Value::Truth(has_child(arena, at, key)?))
             }
             Argument::List(items) if name.as_str() == "hasChildren" => {
-                let at = place(arena, receiver, env)?;
+                let at = place(arena, receiver, env).get()?;
                 let all = have_children(arena, at, items.as_slice(), env)?;
                 Ok(Value::Truth(all))
             }
@@ -218,50 +218,71 @@ fn call_value<'a>(arena: &'a Bump, expr: &'a Expr, env: &Env<'a, '_>) -> Result<
     }
 }
 
-// The value of what a call with nothing gives at a location.
-fn value_at<'a>(name: &str, at: &'a Snapshot<'a>) -> Result<Value<'a>, Stop>
-    ensures value { IfOk result (λ v. as_value (snapshot_call name.now at.now) ≡ Some (value_of v)) }
-    ensures erred { IsErrOf result Stop.Erred → as_value (snapshot_call name.now at.now) ≡ None }
-{
-    let part = wanted(called_with_nothing(name, Part::Snapshot(at)))?;
-    wanted(in_value(part))
-}
-
 // The location that it is, where one is wanted: most are children, one below another.
 #[cycle(evaluation)]
-fn place<'a>(arena: &'a Bump, expr: &'a Expr, env: &Env<'a, '_>) -> Result<&'a Snapshot<'a>, Stop>
-    ensures value { IfOk result (λ at. as_place (mean (view expr.now) (env_of env.now)) ≡ Some at.now) }
-    ensures erred { IsErrOf result Stop.Erred → as_place (mean (view expr.now) (env_of env.now)) ≡ None }
+fn place<'a>(arena: &'a Bump, expr: &'a Expr, env: &Env<'a, '_>) -> Found<'a>
+    ensures value { IfOk (result_of result) (λ at. as_place (mean (view expr.now) (env_of env.now)) ≡ Some at.now) }
+    ensures erred { IsErrOf (result_of result) Stop.Erred → as_place (mean (view expr.now) (env_of env.now)) ≡ None }
 {
-    let Expr::Call(receiver, name, given) = expr else {
-        return place_of_part(arena, expr, env);
-    };
-    match given.as_slice() {
-        [only] => match only {
-            Argument::One(key) if name.as_str() == "child" => {
-                let at = place(arena, receiver, env)?;
-                let key = value(arena, key, env)?;
-                child_of(arena, at, key)
-            }
-            _ => place_of_part(arena, expr, env),
-        },
-        _ => place_of_part(arena, expr, env),
+    if let Expr::Variable(name) = expr {
+        return variable_place(name.as_str(), env);
+    }
+    if let Expr::Call(receiver, name, given) = expr
+        && let [only] = given.as_slice()
+        && let Argument::One(key) = only
+        && name.as_str() == "child"
+    {
+        return match place(arena, receiver, env) {
+            Found::At(at) => key_place(arena, at, key, env),
+            Found::Erred => Found::Erred,
+            Found::NoMemory => Found::NoMemory,
+        };
+    }
+    place_of_part(arena, expr, env)
+}
+
+// The location that a variable is.
+fn variable_place<'a>(name: &str, env: &Env<'a, '_>) -> Found<'a>
+    ensures value { IfOk (result_of result) (λ at. as_place (variable name.now (env_of env.now)) ≡ Some at.now) }
+    ensures erred { IsErrOf (result_of result) Stop.Erred → as_place (variable name.now (env_of env.now)) ≡ None }
+{
+    match variable(name, env) {
+        Some(part) => Found::of(wanted(in_place(part))),
+        None => Found::Erred,
+    }
+}
+
+// The child of a location by a key. Most keys are texts as they stand.
+#[cycle(evaluation)]
+fn key_place<'a>(
+    arena: &'a Bump,
+    at: &'a Snapshot<'a>,
+    key: &'a Expr,
+    env: &Env<'a, '_>,
+) -> Found<'a>
+    ensures value { IfOk (result_of result) (λ found. option_and_then (child_of at.now) (as_value (mean (view key.now) (env_of env.now))) ≡ Some found.now) }
+    ensures erred { IsErrOf (result_of result) Stop.Erred → option_and_then (child_of at.now) (as_value (mean (view key.now) (env_of env.now))) ≡ None }
+{
+    if let Expr::Text(text) = key {
+        return child_at(arena, at, text.as_str());
+    }
+    match value(arena, key, env) {
+        Ok(key) => child_of(arena, at, key),
+        Err(stop) => Found::stopped(stop),
     }
 }
 
 // The location that may be another part.
 #[cycle(evaluation)]
 #[inline(never)]
-fn place_of_part<'a>(
-    arena: &'a Bump,
-    expr: &'a Expr,
-    env: &Env<'a, '_>,
-) -> Result<&'a Snapshot<'a>, Stop>
-    ensures value { IfOk result (λ at. as_place (mean (view expr.now) (env_of env.now)) ≡ Some at.now) }
-    ensures erred { IsErrOf result Stop.Erred → as_place (mean (view expr.now) (env_of env.now)) ≡ None }
+fn place_of_part<'a>(arena: &'a Bump, expr: &'a Expr, env: &Env<'a, '_>) -> Found<'a>
+    ensures value { IfOk (result_of result) (λ at. as_place (mean (view expr.now) (env_of env.now)) ≡ Some at.now) }
+    ensures erred { IsErrOf (result_of result) Stop.Erred → as_place (mean (view expr.now) (env_of env.now)) ≡ None }
 {
-    let part = receiver_of(arena, expr, env)?;
-    wanted(in_place(part))
+    match part(arena, expr, env) {
+        Ok(part) => Found::of(wanted(in_place(part))),
+        Err(stop) => Found::stopped(stop),
+    }
 }
 
 // The value of what may be another part.

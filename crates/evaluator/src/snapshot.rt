@@ -1,5 +1,5 @@
 //! A snapshot: a location of a tree.
-ghost use Rattle.std.specs.Prelude.{◌≡◌, ◌<◌, ◌≤◌, [], true, IfOk, IsErrOf, IsSome, Some, None, option_map, length};
+ghost use Rattle.std.specs.Prelude.{◌≡◌, ◌<◌, ◌≤◌, [], true, IfOk, IsErrOf, IsSome, Some, None, Err, option_map, length};
 ghost use Rattle.std.specs.Bool.{OnTrue};
 ghost use Rattle.tree_model.specs.declared.limits.TheConstants.{MAX_DEPTH};
 ghost use Rattle.tree_model.specs.Key.{is_key};
@@ -8,7 +8,7 @@ ghost use Rattle.tree_model.specs.Tree.{non_null};
 ghost use Rattle.json_tree.specs.Leaf.{primitive_of};
 ghost use Rattle.path_capture.specs.Write.{tree_or_null};
 ghost use Rattle.evaluator.specs.Snapshot.{root_of, below, parent_at, exists_at, primitive_at, val_at, has_children_at, child_at};
-ghost use Rattle.evaluator.specs.Working.Parts.{value_of};
+ghost use Rattle.evaluator.specs.Working.Parts.{value_of, result_of};
 ghost use Rattle.evaluator.specs.Working.Places.{down, stepped};
 
 use crate::value::{Stop, Value, of_leaf};
@@ -34,6 +34,47 @@ pub struct Snapshot<'a> {
 pub(crate) enum Above<'a> {
     Nothing,
     Parent(&'a Snapshot<'a>, &'a str),
+}
+
+/// What is found where a location is wanted. A call hands it back in two registers, while it writes a `Result` of a
+/// reference and a [`Stop`] to memory.
+#[derive(Clone, Copy)]
+pub(crate) enum Found<'a> {
+    At(&'a Snapshot<'a>),
+    Erred,
+    NoMemory,
+}
+
+impl<'a> Found<'a> {
+    // What a result says.
+    pub(crate) fn of(found: Result<&'a Snapshot<'a>, Stop>) -> Found<'a>
+        ensures { result_of result ≡ found.entry }
+    {
+        match found {
+            Ok(at) => Found::At(at),
+            Err(stop) => Found::stopped(stop),
+        }
+    }
+
+    pub(crate) fn stopped(stop: Stop) -> Found<'a>
+        ensures { result_of result ≡ Err stop }
+    {
+        match stop {
+            Stop::Erred => Found::Erred,
+            Stop::NoMemory => Found::NoMemory,
+        }
+    }
+
+    // The same as a result.
+    pub(crate) fn get(self) -> Result<&'a Snapshot<'a>, Stop>
+        ensures { result ≡ result_of self.entry }
+    {
+        match self {
+            Found::At(at) => Ok(at),
+            Found::Erred => Err(Stop::Erred),
+            Found::NoMemory => Err(Stop::NoMemory),
+        }
+    }
 }
 
 impl<'a> Model for Snapshot<'a> {
@@ -202,20 +243,16 @@ pub(crate) fn has_children_at(place: &Snapshot) -> bool
 
 // The location at a text of keys: a look-up and a place in the arena for each key. Most texts are one key, and
 // most of these stand there.
-pub(crate) fn child_at<'a>(
-    arena: &'a Bump,
-    place: &'a Snapshot<'a>,
-    text: &'a str,
-) -> Result<&'a Snapshot<'a>, Stop>
-    ensures value { IfOk result (λ at. child_at place.now text.now ≡ Some at.now) }
-    ensures erred { IsErrOf result Stop.Erred → child_at place.now text.now ≡ None }
+pub(crate) fn child_at<'a>(arena: &'a Bump, place: &'a Snapshot<'a>, text: &'a str) -> Found<'a>
+    ensures value { IfOk (result_of result) (λ at. child_at place.now text.now ≡ Some at.now) }
+    ensures erred { IsErrOf (result_of result) Stop.Erred → child_at place.now text.now ≡ None }
 {
     let child = child_of(place.view(), text);
     if is_key_of(&child, text) {
         place.depth();
-        return at_key(arena, place, text, child);
+        return Found::of(at_key(arena, place, text, child));
     }
-    at_keys(arena, place, text)
+    Found::of(at_keys(arena, place, text))
 }
 
 // The same, by one key after another.
@@ -247,7 +284,7 @@ pub(crate) fn exists_below<'a>(
     if is_child(place, text) {
         return Ok(true);
     }
-    Ok(exists_at(child_at(arena, place, text)?))
+    Ok(exists_at(child_at(arena, place, text).get()?))
 }
 
 // Whether a text is the key of a child, in a path that has room for it.

@@ -1,5 +1,6 @@
 -- The values and the parts of the code.
-use Rattle.std.specs.Prelude.{ℕ, ℤ, List, Option, Some, None, option_map, codes, if◌then◌else◌}
+use Rattle.std.specs.Prelude.{ℕ, ℤ, List, Option, Some, None, Result, Ok, Err, option_map, codes, if◌then◌else◌}
+use Rattle.std.specs.Borrow.{Bor}
 use Rattle.std.specs.Option.{option_and_then}
 use Rattle.std.specs.Str.{bytes_eq}
 use Rattle.expr_parser.specs.Tree.{Argument, One, Listed}
@@ -7,6 +8,11 @@ use Rattle.evaluator.specs.declared.value.Value as code
 use Rattle.evaluator.specs.declared.value.Value.TheVariants.{Null, Truth, Whole, Words, Sentinel, Record}
 use Rattle.evaluator.specs.declared.value.Part as code_part
 use Rattle.evaluator.specs.declared.value.Part.TheVariants as parts
+use Rattle.evaluator.specs.declared.value.Stop.{Stop}
+use Rattle.evaluator.specs.declared.value.Stop.TheVariants as stop
+use Rattle.evaluator.specs.declared.snapshot.Found.{Found}
+use Rattle.evaluator.specs.declared.snapshot.Found.TheVariants as found
+use Rattle.evaluator.specs.declared.snapshot.Found.TheVariants.{At}
 use Rattle.evaluator.specs.Asked.{asked_of}
 use Rattle.evaluator.specs.Value.{Value, null, truth, whole, words, sentinel, a_record, Snapshot, Part, value, snapshot, auth, token, query, as_value}
 use Rattle.evaluator.specs.Env.{Env}
@@ -46,6 +52,12 @@ holder f _ = None
 abbrev pub argument_value : Argument → Env → Option Value
 argument_value (One x) env = as_value (mean x env)
 argument_value (Listed xs) env = None
+
+-- what was found, as a result
+abbrev pub result_of : Found → Result (Bor Snapshot) Stop
+result_of (At s) = Ok s
+result_of found.Erred = Err stop.Erred
+result_of found.NoMemory = Err stop.NoMemory
 
 -- the location that a part is, if it is one
 abbrev pub in_place : Part → Option Snapshot

@@ -1,15 +1,20 @@
-use Rattle.std.proofs.Common.{◌≡◌, ◌∙◌, ap, sym, subst, refl, arith, rules, Some, None, IfOk, Option}
+use Rattle.std.proofs.Common.{◌≡◌, ◌∙◌, ap, sym, subst, refl, arith, rules, Some, None, IfOk, IsErrOf, Option, Result}
+use Rattle.std.specs.Borrow.{Bor}
+use Rattle.std.proofs.lemmas.Result.{IfOk-weaker}
 use Rattle.std.specs.Prelude.{option_map, codes}
 use Rattle.std.proofs.lemmas.Grind.{common_steps}
 use Rattle.std.specs.Option.{option_and_then}
 use Rattle.expr_parser.specs.View.{view, view_argument, views, arguments}
-use Rattle.evaluator.specs.Value.{Part, Value, Snapshot, truth, as_value}
-use Rattle.evaluator.specs.Calls.{call_of, called_with_two, called_with_list, have_children, has_child, child_of, snapshot_call}
+use Rattle.evaluator.specs.declared.value.Stop.{Stop}
+use Rattle.evaluator.specs.declared.value.Stop.TheVariants.{Erred}
+use Rattle.evaluator.specs.Value.{Part, Snapshot, truth, as_value}
+use Rattle.evaluator.specs.Calls.{call_of, called_with_two, called_with_list, have_children, has_child, child_of, snapshot_test}
 use Rattle.evaluator.specs.Env.{env_of}
 use Rattle.evaluator.specs.Mean.{mean, given, values}
-use Rattle.evaluator.specs.Working.Parts.{value_of, part_of, argument_value, as_place}
+use Rattle.evaluator.specs.Working.Parts.{value_of, part_of, argument_value, as_place, result_of}
 use Rattle.evaluator.proofs.Lists.{call_is, two_are, many_are, one_is, list_is, element_errs, child_errs, all_found, no_holder, some_holder}
-use Rattle.evaluator.proofs.Placed.{value_with_nothing, child_with, has_child_with, have_children_with, given_nothing, given_value, given_list}
+use Rattle.evaluator.proofs.Placed.{value_with_nothing, child_with, has_child_with, have_children_with, given_nothing, given_value, given_list, found_at}
+use Rattle.evaluator.proofs.evaluation.+evaluation.Goals.{place-in-At, place-in-Erred, place-in-NoMemory}
 use Rattle.evaluator.proofs.evaluation.+evaluation.Goals as goal
 
 pub have_children-returns-in_err-child-clause-erred : goal.have_children-returns-in_err-child-clause-erred
@@ -98,35 +103,45 @@ call-returns-in_ok-first-in-len2-clause-erred t c =
 pub call_value-returns-in_err-at-in-empty-clause-erred : goal.call_value-returns-in_err-at-in-empty-clause-erred
 call_value-returns-in_err-at-in-empty-clause-erred t c =
     let env = env_of c.args.env.now in
-    let e = value_with_nothing c.args.expr.now c.deref.result.now c.in-Call.receiver c.in-Call.name c.in-Call.name c.in-Call.given c.as_slice.result.now (env_of c.args.env.now) c.in-Call.is c.deref.ensures refl c.as_slice.ensures.value (given_nothing c.as_slice.result.now (env_of c.args.env.now) (omega arith)) in
-    let stops : as_place (mean (view c.deref.result.now) env) ≡ None → as_value (mean (view c.args.expr.now) env) ≡ None = λ h. e ∙ ap (option_and_then (λ s. as_value (snapshot_call c.in-Call.name s))) h in
+    let e = value_with_nothing c.args.expr.now c.deref.result.now c.in-Call.receiver c.in-Call.name c.in-Call.name c.in-Call.given c.as_slice.result.now env c.in-Call.is c.deref.ensures refl c.as_slice.ensures.value (given_nothing c.as_slice.result.now env (omega arith)) in
+    let stops : IsErrOf c.get.result Erred → as_value (mean (view c.args.expr.now) env) ≡ None = λ h. e ∙ ap (option_and_then (snapshot_test c.in-Call.name)) (c.place.ensures.erred (subst (λ (r : Result (Bor Snapshot) Stop). IsErrOf r Erred) c.get.ensures h)) in
     grind (arith, common_steps, stops)
 
 pub call_value-returns-in_ok-at-in-empty-clause-value : goal.call_value-returns-in_ok-at-in-empty-clause-value
 call_value-returns-in_ok-at-in-empty-clause-value t c =
-    let e = value_with_nothing c.args.expr.now c.deref.result.now c.in-Call.receiver c.in-Call.name c.as_str.result.now c.in-Call.given c.as_slice.result.now (env_of c.args.env.now) c.in-Call.is c.deref.ensures c.as_str.ensures c.as_slice.ensures.value (given_nothing c.as_slice.result.now (env_of c.args.env.now) (omega arith))
-    ∙ ap (option_and_then (λ s. as_value (snapshot_call c.as_str.result.now s))) c.in_ok-at-in-empty.ensures.value in
-    subst (λ (m : Option Value). IfOk c.value_at.result (λ v. m ≡ Some (value_of v))) (sym e) c.value_at.ensures.value
+    let env = env_of c.args.env.now in
+    let named : c.as_str.result.now ≡ c.in-Call.name = c.as_str.ensures in
+    let e : as_value (mean (view c.args.expr.now) env) ≡ option_map value_of c.snapshot_test.result =
+    value_with_nothing c.args.expr.now c.deref.result.now c.in-Call.receiver c.in-Call.name c.in-Call.name c.in-Call.given c.as_slice.result.now env c.in-Call.is c.deref.ensures refl c.as_slice.ensures.value (given_nothing c.as_slice.result.now env (omega arith))
+    ∙ ap (option_and_then (snapshot_test c.in-Call.name)) (found_at (as_place (mean (view c.deref.result.now) env)) _ c.get.result c.in_ok-at-in-empty.at c.get.ensures c.in_ok-at-in-empty.was c.place.ensures.value)
+    ∙ ap (λ f. snapshot_test f c.in_ok-at-in-empty.at.now) (sym named)
+    ∙ sym c.snapshot_test.ensures in
+    IfOk-weaker c.wanted.result _ _ (λ v h. e ∙ ap (option_map value_of) h) c.wanted.ensures.value
 
 pub call_value-returns-in_ok-at-in-empty-clause-erred : goal.call_value-returns-in_ok-at-in-empty-clause-erred
 call_value-returns-in_ok-at-in-empty-clause-erred t c =
-    let e = value_with_nothing c.args.expr.now c.deref.result.now c.in-Call.receiver c.in-Call.name c.as_str.result.now c.in-Call.given c.as_slice.result.now (env_of c.args.env.now) c.in-Call.is c.deref.ensures c.as_str.ensures c.as_slice.ensures.value (given_nothing c.as_slice.result.now (env_of c.args.env.now) (omega arith))
-    ∙ ap (option_and_then (λ s. as_value (snapshot_call c.as_str.result.now s))) c.in_ok-at-in-empty.ensures.value in
-    λ h. e ∙ c.value_at.ensures.erred h
+    let env = env_of c.args.env.now in
+    let named : c.as_str.result.now ≡ c.in-Call.name = c.as_str.ensures in
+    let e : as_value (mean (view c.args.expr.now) env) ≡ option_map value_of c.snapshot_test.result =
+    value_with_nothing c.args.expr.now c.deref.result.now c.in-Call.receiver c.in-Call.name c.in-Call.name c.in-Call.given c.as_slice.result.now env c.in-Call.is c.deref.ensures refl c.as_slice.ensures.value (given_nothing c.as_slice.result.now env (omega arith))
+    ∙ ap (option_and_then (snapshot_test c.in-Call.name)) (found_at (as_place (mean (view c.deref.result.now) env)) _ c.get.result c.in_ok-at-in-empty.at c.get.ensures c.in_ok-at-in-empty.was c.place.ensures.value)
+    ∙ ap (λ f. snapshot_test f c.in_ok-at-in-empty.at.now) (sym named)
+    ∙ sym c.snapshot_test.ensures in
+    λ h. e ∙ ap (option_map value_of) (c.wanted.ensures.erred h)
 
 pub call_value-returns-in_err-at-in-One-clause-erred : goal.call_value-returns-in_err-at-in-One-clause-erred
 call_value-returns-in_err-at-in-One-clause-erred t c =
     let env = env_of c.args.env.now in
     let named : c.in-Call.name ≡ codes "hasChild" = search rules in
     let e = has_child_with c.args.expr.now c.deref-in-One.result.now c.in-Call.receiver c.in-Call.name c.in-Call.name c.in-Call.given c.as_slice.result.now env c.in-Call.is c.deref-in-One.ensures refl c.as_slice.ensures.value (as_value (mean (view c.in-One.key) env)) (given_value c.as_slice.result.now c.only-item.result c.in-One.key env (omega arith) (omega arith) c.only-item.is c.in-One.is) named in
-    let stops : as_place (mean (view c.deref-in-One.result.now) env) ≡ None → as_value (mean (view c.args.expr.now) env) ≡ None = λ h. e ∙ ap (λ m. option_map truth (option_and_then (λ s. option_and_then (has_child s) (as_value (mean (view c.in-One.key) env))) m)) h in
+    let stops : IsErrOf c.get-in-One.result Erred → as_value (mean (view c.args.expr.now) env) ≡ None = λ h. e ∙ ap (λ m. option_map truth (option_and_then (λ s. option_and_then (has_child s) (as_value (mean (view c.in-One.key) env))) m)) (c.place-in-One.ensures.erred (subst (λ (r : Result (Bor Snapshot) Stop). IsErrOf r Erred) c.get-in-One.ensures h)) in
     grind (arith, common_steps, stops)
 
 pub call_value-returns-in_err-key-in-One-clause-erred : goal.call_value-returns-in_err-key-in-One-clause-erred
 call_value-returns-in_err-key-in-One-clause-erred t c =
     let env = env_of c.args.env.now in
     let named : c.in-Call.name ≡ codes "hasChild" = search rules in
-    let e = has_child_with c.args.expr.now c.deref-in-One.result.now c.in-Call.receiver c.in-Call.name c.in-Call.name c.in-Call.given c.as_slice.result.now env c.in-Call.is c.deref-in-One.ensures refl c.as_slice.ensures.value (as_value (mean (view c.in-One.key) env)) (given_value c.as_slice.result.now c.only-item.result c.in-One.key env (omega arith) (omega arith) c.only-item.is c.in-One.is) named ∙ ap (λ m. option_map truth (option_and_then (λ s. option_and_then (has_child s) (as_value (mean (view c.in-One.key) env))) m)) c.in_ok-at-in-One.ensures.value in
+    let e = has_child_with c.args.expr.now c.deref-in-One.result.now c.in-Call.receiver c.in-Call.name c.in-Call.name c.in-Call.given c.as_slice.result.now env c.in-Call.is c.deref-in-One.ensures refl c.as_slice.ensures.value (as_value (mean (view c.in-One.key) env)) (given_value c.as_slice.result.now c.only-item.result c.in-One.key env (omega arith) (omega arith) c.only-item.is c.in-One.is) named ∙ ap (λ m. option_map truth (option_and_then (λ s. option_and_then (has_child s) (as_value (mean (view c.in-One.key) env))) m)) (found_at (as_place (mean (view c.deref-in-One.result.now) env)) _ c.get-in-One.result c.in_ok-at-in-One.at c.get-in-One.ensures c.in_ok-at-in-One.was c.place-in-One.ensures.value) in
     let stops : as_value (mean (view c.in-One.key) env) ≡ None → as_value (mean (view c.args.expr.now) env) ≡ None = λ h. e ∙ ap (λ m. option_map truth (option_and_then (has_child c.in_ok-at-in-One.at.now) m)) h in
     grind (arith, common_steps, stops)
 
@@ -134,7 +149,7 @@ pub call_value-returns-in_err-has_child-in-One-clause-erred : goal.call_value-re
 call_value-returns-in_err-has_child-in-One-clause-erred t c =
     let env = env_of c.args.env.now in
     let named : c.in-Call.name ≡ codes "hasChild" = search rules in
-    let e = has_child_with c.args.expr.now c.deref-in-One.result.now c.in-Call.receiver c.in-Call.name c.in-Call.name c.in-Call.given c.as_slice.result.now env c.in-Call.is c.deref-in-One.ensures refl c.as_slice.ensures.value (as_value (mean (view c.in-One.key) env)) (given_value c.as_slice.result.now c.only-item.result c.in-One.key env (omega arith) (omega arith) c.only-item.is c.in-One.is) named ∙ ap (λ m. option_map truth (option_and_then (λ s. option_and_then (has_child s) (as_value (mean (view c.in-One.key) env))) m)) c.in_ok-at-in-One.ensures.value ∙ ap (λ m. option_map truth (option_and_then (has_child c.in_ok-at-in-One.at.now) m)) c.in_ok-key-in-One.ensures.value in
+    let e = has_child_with c.args.expr.now c.deref-in-One.result.now c.in-Call.receiver c.in-Call.name c.in-Call.name c.in-Call.given c.as_slice.result.now env c.in-Call.is c.deref-in-One.ensures refl c.as_slice.ensures.value (as_value (mean (view c.in-One.key) env)) (given_value c.as_slice.result.now c.only-item.result c.in-One.key env (omega arith) (omega arith) c.only-item.is c.in-One.is) named ∙ ap (λ m. option_map truth (option_and_then (λ s. option_and_then (has_child s) (as_value (mean (view c.in-One.key) env))) m)) (found_at (as_place (mean (view c.deref-in-One.result.now) env)) _ c.get-in-One.result c.in_ok-at-in-One.at c.get-in-One.ensures c.in_ok-at-in-One.was c.place-in-One.ensures.value) ∙ ap (λ m. option_map truth (option_and_then (has_child c.in_ok-at-in-One.at.now) m)) c.in_ok-key-in-One.ensures.value in
     let stops : has_child c.in_ok-at-in-One.at.now (value_of c.in_ok-key-in-One.key) ≡ None → as_value (mean (view c.args.expr.now) env) ≡ None = λ h. e ∙ ap (option_map truth) h in
     grind (arith, common_steps, stops)
 
@@ -142,21 +157,21 @@ pub call_value-returns-in_ok-has_child-in-One-clause-value : goal.call_value-ret
 call_value-returns-in_ok-has_child-in-One-clause-value t c =
     let env = env_of c.args.env.now in
     let named : c.in-Call.name ≡ codes "hasChild" = search rules in
-    has_child_with c.args.expr.now c.deref-in-One.result.now c.in-Call.receiver c.in-Call.name c.in-Call.name c.in-Call.given c.as_slice.result.now env c.in-Call.is c.deref-in-One.ensures refl c.as_slice.ensures.value (as_value (mean (view c.in-One.key) env)) (given_value c.as_slice.result.now c.only-item.result c.in-One.key env (omega arith) (omega arith) c.only-item.is c.in-One.is) named ∙ ap (λ m. option_map truth (option_and_then (λ s. option_and_then (has_child s) (as_value (mean (view c.in-One.key) env))) m)) c.in_ok-at-in-One.ensures.value ∙ ap (λ m. option_map truth (option_and_then (has_child c.in_ok-at-in-One.at.now) m)) c.in_ok-key-in-One.ensures.value ∙ ap (option_map truth) c.in_ok-has_child-in-One.ensures.value
+    has_child_with c.args.expr.now c.deref-in-One.result.now c.in-Call.receiver c.in-Call.name c.in-Call.name c.in-Call.given c.as_slice.result.now env c.in-Call.is c.deref-in-One.ensures refl c.as_slice.ensures.value (as_value (mean (view c.in-One.key) env)) (given_value c.as_slice.result.now c.only-item.result c.in-One.key env (omega arith) (omega arith) c.only-item.is c.in-One.is) named ∙ ap (λ m. option_map truth (option_and_then (λ s. option_and_then (has_child s) (as_value (mean (view c.in-One.key) env))) m)) (found_at (as_place (mean (view c.deref-in-One.result.now) env)) _ c.get-in-One.result c.in_ok-at-in-One.at c.get-in-One.ensures c.in_ok-at-in-One.was c.place-in-One.ensures.value) ∙ ap (λ m. option_map truth (option_and_then (has_child c.in_ok-at-in-One.at.now) m)) c.in_ok-key-in-One.ensures.value ∙ ap (option_map truth) c.in_ok-has_child-in-One.ensures.value
 
 pub call_value-returns-in_err-at-in-List-clause-erred : goal.call_value-returns-in_err-at-in-List-clause-erred
 call_value-returns-in_err-at-in-List-clause-erred t c =
     let env = env_of c.args.env.now in
     let named : c.in-Call.name ≡ codes "hasChildren" = search rules in
     let e = have_children_with c.args.expr.now c.deref-in-List.result.now c.in-Call.receiver c.in-Call.name c.in-Call.name c.in-Call.given c.as_slice.result.now env c.in-Call.is c.deref-in-List.ensures refl c.as_slice.ensures.value (values (views c.in-List.items.items) env) (given_list c.as_slice.result.now c.only-item.result c.in-List.items c.in-List.items.items env (omega arith) (omega arith) c.only-item.is c.in-List.is refl) named in
-    let stops : as_place (mean (view c.deref-in-List.result.now) env) ≡ None → as_value (mean (view c.args.expr.now) env) ≡ None = λ h. e ∙ ap (λ m. option_map truth (option_and_then (λ s. option_and_then (have_children s) (values (views c.in-List.items.items) env)) m)) h in
+    let stops : IsErrOf c.get-in-List.result Erred → as_value (mean (view c.args.expr.now) env) ≡ None = λ h. e ∙ ap (λ m. option_map truth (option_and_then (λ s. option_and_then (have_children s) (values (views c.in-List.items.items) env)) m)) (c.place-in-List.ensures.erred (subst (λ (r : Result (Bor Snapshot) Stop). IsErrOf r Erred) c.get-in-List.ensures h)) in
     grind (arith, common_steps, stops)
 
 pub call_value-returns-in_err-all-in-List-clause-erred : goal.call_value-returns-in_err-all-in-List-clause-erred
 call_value-returns-in_err-all-in-List-clause-erred t c =
     let env = env_of c.args.env.now in
     let named : c.in-Call.name ≡ codes "hasChildren" = search rules in
-    let e = have_children_with c.args.expr.now c.deref-in-List.result.now c.in-Call.receiver c.in-Call.name c.in-Call.name c.in-Call.given c.as_slice.result.now env c.in-Call.is c.deref-in-List.ensures refl c.as_slice.ensures.value (values (views c.as_slice-in-List.result.now) env) (given_list c.as_slice.result.now c.only-item.result c.in-List.items c.as_slice-in-List.result.now env (omega arith) (omega arith) c.only-item.is c.in-List.is c.as_slice-in-List.ensures.value) named ∙ ap (λ m. option_map truth (option_and_then (λ s. option_and_then (have_children s) (values (views c.as_slice-in-List.result.now) env)) m)) c.in_ok-at-in-List.ensures.value in
+    let e = have_children_with c.args.expr.now c.deref-in-List.result.now c.in-Call.receiver c.in-Call.name c.in-Call.name c.in-Call.given c.as_slice.result.now env c.in-Call.is c.deref-in-List.ensures refl c.as_slice.ensures.value (values (views c.as_slice-in-List.result.now) env) (given_list c.as_slice.result.now c.only-item.result c.in-List.items c.as_slice-in-List.result.now env (omega arith) (omega arith) c.only-item.is c.in-List.is c.as_slice-in-List.ensures.value) named ∙ ap (λ m. option_map truth (option_and_then (λ s. option_and_then (have_children s) (values (views c.as_slice-in-List.result.now) env)) m)) (found_at (as_place (mean (view c.deref-in-List.result.now) env)) _ c.get-in-List.result c.in_ok-at-in-List.at c.get-in-List.ensures c.in_ok-at-in-List.was c.place-in-List.ensures.value) in
     let stops : option_and_then (have_children c.in_ok-at-in-List.at.now) (values (views c.as_slice-in-List.result.now) env) ≡ None → as_value (mean (view c.args.expr.now) env) ≡ None = λ h. e ∙ ap (option_map truth) h in
     grind (arith, common_steps, stops)
 
@@ -164,26 +179,28 @@ pub call_value-returns-in_ok-all-in-List-clause-value : goal.call_value-returns-
 call_value-returns-in_ok-all-in-List-clause-value t c =
     let env = env_of c.args.env.now in
     let named : c.in-Call.name ≡ codes "hasChildren" = search rules in
-    have_children_with c.args.expr.now c.deref-in-List.result.now c.in-Call.receiver c.in-Call.name c.in-Call.name c.in-Call.given c.as_slice.result.now env c.in-Call.is c.deref-in-List.ensures refl c.as_slice.ensures.value (values (views c.as_slice-in-List.result.now) env) (given_list c.as_slice.result.now c.only-item.result c.in-List.items c.as_slice-in-List.result.now env (omega arith) (omega arith) c.only-item.is c.in-List.is c.as_slice-in-List.ensures.value) named ∙ ap (λ m. option_map truth (option_and_then (λ s. option_and_then (have_children s) (values (views c.as_slice-in-List.result.now) env)) m)) c.in_ok-at-in-List.ensures.value ∙ ap (option_map truth) c.in_ok-all-in-List.ensures.value
+    have_children_with c.args.expr.now c.deref-in-List.result.now c.in-Call.receiver c.in-Call.name c.in-Call.name c.in-Call.given c.as_slice.result.now env c.in-Call.is c.deref-in-List.ensures refl c.as_slice.ensures.value (values (views c.as_slice-in-List.result.now) env) (given_list c.as_slice.result.now c.only-item.result c.in-List.items c.as_slice-in-List.result.now env (omega arith) (omega arith) c.only-item.is c.in-List.is c.as_slice-in-List.ensures.value) named ∙ ap (λ m. option_map truth (option_and_then (λ s. option_and_then (have_children s) (values (views c.as_slice-in-List.result.now) env)) m)) (found_at (as_place (mean (view c.deref-in-List.result.now) env)) _ c.get-in-List.result c.in_ok-at-in-List.at c.get-in-List.ensures c.in_ok-at-in-List.was c.place-in-List.ensures.value) ∙ ap (option_map truth) c.in_ok-all-in-List.ensures.value
 
-pub place-returns-in_err-key-in-One-clause-erred : goal.place-returns-in_err-key-in-One-clause-erred
-place-returns-in_err-key-in-One-clause-erred t c =
+pub place-returns : goal.place-returns
+place-returns t c =
     let env = env_of c.args.env.now in
     let named : c.in-Call.name ≡ codes "child" = search rules in
-    let e = child_with c.args.expr.now c.deref.result.now c.in-Call.receiver c.in-Call.name c.in-Call.name c.in-Call.given c.as_slice.result.now env c.in-Call.is c.deref.ensures refl c.as_slice.ensures.value (as_value (mean (view c.in-One.key) env)) (given_value c.as_slice.result.now c.only-item.result c.in-One.key env (omega arith) (omega arith) c.only-item.is c.in-One.is) named ∙ ap (option_and_then (λ s. option_and_then (child_of s) (as_value (mean (view c.in-One.key) env)))) c.in_ok-at-in-One.ensures.value in
-    let stops : as_value (mean (view c.in-One.key) env) ≡ None → as_place (mean (view c.args.expr.now) env) ≡ None = λ h. e ∙ ap (option_and_then (child_of c.in_ok-at-in-One.at.now)) h in
-    grind (arith, common_steps, stops)
-
-pub place-returns-in_ok-key-in-One-clause-value : goal.place-returns-in_ok-key-in-One-clause-value
-place-returns-in_ok-key-in-One-clause-value t c =
-    let env = env_of c.args.env.now in
-    let named : c.in-Call.name ≡ codes "child" = search rules in
-    let e = child_with c.args.expr.now c.deref.result.now c.in-Call.receiver c.in-Call.name c.in-Call.name c.in-Call.given c.as_slice.result.now env c.in-Call.is c.deref.ensures refl c.as_slice.ensures.value (as_value (mean (view c.in-One.key) env)) (given_value c.as_slice.result.now c.only-item.result c.in-One.key env (omega arith) (omega arith) c.only-item.is c.in-One.is) named ∙ ap (option_and_then (λ s. option_and_then (child_of s) (as_value (mean (view c.in-One.key) env)))) c.in_ok-at-in-One.ensures.value ∙ ap (option_and_then (child_of c.in_ok-at-in-One.at.now)) c.in_ok-key-in-One.ensures.value in
-    subst (λ (m : Option Snapshot). IfOk c.child_of.result (λ at. m ≡ Some at.now)) (sym e) c.child_of.ensures.value
-
-pub place-returns-in_ok-key-in-One-clause-erred : goal.place-returns-in_ok-key-in-One-clause-erred
-place-returns-in_ok-key-in-One-clause-erred t c =
-    let env = env_of c.args.env.now in
-    let named : c.in-Call.name ≡ codes "child" = search rules in
-    let e = child_with c.args.expr.now c.deref.result.now c.in-Call.receiver c.in-Call.name c.in-Call.name c.in-Call.given c.as_slice.result.now env c.in-Call.is c.deref.ensures refl c.as_slice.ensures.value (as_value (mean (view c.in-One.key) env)) (given_value c.as_slice.result.now c.only-item.result c.in-One.key env (omega arith) (omega arith) c.only-item.is c.in-One.is) named ∙ ap (option_and_then (λ s. option_and_then (child_of s) (as_value (mean (view c.in-One.key) env)))) c.in_ok-at-in-One.ensures.value ∙ ap (option_and_then (child_of c.in_ok-at-in-One.at.now)) c.in_ok-key-in-One.ensures.value in
-    λ h. e ∙ c.child_of.ensures.erred h
+    let is = child_with c.args.expr.now c.deref.result.now c.in-Call.receiver c.in-Call.name c.in-Call.name c.in-Call.given c.as_slice.result.now env c.in-Call.is c.deref.ensures refl c.as_slice.ensures.value (as_value (mean (view c.in-One.key) env)) (given_value c.as_slice.result.now c.only-item.result c.in-One.key env (omega arith) (omega arith) c.only-item.is c.in-One.is) named in
+    elim c.match-place.branch [
+      | place-in-At w ↦
+          let e : as_place (mean (view c.args.expr.now) env) ≡ option_and_then (child_of w.in-At.at.now) (as_value (mean (view c.in-One.key) env)) = is ∙ ap (option_and_then (λ s. option_and_then (child_of s) (as_value (mean (view c.in-One.key) env)))) (subst (λ f. IfOk (result_of f) (λ (at : Bor Snapshot). as_place (mean (view c.deref.result.now) env) ≡ Some at.now)) w.in-At.is c.place.ensures.value) in
+          record {
+            value = subst (λ f. IfOk (result_of f) (λ (at : Bor Snapshot). as_place (mean (view c.args.expr.now) env) ≡ Some at.now)) (sym w.result-is) (subst (λ (m : Option Snapshot). IfOk (result_of w.key_place.result) (λ at. m ≡ Some at.now)) (sym e) w.key_place.ensures.value);
+            erred = λ h. e ∙ w.key_place.ensures.erred (subst (λ f. IsErrOf (result_of f) Erred) w.result-is h);
+          }
+      | place-in-Erred w ↦
+          record {
+            value = subst (λ f. IfOk (result_of f) (λ (at : Bor Snapshot). as_place (mean (view c.args.expr.now) env) ≡ Some at.now)) (sym w.result-is) tt;
+            erred = λ h. is ∙ ap (option_and_then (λ s. option_and_then (child_of s) (as_value (mean (view c.in-One.key) env)))) (c.place.ensures.erred (subst (λ f. IsErrOf (result_of f) Erred) (sym w.in-Erred.is) refl));
+          }
+      | place-in-NoMemory w ↦
+          record {
+            value = subst (λ f. IfOk (result_of f) (λ (at : Bor Snapshot). as_place (mean (view c.args.expr.now) env) ≡ Some at.now)) (sym w.result-is) tt;
+            erred = λ h. search rules;
+          }
+    ]
