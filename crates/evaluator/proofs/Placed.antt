@@ -46,6 +46,14 @@ value_by f s false other = other_is_test f s other
 value_of_call : (f : List ℕ) (s : Snapshot) → as_value (snapshot_call f s) ≡ snapshot_test f s
 value_of_call f s = value_by f s (bytes_eq (codes "parent") f) refl
 
+pub nothing_at : (f : List ℕ) (m : Option Part) → called f m nothing ≡ option_and_then (snapshot_call f) (as_place m)
+nothing_at f None = refl
+nothing_at f (Some (value v)) = refl
+nothing_at f (Some (snapshot s)) = refl
+nothing_at f (Some (auth who)) = refl
+nothing_at f (Some (token claims)) = refl
+nothing_at f (Some (query a)) = refl
+
 value_of_nothing_at : (f : List ℕ) (m : Option Part) → as_value (called f m nothing) ≡ option_and_then (snapshot_test f) (as_place m)
 value_of_nothing_at f None = refl
 value_of_nothing_at f (Some (value v)) = refl
@@ -124,6 +132,9 @@ module _ (e x : Expr) (receiver : Box Expr Global) (f g : List ℕ) (xs : Vec Ar
       ∙ ap (λ ys. called g (mean (view x) env) (given (arguments ys) env)) (sym same)
 
   -- with nothing
+  pub part_with_nothing : given (arguments args) env ≡ nothing → mean (view e) env ≡ called g (mean (view x) env) nothing
+  part_with_nothing none = called_is ∙ ap (called g (mean (view x) env)) none
+
   pub value_with_nothing : given (arguments args) env ≡ nothing → as_value (mean (view e) env) ≡ option_and_then (snapshot_test g) (as_place (mean (view x) env))
   value_with_nothing none = ap as_value called_is ∙ ap (λ h. as_value (called g (mean (view x) env) h)) none ∙ value_of_nothing_at g (mean (view x) env)
 

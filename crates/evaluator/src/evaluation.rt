@@ -7,7 +7,7 @@ ghost use Rattle.expr_types.specs.HasSort.{is_value};
 ghost use Rattle.evaluator.specs.Value as meanings;
 ghost use Rattle.evaluator.specs.Value.{as_value, sort_of_part, value, truth, in_range};
 ghost use Rattle.evaluator.specs.Operators.{in_truth, as_truth, other_truth, minus_of, both, either, operated};
-ghost use Rattle.evaluator.specs.Calls.{call_of, called_with, called_with_two, called_with_list, have_children, child_of};
+ghost use Rattle.evaluator.specs.Calls.{call_of, called_with, called_with_two, called_with_list, have_children, child_of, called, nothing};
 ghost use Rattle.evaluator.specs.Members.{member};
 ghost use Rattle.evaluator.specs.Env.{env_of, variable, capture, Suits};
 ghost use Rattle.evaluator.specs.Mean.{mean, given as meant, values};
@@ -103,7 +103,8 @@ fn member_part<'a>(
     wanted(member(name, receiver))
 }
 
-// What stands before a dot. A variable, as most are, is no part that has to be looked into.
+// What stands before a dot. A variable, and what a call with nothing gives, as most are, is no part that has to be
+// looked into.
 #[cycle(evaluation)]
 fn receiver_of<'a>(arena: &'a Bump, expr: &'a Expr, env: &Env<'a, '_>) -> Result<Part<'a>, Stop>
     ensures value { IfOk result (λ p. mean (view expr.now) (env_of env.now) ≡ Some (part_of p)) }
@@ -111,8 +112,27 @@ fn receiver_of<'a>(arena: &'a Bump, expr: &'a Expr, env: &Env<'a, '_>) -> Result
 {
     match expr {
         Expr::Variable(name) => variable_part(name.as_str(), env),
+        Expr::Call(receiver, name, given) if given.is_empty() => {
+            call_with_nothing(arena, receiver, name.as_str(), env)
+        }
         _ => part(arena, expr, env),
     }
+}
+
+// What a call with nothing gives, which is about a location.
+#[cycle(evaluation)]
+#[inline(never)]
+fn call_with_nothing<'a>(
+    arena: &'a Bump,
+    receiver: &'a Expr,
+    name: &str,
+    env: &Env<'a, '_>,
+) -> Result<Part<'a>, Stop>
+    ensures value { IfOk result (λ p. called name.now (mean (view receiver.now) (env_of env.now)) nothing ≡ Some (part_of p)) }
+    ensures erred { IsErrOf result Stop.Erred → called name.now (mean (view receiver.now) (env_of env.now)) nothing ≡ None }
+{
+    let at = place(arena, receiver, env).get()?;
+    wanted(called_with_nothing(name, Part::Snapshot(at)))
 }
 
 // Its value as a part, where one is wanted.

@@ -1,4 +1,4 @@
-use Rattle.std.proofs.Common.{◌≡◌, ◌∙◌, ap, sym, subst, refl, arith, rules, Some, None, IfOk, IsErrOf, Option, Result}
+use Rattle.std.proofs.Common.{◌≡◌, ◌<◌, length, ◌∙◌, ap, sym, subst, refl, arith, rules, Some, None, IfOk, IsErrOf, Option, Result}
 use Rattle.std.specs.Borrow.{Bor}
 use Rattle.std.proofs.lemmas.Result.{IfOk-weaker}
 use Rattle.std.specs.Prelude.{option_map, codes}
@@ -8,12 +8,12 @@ use Rattle.expr_parser.specs.View.{view, view_argument, views, arguments}
 use Rattle.evaluator.specs.declared.value.Stop.{Stop}
 use Rattle.evaluator.specs.declared.value.Stop.TheVariants.{Erred}
 use Rattle.evaluator.specs.Value.{Part, Snapshot, truth, as_value}
-use Rattle.evaluator.specs.Calls.{call_of, called_with_two, called_with_list, have_children, has_child, child_of, snapshot_test}
+use Rattle.evaluator.specs.Calls.{call_of, called_with_two, called_with_list, have_children, has_child, child_of, called, nothing, snapshot_call, snapshot_test}
 use Rattle.evaluator.specs.Env.{env_of}
 use Rattle.evaluator.specs.Mean.{mean, given, values}
 use Rattle.evaluator.specs.Working.Parts.{value_of, part_of, argument_value, as_place, result_of}
 use Rattle.evaluator.proofs.Lists.{call_is, two_are, many_are, one_is, list_is, element_errs, child_errs, all_found, no_holder, some_holder}
-use Rattle.evaluator.proofs.Placed.{value_with_nothing, child_with, has_child_with, have_children_with, given_nothing, given_value, given_list, found_at}
+use Rattle.evaluator.proofs.Placed.{value_with_nothing, child_with, has_child_with, have_children_with, given_nothing, given_value, given_list, found_at, nothing_at, part_with_nothing}
 use Rattle.evaluator.proofs.evaluation.+evaluation.Goals.{place-in-At, place-in-Erred, place-in-NoMemory}
 use Rattle.evaluator.proofs.evaluation.+evaluation.Goals as goal
 
@@ -204,3 +204,23 @@ place-returns t c =
             erred = λ h. search rules;
           }
     ]
+
+pub receiver_of-returns-in-Call-clause-value : goal.receiver_of-returns-in-Call-clause-value
+receiver_of-returns-in-Call-clause-value t c =
+    let env = env_of c.args.env.now in
+    let few : length c.in-Call.given.items < 1 = search rules in
+    let e = part_with_nothing c.args.expr.now c.deref.result.now c.in-Call.receiver c.in-Call.name c.as_str-in-Call.result.now c.in-Call.given c.in-Call.given.items env c.in-Call.is c.deref.ensures c.as_str-in-Call.ensures refl (given_nothing c.in-Call.given.items env few) in
+    subst (λ (m : Option Part). IfOk c.call_with_nothing.result (λ p. m ≡ Some (part_of p))) (sym e) c.call_with_nothing.ensures.value
+
+pub receiver_of-returns-in-Call-clause-erred : goal.receiver_of-returns-in-Call-clause-erred
+receiver_of-returns-in-Call-clause-erred t c =
+    let env = env_of c.args.env.now in
+    let few : length c.in-Call.given.items < 1 = search rules in
+    let e = part_with_nothing c.args.expr.now c.deref.result.now c.in-Call.receiver c.in-Call.name c.as_str-in-Call.result.now c.in-Call.given c.in-Call.given.items env c.in-Call.is c.deref.ensures c.as_str-in-Call.ensures refl (given_nothing c.in-Call.given.items env few) in
+    λ h. e ∙ c.call_with_nothing.ensures.erred h
+
+pub call_with_nothing-returns-in_err-at-clause-erred : goal.call_with_nothing-returns-in_err-at-clause-erred
+call_with_nothing-returns-in_err-at-clause-erred t c =
+    let env = env_of c.args.env.now in
+    let stops : IsErrOf c.get.result Erred → called c.args.name.now (mean (view c.args.receiver.now) env) nothing ≡ None = λ h. nothing_at c.args.name.now (mean (view c.args.receiver.now) env) ∙ ap (option_and_then (snapshot_call c.args.name.now)) (c.place.ensures.erred (subst (λ (r : Result (Bor Snapshot) Stop). IsErrOf r Erred) c.get.ensures h)) in
+    grind (arith, common_steps, stops)
