@@ -2,6 +2,7 @@ pub mod Order
 pub mod Among
 pub mod Groups
 pub mod Sorting
+pub mod Telling
 pub mod Walks
 pub mod Near
 pub mod Deciding

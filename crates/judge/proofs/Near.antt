@@ -1,5 +1,5 @@
 -- A walk that goes only where locations lead.
-use Rattle.std.proofs.Common.{◌≡◌, ℕ, ◌+◌, ◌⊎◌, inl, inr, ◌||◌, Bool, true, false, List, [], ◌∷◌, ◌++◌, drop, slice_get, Some, None, Option, sym, ap, ◌∙◌, subst, refl}
+use Rattle.std.proofs.Common.{◌≡◌, ℕ, ◌+◌, ◌⊎◌, inl, inr, ◌||◌, Bool, true, false, List, [], ◌∷◌, ◌++◌, drop, slice_get, Some, None, Option, is_none, sym, ap, ◌∙◌, subst, refl}
 use Rattle.std.proofs.lemmas.Bool.{false≢true}
 use Rattle.std.proofs.lemmas.List.Folds.{list_any-append}
 use Rattle.tree_model.specs.Key.{Key}
@@ -11,7 +11,7 @@ use Rattle.judge.specs.Failing.{is_near, is_touched}
 use Rattle.judge.specs.declared.validate.Failure.{Failure}
 use Rattle.judge.specs.Working.Locations.{rests, PathsAscend, AllBegin, NextIs, NextIsNot}
 use Rattle.judge.specs.Working.Refused.{Ask}
-use Rattle.judge.specs.Working.Found.{Fault, Found, FailsFrom, FaultsHere, Below, Near, place_of, fault_of}
+use Rattle.judge.specs.Working.Found.{Fault, Found, FailsFrom, FaultsHere, Below, Near, IsToldBelow, place_of, fault_of}
 use Rattle.judge.proofs.Order.{NoneBefore, first_among, none_at_all, in_all}
 use Rattle.judge.proofs.Groups.{NoneEnds, heads, touched_head, next_none_before, others_differ, heads-append, AllHeads, all_heads, all_first, all_second, ascend_second, none_ends, rests-append, ascend_below, touched_below, group_under}
 use Rattle.judge.proofs.Walks.{found_as, first_as, here_as, from_key, to_key}
@@ -57,9 +57,11 @@ group_down : (F : Path → Fault → Type 0) (ls gs os : List Path) (k : Key) (q
 group_down F ls gs os k q w next differs ahead h = (in_group k gs os q next differs ahead.sorted ahead.some (ahead.left k q w h.0 h.1), h.1)
 
 -- something of the group fails: the first failing place of all
-pub group_found : (F : Path → Fault → Type 0) (ls gs os : List Path) (k : Key) (f g : Failure) → NextIs k (gs ++ os) → NextIsNot k os → AheadNear ls (gs ++ os) F → place_of g ≡ k ∷ place_of f → fault_of g ≡ fault_of f → Found (Below k (Near gs F)) (Some f) → Found (Near ls F) (Some g)
-group_found F ls gs os k f g next differs ahead place fault found =
-    first_as (Near ls F) g (k ∷ place_of f) (fault_of f) place fault
+pub group_found : (F : Path → Fault → Type 0) (ls gs os : List Path) (k : Key) (all : Bool) (o p : Option Failure) → NextIs k (gs ++ os) → NextIsNot k os → AheadNear ls (gs ++ os) F → all ≡ is_none o → all ≡ false → IsToldBelow k o p → Found (Below k (Near gs F)) o → Found (Near ls F) p
+group_found F ls gs os k all None p next differs ahead told fails below found = absurd (false≢true (sym fails ∙ told))
+group_found F ls gs os k all (Some f) None next differs ahead told fails below found = absurd below
+group_found F ls gs os k all (Some f) (Some g) next differs ahead told fails below found =
+    first_as (Near ls F) g (k ∷ place_of f) (fault_of f) below.0 below.1
     (first_among (Near ls F) k (place_of f) (fault_of f) (λ v h. ahead.root v h.1)
     (λ l r v h. in_all k l (heads (gs ++ os)) (next_none_before k (gs ++ os) next ahead.sorted) (touched_head l r (gs ++ os) ahead.some (ahead.left l r v h.0 h.1)))
     record { fails = group_up F ls gs os k (place_of f) (fault_of f) ahead found.fails; least = λ r v h. found.least r v (group_down F ls gs os k r v next differs ahead h) })
@@ -146,7 +148,8 @@ pub near_nothing : (ask : Ask) (t : Tree) (ls : List Path) (from : Path) (k : Ke
 near_nothing ask t ls from k none q w h = none q w h.1
 
 -- the rule where the walk stands fails
-pub near_here : (ask : Ask) (t v : Tree) (from : Path) (ls : List Path) (k : Key) (f : Failure) → NextIs k ls → Some v ≡ non_null (sub t from) → FaultsHere ask from (Some f) → Found (Near ls (FailsFrom ask t from)) (Some f)
-near_here ask t v from ls k f next stands here =
-    let found = here_as ask t v from f stands here in
+pub near_here : (ask : Ask) (t v : Tree) (from : Path) (ls : List Path) (k : Key) (holds : Bool) (o : Option Failure) → NextIs k ls → Some v ≡ non_null (sub t from) → holds ≡ is_none o → holds ≡ false → FaultsHere ask from o → Found (Near ls (FailsFrom ask t from)) o
+near_here ask t v from ls k holds None next stands told fails here = absurd (false≢true (sym fails ∙ told))
+near_here ask t v from ls k holds (Some f) next stands told fails here =
+    let found = here_as ask t v from holds (Some f) stands told fails here in
     record { fails = (ap (is_touched ls) here.0 ∙ root_touched k ls next, found.fails); least = λ r w p. found.least r w p.1 }

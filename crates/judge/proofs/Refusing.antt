@@ -1,14 +1,20 @@
 -- A walk over locations that asks who may.
-use Rattle.std.proofs.Common.{◌≡◌, ℕ, ◌+◌, Bool, true, false, cond, not, ◌||◌, List, [], ◌∷◌, ◌++◌, drop, slice_get, Some, None, Option, option_map, sym, ap, ◌∙◌, subst, refl, append_assoc, append-nil}
+use Rattle.std.proofs.Common.{◌≡◌, ℕ, ◌+◌, Bool, true, false, cond, not, ◌||◌, List, [], ◌∷◌, ◌++◌, drop, slice_get, Some, None, Option, is_none, option_map, option_and_then, sym, ap, ◌∙◌, subst, refl, append_assoc, append-nil}
+use Rattle.std.proofs.lemmas.Bool.{false≢true}
 use Rattle.std.specs.Prelude.{find}
 use Rattle.std.specs.List.{AllByRecursion, cons_option}
 use Rattle.tree_model.specs.Key.{Key}
 use Rattle.tree_model.specs.Path.{Path}
 use Rattle.tree_model.specs.Tree.{first_key}
-use Rattle.judge.specs.Tests.{Answer, holds, failing, name_of}
+use Rattle.judge.specs.Tests.{holds, failing, name_of}
+use Rattle.rules_reader.specs.Part.{Pattern}
+use Rattle.evaluator.specs.declared.evaluation.Outcome.{Outcome}
+use Rattle.judge.specs.Answers.{why_of}
+use Rattle.judge.specs.declared.verdict.Named.{Named}
+use Rattle.judge.specs.declared.verdict.Why.{Why}
 use Rattle.judge.specs.declared.grant.Denial.{Denial}
 use Rattle.judge.specs.Working.Locations.{AllBegin}
-use Rattle.judge.specs.Working.Refused.{Ask, granted_below, granted_from, names_below, names_from, seen_names, Refuses}
+use Rattle.judge.specs.Working.Refused.{Ask, granted_below, granted_from, names_below, names_from, seen_names, Refuses, IsToldOf, IsToldWith}
 use Rattle.judge.proofs.Groups.{begins_with}
 
 -- ---- the first of a list
@@ -59,11 +65,12 @@ module _ (ask : Ask) (from : Path) (d : ℕ) (ls : List Path) where
   AheadRefused rest = find is_refused ls ≡ find is_refused rest
 
   -- a location ends where the walk stands
-  pub refused_end : (rest : List Path) (l : Path) (denial : Denial) → AheadRefused rest → Some l ≡ slice_get rest 0 → None ≡ first_key (drop d l) → denial.location.now ≡ l → denial.seen.items ≡ [] → Refuses (granted_below ask from) (names_below ask from) d ls (Some denial)
-  refused_end [] l denial ahead first end at none = cc
-  refused_end (x ∷ rest) l denial ahead first end at none = (
-    ahead ∙ ap (λ r. cond (not (granted_below ask from r)) (Some x) (find is_refused rest)) (ends (drop d x) (end ∙ ap (λ m. first_key (drop d m)) same)) ∙ ap Some (sym (at ∙ same)),
-    ap seen_names none ∙ sym (ap (λ m. names_below ask from (drop d m)) (at ∙ same) ∙ ap (names_below ask from) (ends (drop d x) (end ∙ ap (λ m. first_key (drop d m)) same))),
+  pub refused_end : (rest : List Path) (l : Path) (o : Option Denial) → AheadRefused rest → Some l ≡ slice_get rest 0 → None ≡ first_key (drop d l) → IsToldOf l o → Refuses (granted_below ask from) (names_below ask from) d ls o
+  refused_end [] l o ahead first end told = cc
+  refused_end (x ∷ rest) l None ahead first end told = absurd told
+  refused_end (x ∷ rest) l (Some denial) ahead first end told = (
+    ahead ∙ ap (λ r. cond (not (granted_below ask from r)) (Some x) (find is_refused rest)) (ends (drop d x) (end ∙ ap (λ m. first_key (drop d m)) same)) ∙ ap Some (sym (told.0 ∙ same)),
+    ap seen_names told.1 ∙ sym (ap (λ m. names_below ask from (drop d m)) (told.0 ∙ same) ∙ ap (names_below ask from) (ends (drop d x) (end ∙ ap (λ m. first_key (drop d m)) same))),
   )
     where
       same : l ≡ x
@@ -76,8 +83,9 @@ module _ (ask : Ask) (from : Path) (d : ℕ) (ls : List Path) where
       ends [] e = refl
       ends (k ∷ p) e = cc
 
-  pub refused_found : (rest gs os : List Path) (denial : Denial) → AheadRefused rest → rest ≡ gs ++ os → Refuses (granted_below ask from) (names_below ask from) d gs (Some denial) → Refuses (granted_below ask from) (names_below ask from) d ls (Some denial)
-  refused_found rest gs os denial ahead parts h = (ahead ∙ ap (find is_refused) parts ∙ first-append is_refused gs os denial.location.now h.0, h.1)
+  pub refused_found : (rest gs os : List Path) (all : Bool) (o : Option Denial) → AheadRefused rest → rest ≡ gs ++ os → all ≡ is_none o → all ≡ false → Refuses (granted_below ask from) (names_below ask from) d gs o → Refuses (granted_below ask from) (names_below ask from) d ls o
+  refused_found rest gs os all None ahead parts told fails h = absurd (false≢true (sym fails ∙ told))
+  refused_found rest gs os all (Some denial) ahead parts told fails h = (ahead ∙ ap (find is_refused) parts ∙ first-append is_refused gs os denial.location.now h.0, h.1)
 
   pub refused_passed : (rest gs os : List Path) → AheadRefused rest → rest ≡ gs ++ os → Refuses (granted_below ask from) (names_below ask from) d gs None → AheadRefused os
   refused_passed rest gs os ahead parts h = ahead ∙ ap (find is_refused) parts ∙ none-append is_refused gs os h
@@ -115,17 +123,18 @@ along_key ask from at k rest keys is own there =
 pub along_held : (ask : Ask) (from keys : Path) → holds (ask from) ≡ true → true ≡ granted_from ask from keys
 along_held ask from keys own = sym (ap (λ b. b || granted_below ask from keys) own)
 
-pub refused_beyond : (ask : Ask) (from : Path) (k : Key) (d : ℕ) (ls : List Path) (denial : Denial) → ((r : Path) → ask (from ++ k ∷ r) ≡ None) → AllBegin k d ls → Some denial.location.now ≡ slice_get ls 0 → denial.seen.items ≡ [] → Refuses (granted_below ask from) (names_below ask from) d ls (Some denial)
-refused_beyond ask from k d [] denial silent begin first none = cc
-refused_beyond ask from k d (l ∷ ls) denial silent begin first none = (
+pub refused_beyond : (ask : Ask) (from : Path) (k : Key) (d : ℕ) (ls : List Path) (m : Path) (o : Option Denial) → ((r : Path) → ask (from ++ k ∷ r) ≡ None) → AllBegin k d ls → Some m ≡ slice_get ls 0 → IsToldOf m o → Refuses (granted_below ask from) (names_below ask from) d ls o
+refused_beyond ask from k d [] m o silent begin first told = cc
+refused_beyond ask from k d (l ∷ ls) m None silent begin first told = absurd told
+refused_beyond ask from k d (l ∷ ls) m (Some denial) silent begin first told = (
   ap (λ r. cond (not (granted_below ask from r)) (Some l) (find (is_refused ask from d ls) ls)) parts ∙ ap (λ b. cond (not b) (Some l) (find (is_refused ask from d ls) ls)) nothing.0 ∙ ap Some (sym same),
-  ap seen_names none ∙ sym (ap (λ m. names_below ask from (drop d m)) same ∙ ap (names_below ask from) parts ∙ nothing.1),
+  ap seen_names told.1 ∙ sym (ap (λ p. names_below ask from (drop d p)) same ∙ ap (names_below ask from) parts ∙ nothing.1),
 )
   where
     same : denial.location.now ≡ l
-    same = some_same first
+    same = told.0 ∙ some_same first
       where
-        some_same : Some denial.location.now ≡ Some l → denial.location.now ≡ l
+        some_same : Some m ≡ Some l → m ≡ l
         some_same e = cc
 
     parts : drop d l ≡ k ∷ drop (d + 1) l
@@ -167,9 +176,30 @@ not_here ask from d ls h = find_same _ _ ls (each ls)
 pub refused_none : (ask : Ask) (from : Path) (d : ℕ) (ls : List Path) → holds (ask from) ≡ false → Refuses (granted_below ask from) (names_below ask from) d ls None → Refuses (granted_from ask from) (names_from ask from) d ls None
 refused_none ask from d ls h none = not_here ask from d ls h ∙ none
 
-pub refused_some : (ask : Ask) (from : Path) (d : ℕ) (ls : List Path) (denial next : Denial) (own : Option Answer) → holds (ask from) ≡ false → own ≡ ask from → next.location.now ≡ denial.location.now → seen_names next.seen.items ≡ cons_option (option_map name_of (failing own)) (seen_names denial.seen.items)
-    → Refuses (granted_below ask from) (names_below ask from) d ls (Some denial) → Refuses (granted_from ask from) (names_from ask from) d ls (Some next)
-refused_some ask from d ls denial next own h is at named g = (
-  not_here ask from d ls h ∙ g.0 ∙ ap Some (sym at),
-  named ∙ (λ i. cons_option (option_map name_of (failing (is i))) (g.1 i)) ∙ ap (λ l. names_from ask from (drop d l)) (sym at),
+-- no rule stands there that does not hold: nothing is told of it
+pub refused_unnamed : (ask : Ask) (from : Path) (d : ℕ) (ls : List Path) (o : Option Denial) → holds (ask from) ≡ false → failing (ask from) ≡ None → Refuses (granted_below ask from) (names_below ask from) d ls o → Refuses (granted_from ask from) (names_from ask from) d ls o
+refused_unnamed ask from d ls None h is g = refused_none ask from d ls h g
+refused_unnamed ask from d ls (Some denial) h is g = (
+  not_here ask from d ls h ∙ g.0,
+  g.1 ∙ (λ i. cons_option (option_map name_of (sym is i)) (names_below ask from (drop d denial.location.now))),
 )
+
+-- one does: it is told
+pub refused_named : (ask : Ask) (from : Path) (d : ℕ) (ls : List Path) (all : Bool) (o p : Option Denial) (failed : Pattern × Why) → holds (ask from) ≡ false → failing (ask from) ≡ Some failed → all ≡ is_none o → all ≡ false → IsToldWith (name_of failed) o p
+    → Refuses (granted_below ask from) (names_below ask from) d ls o → Refuses (granted_from ask from) (names_from ask from) d ls p
+refused_named ask from d ls all None p failed h is told fails with g = absurd (false≢true (sym fails ∙ told))
+refused_named ask from d ls all (Some denial) None failed h is told fails with g = absurd with
+refused_named ask from d ls all (Some denial) (Some next) failed h is told fails with g = (
+  not_here ask from d ls h ∙ g.0 ∙ ap Some (sym with.0),
+  with.1 ∙ (λ i. cons_option (option_map name_of (sym is i)) (g.1 i)) ∙ ap (λ l. names_from ask from (drop d l)) (sym with.0),
+)
+
+pub told_with : (name : Named) (all : Bool) (o p : Option Denial) → all ≡ is_none o → all ≡ false → IsToldWith name o p → false ≡ is_none p
+told_with name all None p told fails with = absurd (false≢true (sym fails ∙ told))
+told_with name all (Some denial) None told fails with = absurd with
+told_with name all (Some denial) (Some next) told fails with = refl
+
+-- what a rule of this pattern comes to that answers so
+pub failing_of : (at : Pattern) (own : Option Outcome) (why : Option Why) → why ≡ option_and_then why_of own → failing (option_map (λ (o : Outcome). (at, o)) own) ≡ option_map (λ (w : Why). (at, w)) why
+failing_of at None why h = ap (option_map (λ (w : Why). (at, w))) (sym h)
+failing_of at (Some o) why h = ap (option_map (λ (w : Why). (at, w))) (sym h)

@@ -1,5 +1,5 @@
 -- A walk over a tree, and what is left of it.
-use Rattle.std.proofs.Common.{◌≡◌, ◌≢◌, ℕ, zero, suc, ◌+◌, ◌≤◌, add-one, ◌<◌, ◌⊎◌, inl, inr, ◌||◌, Bool, true, false, cond, List, [], ◌∷◌, ◌++◌, map, length, drop, slice_get, Some, None, Option, is_some, sym, ap, ◌∙◌, subst, refl, arith, append_assoc, append-nil, length-append}
+use Rattle.std.proofs.Common.{◌≡◌, ◌≢◌, ℕ, zero, suc, ◌+◌, ◌≤◌, add-one, ◌<◌, ◌⊎◌, inl, inr, ◌||◌, Bool, true, false, cond, List, [], ◌∷◌, ◌++◌, map, length, drop, slice_get, Some, None, Option, is_some, is_none, sym, ap, ◌∙◌, subst, refl, arith, append_assoc, append-nil, length-append}
 use Rattle.std.proofs.lemmas.Bool.{false≢true}
 use lib.Dec.{T}
 use Rattle.std.specs.List.{list_any}
@@ -24,7 +24,7 @@ use Rattle.rules_reader.proofs.Standing.{exists-below}
 use Rattle.judge.specs.Tests.{failing}
 use Rattle.judge.specs.declared.validate.Failure.{Failure}
 use Rattle.judge.specs.Working.Refused.{Ask}
-use Rattle.judge.specs.Working.Found.{Fault, IsFirst, Found, FailsFrom, Below, FaultsHere, place_of, fault_of}
+use Rattle.judge.specs.Working.Found.{Fault, IsFirst, Found, FailsFrom, Below, FaultsHere, IsToldBelow, place_of, fault_of}
 use Rattle.judge.proofs.Order.{IsIn, Left, NoneBefore, Ascending, first_below, one_less, none_at_all, first_at_root}
 
 -- ---- answers in other words
@@ -35,6 +35,16 @@ found_as P Q (Some f) up down h = record { fails = up (place_of f) (fault_of f) 
 
 pub first_as : (P : Path → Fault → Type 0) (f : Failure) (q : Path) (w : Fault) → place_of f ≡ q → fault_of f ≡ w → IsFirst P q w → Found P (Some f)
 first_as P f q w place fault h = subst (λ (p : Path). IsFirst P p (fault_of f)) (sym place) (subst (IsFirst P q) (sym fault) h)
+
+-- ---- what is told
+
+pub found_none : (P : Path → Fault → Type 0) (o : Option Failure) → o ≡ None → Found P None → Found P o
+found_none P o none h = subst (Found P) (sym none) h
+
+pub told_below : (k : Key) (all : Bool) (o p : Option Failure) → all ≡ is_none o → all ≡ false → IsToldBelow k o p → false ≡ is_none p
+told_below k all None p told fails below = absurd (false≢true (sym fails ∙ told))
+told_below k all (Some f) None told fails below = absurd below
+told_below k all (Some f) (Some g) told fails below = refl
 
 -- ---- the keys of the children
 
@@ -183,8 +193,9 @@ nothing_there ask t from h q w f = nothing_exists t from q h f.0
 
 -- ---- at the node itself
 
-pub here_as : (ask : Ask) (t v : Tree) (from : Path) (f : Failure) → Some v ≡ non_null (sub t from) → FaultsHere ask from (Some f) → Found (FailsFrom ask t from) (Some f)
-here_as ask t v from f h here =
+pub here_as : (ask : Ask) (t v : Tree) (from : Path) (holds : Bool) (o : Option Failure) → Some v ≡ non_null (sub t from) → holds ≡ is_none o → holds ≡ false → FaultsHere ask from o → Found (FailsFrom ask t from) o
+here_as ask t v from holds None h told fails here = absurd (false≢true (sym fails ∙ told))
+here_as ask t v from holds (Some f) h told fails here =
     first_as (FailsFrom ask t from) f [] (fault_of f) here.0 refl
     (first_at_root (FailsFrom ask t from) (fault_of f) (path_exists t v from h, ap (λ p. failing (ask p)) (append-nil from) ∙ here.1))
 
@@ -204,10 +215,12 @@ ahead_at_first ask t v from h none = record {
   left = λ k q w f. exists_in_child v k q (ap (λ u. exists u (k ∷ q)) (tree_is v (sub t from) h) ∙ exists-below t from (k ∷ q) ∙ f.0);
 }
 
-pub child_found : (P : Path → Fault → Type 0) (v : Tree) (i : ℕ) (k : Key) (f g : Failure) → Some k ≡ slice_get (child_keys v) i → Ahead P (drop i (child_keys v)) → place_of g ≡ k ∷ place_of f → fault_of g ≡ fault_of f → Found (Below k P) (Some f) → Found P (Some g)
-child_found P v i k f g here ahead place fault found =
+pub child_found : (P : Path → Fault → Type 0) (v : Tree) (i : ℕ) (k : Key) (all : Bool) (o p : Option Failure) → Some k ≡ slice_get (child_keys v) i → Ahead P (drop i (child_keys v)) → all ≡ is_none o → all ≡ false → IsToldBelow k o p → Found (Below k P) o → Found P p
+child_found P v i k all None p here ahead told fails below found = absurd (false≢true (sym fails ∙ told))
+child_found P v i k all (Some f) None here ahead told fails below found = absurd below
+child_found P v i k all (Some f) (Some g) here ahead told fails below found =
     let next = drop_at (child_keys v) i k here in
-    first_as P g (k ∷ place_of f) (fault_of f) place fault
+    first_as P g (k ∷ place_of f) (fault_of f) below.0 below.1
     (first_below P k (drop (i + 1) (child_keys v)) (place_of f) (fault_of f) ahead.root (subst (Left P) next ahead.left) (subst Ascending next (ascending_drop (child_keys v) i (child_keys_ascend v))).0 found)
 
 pub child_passed : (P : Path → Fault → Type 0) (v : Tree) (i : ℕ) (k : Key) → Some k ≡ slice_get (child_keys v) i → Ahead P (drop i (child_keys v)) → Found (Below k P) None → Ahead P (drop (i + 1) (child_keys v))

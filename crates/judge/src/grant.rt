@@ -1,13 +1,16 @@
 //! Who may: the first location that no rule grants, and the rules that were asked for it.
-ghost use Rattle.std.specs.Prelude.{◌≡◌, ◌+◌, ◌≤◌, ◌<◌, [], None, length, option_map, option_and_then, IfOk, OnOk};
+//!
+//! A walk over locations hands back whether all are granted. Where one is not, it tells the denial in a place
+//! that the caller lends: so what is handed back goes in registers, and where all are granted nothing is made of
+//! a denial.
+ghost use Rattle.std.specs.Prelude.{◌≡◌, ◌+◌, ◌≤◌, ◌<◌, None, is_none, length, option_map, option_and_then, IfOk, OnOk};
 ghost use Rattle.tree_model.specs.declared.limits.TheConstants.{MAX_DEPTH as most_keys};
 ghost use Rattle.rules_reader.specs.Part.{texts, Pattern as Parts};
 ghost use Rattle.judge.specs.Answers.{why_of};
-ghost use Rattle.judge.specs.Tests.{holds, failing, name_of};
+ghost use Rattle.judge.specs.Tests.{holds, name_of};
 ghost use Rattle.judge.specs.Working.Standing.{ask_of, path_of, Stands};
 ghost use Rattle.judge.specs.Working.Locations.{paths, AllBegin};
-ghost use Rattle.judge.specs.Working.Refused.{granted_below, granted_from, names_below, names_from, seen_names, Refuses};
-ghost use Rattle.std.specs.List.{cons_option};
+ghost use Rattle.judge.specs.Working.Refused.{granted_below, granted_from, names_below, names_from, seen_names, Refuses, IsToldOf, IsToldWith};
 
 use crate::locations::{group, key_at};
 use crate::spot::{Asking, Spot, answer, enter, leave};
@@ -32,16 +35,20 @@ pub(crate) struct Denial<'a> {
     pub(crate) seen: Vec<Seen<'a>, &'a Bump>,
 }
 
-// The first of these locations for which no rule holds properly below the spot.
-#[cycle(refused)]
-fn refused_below<'a>(
+// Whether for each of these locations a rule holds properly below the spot; where not, the denial of the first
+// for which none does is told.
+#[cycle(all_granted)]
+fn all_granted_below<'a>(
     asking: &Asking<'a>,
     spot: &Spot<'a>,
     locations: &'a [&'a Path],
     captures: &mut Captures<'a, &'a Bump>,
-) -> Result<Option<Denial<'a>>, NoMemory>
+    denial: &mut Option<Denial<'a>>,
+) -> Result<bool, NoMemory>
     requires here { Stands asking.now spot.now captures.old }
-    ensures denial { IfOk result (Refuses (granted_below (ask_of asking.now) (path_of spot.now)) (names_below (ask_of asking.now) (path_of spot.now)) (length (path_of spot.now)) (paths locations.now)) }
+    requires none { denial.old ≡ None }
+    ensures told { IfOk result (λ all. all ≡ is_none denial.new) }
+    ensures refuses { OnOk result (Refuses (granted_below (ask_of asking.now) (path_of spot.now)) (names_below (ask_of asking.now) (path_of spot.now)) (length (path_of spot.now)) (paths locations.now) denial.new) }
     ensures back { OnOk result (captures.new ≡ captures.old) }
 {
     let depth = spot.here.depth();
@@ -49,65 +56,79 @@ fn refused_below<'a>(
     while start < locations.len() {
         let location = locations[start];
         let Some(key) = key_at(location, depth) else {
-            return Ok(Some(denial_of(asking.arena, location)));
+            deny(asking, location, denial);
+            return Ok(false);
         };
         let group = group(locations, start, depth, key);
-        let denial = refused_at_key(asking, spot, key, group, captures)?;
-        if let Some(denial) = denial {
-            return Ok(Some(denial));
+        let below = all_granted_at_key(asking, spot, key, group, captures, denial)?;
+        if !below {
+            return Ok(false);
         }
         start += group.len();
     }
-    Ok(None)
+    Ok(true)
 }
 
 // The same of locations that all go on with one key.
-#[cycle(refused)]
-fn refused_at_key<'a>(
+#[cycle(all_granted)]
+fn all_granted_at_key<'a>(
     asking: &Asking<'a>,
     spot: &Spot<'a>,
     key: &'a Key,
     locations: &'a [&'a Path],
     captures: &mut Captures<'a, &'a Bump>,
-) -> Result<Option<Denial<'a>>, NoMemory>
+    denial: &mut Option<Denial<'a>>,
+) -> Result<bool, NoMemory>
     requires here { Stands asking.now spot.now captures.old }
     requires begin { AllBegin key.now (length (path_of spot.now)) (paths locations.now) }
     requires some { 1 ≤ length locations.now }
     requires room { length (path_of spot.now) < most_keys }
-    ensures denial { IfOk result (Refuses (granted_below (ask_of asking.now) (path_of spot.now)) (names_below (ask_of asking.now) (path_of spot.now)) (length (path_of spot.now)) (paths locations.now)) }
+    requires none { denial.old ≡ None }
+    ensures told { IfOk result (λ all. all ≡ is_none denial.new) }
+    ensures refuses { OnOk result (Refuses (granted_below (ask_of asking.now) (path_of spot.now)) (names_below (ask_of asking.now) (path_of spot.now)) (length (path_of spot.now)) (paths locations.now) denial.new) }
     ensures back { OnOk result (captures.new ≡ captures.old) }
 {
-    let Some(below) = enter(asking, spot, key, captures)? else {
-        return Ok(Some(denial_of(asking.arena, locations[0])));
-    };
-    let denial = refused_from(asking, &below, locations, captures)?;
+    let mut below = *spot;
+    let there = enter(asking, &mut below, key, captures)?;
+    if !there {
+        deny(asking, locations[0], denial);
+        return Ok(false);
+    }
+    let all = all_granted_from(asking, &below, locations, captures, denial)?;
     leave(&below, captures);
-    Ok(denial)
+    Ok(all)
 }
 
-/// The first of these locations for which no rule holds at the spot or below it. Each rule on the way
-/// is asked once, also where several locations lie below it, and none behind the first location that
-/// is not granted.
-#[cycle(refused)]
-pub(crate) fn refused_from<'a>(
+/// Whether for each of these locations a rule holds at the spot or below it; where not, the denial of the first
+/// for which none does is told. Each rule on the way is asked once, also where several locations lie below it, and
+/// none behind the first location that is not granted.
+#[cycle(all_granted)]
+pub(crate) fn all_granted_from<'a>(
     asking: &Asking<'a>,
     spot: &Spot<'a>,
     locations: &'a [&'a Path],
     captures: &mut Captures<'a, &'a Bump>,
-) -> Result<Option<Denial<'a>>, NoMemory>
+    denial: &mut Option<Denial<'a>>,
+) -> Result<bool, NoMemory>
     requires here { Stands asking.now spot.now captures.old }
-    ensures denial { IfOk result (Refuses (granted_from (ask_of asking.now) (path_of spot.now)) (names_from (ask_of asking.now) (path_of spot.now)) (length (path_of spot.now)) (paths locations.now)) }
+    requires none { denial.old ≡ None }
+    ensures told { IfOk result (λ all. all ≡ is_none denial.new) }
+    ensures refuses { OnOk result (Refuses (granted_from (ask_of asking.now) (path_of spot.now)) (names_from (ask_of asking.now) (path_of spot.now)) (length (path_of spot.now)) (paths locations.now) denial.new) }
     ensures back { OnOk result (captures.new ≡ captures.old) }
 {
     let own = answer(asking, spot, captures)?;
     if holds(own) {
-        return Ok(None);
+        return Ok(true);
     }
-    let Some(denial) = refused_below(asking, spot, locations, captures)? else {
-        return Ok(None);
+    let below = all_granted_below(asking, spot, locations, captures, denial)?;
+    if below {
+        return Ok(true);
+    }
+    let Some(why) = why_of(own) else {
+        return Ok(false);
     };
-    let denial = with_rule(denial, spot.rule.pattern(), own)?;
-    Ok(Some(denial))
+    add_rule(denial, spot.rule.pattern(), why)?;
+    Ok(false)
 }
 
 /// Whether a rule holds at the spot or on the way along these keys. Each rule on the way is asked once, and
@@ -127,39 +148,44 @@ pub(crate) fn granted_along<'a>(
     }
     match keys {
         [] => Ok(false),
-        [key, rest @ ..] => match enter(asking, spot, key, captures)? {
-            Some(below) => granted_along(asking, &below, rest, captures),
-            None => Ok(false),
-        },
+        [key, rest @ ..] => {
+            let mut below = *spot;
+            let there = enter(asking, &mut below, key, captures)?;
+            if !there {
+                return Ok(false);
+            }
+            granted_along(asking, &below, rest, captures)
+        }
     }
 }
 
-// A location that no rule was asked for yet.
-fn denial_of<'a>(arena: &'a Bump, location: &'a Path) -> Denial<'a>
-    ensures location { result.location.now ≡ location.now }
-    ensures seen { result.seen.items ≡ [] }
+// Tells that a location is not granted, for which no rule was asked yet. It stays a function of its own, as the
+// next one does, since room for what they make would be made and cleared at each node.
+#[inline(never)]
+fn deny<'a>(asking: &Asking<'a>, location: &'a Path, denial: &mut Option<Denial<'a>>)
+    ensures { IsToldOf location.now denial.new }
 {
-    Denial {
+    *denial = Some(Denial {
         location,
-        seen: Vec::new(arena),
-    }
+        seen: Vec::new(asking.arena),
+    });
 }
 
-// The same denial, where this rule was asked too, if there is one.
-fn with_rule<'a>(
-    denial: Denial<'a>,
+// Tells of the same denial that the rule of this pattern was asked too, and why it does not hold.
+#[inline(never)]
+fn add_rule<'a>(
+    denial: &mut Option<Denial<'a>>,
     pattern: &'a Pattern,
-    answer: Option<Outcome>,
-) -> Result<Denial<'a>, NoMemory>
-    ensures location { IfOk result (λ d. d.location.now ≡ denial.entry.location.now) }
-    ensures seen { IfOk result (λ d. seen_names d.seen.items ≡ cons_option (option_map name_of (failing (option_map (λ o. (texts pattern.now, o)) answer))) (seen_names denial.entry.seen.items)) }
+    why: Why,
+) -> Result<(), NoMemory>
+    ensures { OnOk result (IsToldWith (name_of (texts pattern.now, why)) denial.old denial.new) }
 {
-    let mut denial = denial;
-    if let Some(why) = why_of(answer) {
-        pattern.law();
-        denial.seen.push(Seen { pattern, why })?;
+    pattern.law();
+    match denial {
+        Some(denial) => denial.seen.push(Seen { pattern, why })?,
+        None => {}
     }
-    Ok(denial)
+    Ok(())
 }
 
 fn holds(answer: Option<Outcome>) -> bool

@@ -12,7 +12,7 @@ ghost use Rattle.judge.specs.Working.Standing.{StandsAtRoot, AsksFor, question_o
 ghost use Rattle.evaluator.specs.Env.{access_of};
 ghost use Rattle.judge.specs.Working.Locations.{paths, PathsAscend};
 
-use crate::grant::{granted_along, named, refused_from};
+use crate::grant::{all_granted_from, granted_along, named};
 use crate::locations::sort;
 use crate::scene::Scene;
 use crate::spot::{Asking, Spot};
@@ -60,7 +60,8 @@ fn judge_alone<'a>(
     let asking = reading(arena, scene, asked);
     let spot = at_root(&asking)?;
     let mut captures = Captures::new(arena);
-    let denial = refused_from(&asking, &spot, locations, &mut captures)?;
+    let mut denial = None;
+    all_granted_from(&asking, &spot, locations, &mut captures, &mut denial)?;
     match denial {
         Some(denial) => {
             let rules = named(alloc, denial.seen.as_slice())?;
@@ -167,7 +168,8 @@ fn write_denied<'a>(
     ensures back { OnOk result (captures.new ≡ []) }
     ensures denied { IfOk result (λ denied. MatchOption denied (MayWriteAll (scene_of asking.now.scene.now) (coming_of asking.now) (paths locations.now)) (IsWriteVerdict (scene_of asking.now.scene.now) (coming_of asking.now) (paths locations.now))) }
 {
-    let denial = refused_from(asking, spot, locations, captures)?;
+    let mut denial = None;
+    all_granted_from(asking, spot, locations, captures, &mut denial)?;
     match denial {
         Some(denial) => {
             let rules = named(alloc, denial.seen.as_slice())?;
@@ -194,7 +196,8 @@ fn validate_denied<'a>(
     requires none { captures.old ≡ [] }
     ensures { IfOk result (λ denied. MatchOption denied (IsValid (scene_of asking.now.scene.now) (coming_of asking.now) (paths locations.now)) (IsWriteVerdict (scene_of asking.now.scene.now) (coming_of asking.now) (paths locations.now))) }
 {
-    let failure = towards(asking, spot, locations, captures)?;
+    let mut failure = None;
+    towards(asking, spot, locations, captures, &mut failure)?;
     match failure {
         Some(failure) => {
             let place = place_of(alloc, failure.keys.as_slice())?;

@@ -56,7 +56,10 @@ pub(crate) fn answer<'a>(
     ensures { IfOk result (λ answer. option_map (λ a. (spot.now.rule.now.at, a)) answer ≡ ask_of asking.now (path_of spot.now)) }
 {
     match spot.rule.rule(asking.kind) {
-        Some(rule) => answer_of(asking, spot, rule, captures),
+        Some(rule) => {
+            let outcome = answer_of(asking, spot, rule, captures)?;
+            Ok(Some(outcome))
+        }
         None => Ok(None),
     }
 }
@@ -69,11 +72,11 @@ fn answer_of<'a>(
     spot: &Spot<'a>,
     rule: &'a Checked,
     captures: &Captures<'a, &'a Bump>,
-) -> Result<Option<Outcome>, NoMemory>
+) -> Result<Outcome, NoMemory>
     requires here { Stands asking.now spot.now captures.now }
     requires stated { option_map (stated_for asking.now.kind) (get spot.now.rule.now.book []) ≡ Some (Some rule.now) }
     requires lawful { IsLawful spot.now.rule.now.at asking.now.kind rule.now }
-    ensures { IfOk result (λ answer. option_map (λ a. (spot.now.rule.now.at, a)) answer ≡ ask_of asking.now (path_of spot.now)) }
+    ensures { IfOk result (λ outcome. Some (spot.now.rule.now.at, outcome) ≡ ask_of asking.now (path_of spot.now)) }
 {
     let env = Env {
         auth: asking.scene.auth,
@@ -83,29 +86,31 @@ fn answer_of<'a>(
         captures,
     };
     let outcome = evaluate(asking.arena, rule, &env)?;
-    Ok(Some(outcome))
+    Ok(outcome)
 }
 
-/// The spot one key further down, if a rule node is there: one step among the rules and one look-up in
-/// each tree, and a place in the arena for each.
+/// Moves a spot one key further down, and says whether a rule node is there: one step among the rules and one
+/// look-up in each tree, and a place in the arena for each.
 pub(crate) fn enter<'a>(
     asking: &Asking<'a>,
-    spot: &Spot<'a>,
+    spot: &mut Spot<'a>,
     key: &'a Key,
     captures: &mut Captures<'a, &'a Bump>,
-) -> Result<Option<Spot<'a>>, NoMemory>
-    requires here { Stands asking.now spot.now captures.old }
-    requires room { length (path_of spot.now) < most_keys }
-    ensures { IfOk result (Entering asking.now (path_of spot.now) key.now captures.old captures.new) }
+) -> Result<bool, NoMemory>
+    requires here { Stands asking.now spot.old captures.old }
+    requires room { length (path_of spot.old) < most_keys }
+    ensures { IfOk result (Entering asking.now (path_of spot.old) key.now captures.old captures.new spot.new) }
 {
     let text = key.text();
     let Some(rule) = spot.rule.step(text) else {
-        return Ok(None);
+        return Ok(false);
     };
     let here = spot.here.below(asking.arena, text)?;
-    let access = access_below(asking.arena, spot.access, key)?;
+    let mut access = spot.access;
+    lower(asking.arena, &mut access, key)?;
     bind(rule, key, captures)?;
-    Ok(Some(Spot { rule, here, access }))
+    *spot = Spot { rule, here, access };
+    Ok(true)
 }
 
 /// Takes back what the spot has bound.
@@ -117,18 +122,16 @@ pub(crate) fn leave<'a>(spot: &Spot<'a>, captures: &mut Captures<'a, &'a Bump>)
     }
 }
 
-fn access_below<'a>(
-    arena: &'a Bump,
-    access: Access<'a>,
-    key: &'a Key,
-) -> Result<Access<'a>, NoMemory>
-    requires { AccessHasRoom (access_of access) }
-    ensures { IfOk result (λ next. access_of next ≡ access_below (access_of access.entry) key.now) }
+// Moves the access one key further down.
+fn lower<'a>(arena: &'a Bump, access: &mut Access<'a>, key: &'a Key) -> Result<(), NoMemory>
+    requires { AccessHasRoom (access_of access.old) }
+    ensures { OnOk result (access_of access.new ≡ access_below (access_of access.old) key.now) }
 {
-    match access {
-        Access::Reads(asked) => Ok(Access::Reads(asked)),
-        Access::Writes(snapshot) => Ok(Access::Writes(snapshot.below(arena, key.text())?)),
+    match *access {
+        Access::Reads(_) => {}
+        Access::Writes(snapshot) => *access = Access::Writes(snapshot.below(arena, key.text())?),
     }
+    Ok(())
 }
 
 // Binds the capture that the node's own part is, if it is one, to the key.

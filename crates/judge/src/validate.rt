@@ -1,11 +1,14 @@
 //! Validation: the first failing place.
-ghost use Rattle.std.specs.Prelude.{◌≡◌, ◌≤◌, ◌<◌, ◌∷◌, length, map, reverse, IfOk, OnOk};
+//!
+//! A walk hands back whether each `.validate` holds. Where one does not, it tells the failure in a place that
+//! the caller lends: so what is handed back goes in registers, and where all hold nothing is made of a failure.
+ghost use Rattle.std.specs.Prelude.{◌≡◌, ◌≤◌, ◌<◌, length, map, reverse, None, is_none, IfOk, OnOk};
 ghost use Rattle.tree_model.specs.declared.limits.TheConstants.{MAX_DEPTH as most_keys};
 ghost use Rattle.tree_model.specs.Tree.{IsLawful};
 ghost use Rattle.rules_reader.specs.declared.kind.Kind.TheVariants.{Validate as ValidateKind};
 ghost use Rattle.judge.specs.Working.Standing.{ask_of, path_of, coming_of, Stands};
 ghost use Rattle.judge.specs.Working.Locations.{paths, rests, PathsAscend, AllBegin};
-ghost use Rattle.judge.specs.Working.Found.{Found, FailsFrom, Below, Near, FaultsHere, place_of, fault_of};
+ghost use Rattle.judge.specs.Working.Found.{Found, FailsFrom, Below, Near, IsToldHere, IsToldBelow, FaultsHere};
 
 use crate::grant::why_of;
 use crate::locations::{group, key_at};
@@ -25,61 +28,66 @@ pub(crate) struct Failure<'a> {
     pub(crate) why: Why,
 }
 
-// Why the `.validate` of the node fails at the spot, if it does.
-fn failing<'a>(
+// Whether the `.validate` of the node holds at the spot, if one is stated.
+fn holds_here<'a>(
     asking: &Asking<'a>,
     spot: &Spot<'a>,
     captures: &Captures<'a, &'a Bump>,
-) -> Result<Option<Failure<'a>>, NoMemory>
-    requires { Stands asking.now spot.now captures.now }
-    ensures { IfOk result (FaultsHere (ask_of asking.now) (path_of spot.now)) }
+    failure: &mut Option<Failure<'a>>,
+) -> Result<bool, NoMemory>
+    requires here { Stands asking.now spot.now captures.now }
+    requires none { failure.old ≡ None }
+    ensures told { IfOk result (λ holds. holds ≡ is_none failure.new) }
+    ensures found { OnOk result (FaultsHere (ask_of asking.now) (path_of spot.now) failure.new) }
 {
     let answer = answer(asking, spot, captures)?;
     match why_of(answer) {
-        Some(why) => Ok(Some(Failure {
-            keys: Vec::new(asking.arena),
-            pattern: spot.rule.pattern(),
-            why,
-        })),
-        None => Ok(None),
+        Some(why) => {
+            tell(asking, spot, why, failure);
+            Ok(false)
+        }
+        None => Ok(true),
     }
 }
 
-// The first failing place at the spot and below it. Where no `.validate` is stated there or below, nothing is
-// looked at.
+// Whether each `.validate` at the spot and below it holds; where not, the first failing place is told. Where no
+// `.validate` is stated there or below, nothing is looked at.
 #[cycle(everywhere)]
 fn everywhere<'a>(
     asking: &Asking<'a>,
     spot: &Spot<'a>,
     captures: &mut Captures<'a, &'a Bump>,
-) -> Result<Option<Failure<'a>>, NoMemory>
+    failure: &mut Option<Failure<'a>>,
+) -> Result<bool, NoMemory>
     requires here { Stands asking.now spot.now captures.old }
     requires kind { asking.now.kind ≡ ValidateKind }
     requires lawful { IsLawful (coming_of asking.now) }
-    ensures found { IfOk result (Found (FailsFrom (ask_of asking.now) (coming_of asking.now) (path_of spot.now))) }
+    requires none { failure.old ≡ None }
+    ensures told { IfOk result (λ all. all ≡ is_none failure.new) }
+    ensures found { OnOk result (Found (FailsFrom (ask_of asking.now) (coming_of asking.now) (path_of spot.now)) failure.new) }
     ensures back { OnOk result (captures.new ≡ captures.old) }
 {
     if !spot.rule.has_validate() {
-        return Ok(None);
+        return Ok(true);
     }
     let Some(view) = coming(spot) else {
-        return Ok(None);
+        return Ok(true);
     };
-    let own = failing(asking, spot, captures)?;
-    if let Some(failure) = own {
-        return Ok(Some(failure));
+    let own = holds_here(asking, spot, captures, failure)?;
+    if !own {
+        return Ok(false);
     }
     for i in 0..view.width() {
         let Some(key) = view.key_at(i) else {
             unreachable!()
         };
-        let below = everywhere_below(asking, spot, key, captures)?;
-        if let Some(failure) = below {
-            let failure = with_key(failure, key)?;
-            return Ok(Some(failure));
+        let below = everywhere_below(asking, spot, key, captures, failure)?;
+        if !below {
+            add_key(failure, key)?;
+            return Ok(false);
         }
     }
-    Ok(None)
+    Ok(true)
 }
 
 // The same below a key.
@@ -89,58 +97,66 @@ fn everywhere_below<'a>(
     spot: &Spot<'a>,
     key: &'a Key,
     captures: &mut Captures<'a, &'a Bump>,
-) -> Result<Option<Failure<'a>>, NoMemory>
+    failure: &mut Option<Failure<'a>>,
+) -> Result<bool, NoMemory>
     requires here { Stands asking.now spot.now captures.old }
     requires kind { asking.now.kind ≡ ValidateKind }
     requires lawful { IsLawful (coming_of asking.now) }
     requires room { length (path_of spot.now) < most_keys }
-    ensures found { IfOk result (Found (Below key.now (FailsFrom (ask_of asking.now) (coming_of asking.now) (path_of spot.now)))) }
+    requires none { failure.old ≡ None }
+    ensures told { IfOk result (λ all. all ≡ is_none failure.new) }
+    ensures found { OnOk result (Found (Below key.now (FailsFrom (ask_of asking.now) (coming_of asking.now) (path_of spot.now))) failure.new) }
     ensures back { OnOk result (captures.new ≡ captures.old) }
 {
-    let Some(next) = enter(asking, spot, key, captures)? else {
-        return Ok(None);
-    };
-    let failure = everywhere(asking, &next, captures)?;
+    let mut next = *spot;
+    let there = enter(asking, &mut next, key, captures)?;
+    if !there {
+        return Ok(true);
+    }
+    let all = everywhere(asking, &next, captures, failure)?;
     leave(&next, captures);
-    Ok(failure)
+    Ok(all)
 }
 
-/// The first failing place that touches one of these locations, at the spot or below it: a walk in the
-/// order of paths, which goes into no branch where neither a location leads nor anything was written, or
-/// where no `.validate` is stated, and behind no failing place. Each `.validate` that stands where something
-/// exists is asked once.
+/// Whether each `.validate` holds that touches one of these locations, at the spot or below it; where not, the
+/// first failing place is told. It is a walk in the order of paths, which goes into no branch where neither a
+/// location leads nor anything was written, or where no `.validate` is stated, and behind no failing place. Each
+/// `.validate` that stands where something exists is asked once.
 #[cycle(towards)]
 pub(crate) fn towards<'a>(
     asking: &Asking<'a>,
     spot: &Spot<'a>,
     locations: &'a [&'a Path],
     captures: &mut Captures<'a, &'a Bump>,
-) -> Result<Option<Failure<'a>>, NoMemory>
+    failure: &mut Option<Failure<'a>>,
+) -> Result<bool, NoMemory>
     requires here { Stands asking.now spot.now captures.old }
     requires kind { asking.now.kind ≡ ValidateKind }
     requires lawful { IsLawful (coming_of asking.now) }
     requires sorted { PathsAscend (rests (length (path_of spot.now)) (paths locations.now)) }
-    ensures found { IfOk result (Found (Near (rests (length (path_of spot.now)) (paths locations.now)) (FailsFrom (ask_of asking.now) (coming_of asking.now) (path_of spot.now)))) }
+    requires none { failure.old ≡ None }
+    ensures told { IfOk result (λ all. all ≡ is_none failure.new) }
+    ensures found { OnOk result (Found (Near (rests (length (path_of spot.now)) (paths locations.now)) (FailsFrom (ask_of asking.now) (coming_of asking.now) (path_of spot.now))) failure.new) }
     ensures back { OnOk result (captures.new ≡ captures.old) }
 {
     let depth = spot.here.depth();
     if locations.is_empty() {
-        return Ok(None);
+        return Ok(true);
     }
     if !spot.rule.has_validate() {
-        return Ok(None);
+        return Ok(true);
     }
     // The least location ends here: all that is below was written.
     let Some(_) = key_at(locations[0], depth) else {
-        let found = everywhere(asking, spot, captures)?;
-        return Ok(found);
+        let all = everywhere(asking, spot, captures, failure)?;
+        return Ok(all);
     };
     let Some(_) = coming(spot) else {
-        return Ok(None);
+        return Ok(true);
     };
-    let above = failing(asking, spot, captures)?;
-    if let Some(failure) = above {
-        return Ok(Some(failure));
+    let above = holds_here(asking, spot, captures, failure)?;
+    if !above {
+        return Ok(false);
     }
     let mut start = 0;
     while start < locations.len() {
@@ -148,14 +164,14 @@ pub(crate) fn towards<'a>(
             unreachable!()
         };
         let group = group(locations, start, depth, key);
-        let below = towards_below(asking, spot, key, group, captures)?;
-        if let Some(failure) = below {
-            let failure = with_key(failure, key)?;
-            return Ok(Some(failure));
+        let below = towards_below(asking, spot, key, group, captures, failure)?;
+        if !below {
+            add_key(failure, key)?;
+            return Ok(false);
         }
         start += group.len();
     }
-    Ok(None)
+    Ok(true)
 }
 
 // The same below a key with which all these locations go on.
@@ -166,32 +182,55 @@ fn towards_below<'a>(
     key: &'a Key,
     locations: &'a [&'a Path],
     captures: &mut Captures<'a, &'a Bump>,
-) -> Result<Option<Failure<'a>>, NoMemory>
+    failure: &mut Option<Failure<'a>>,
+) -> Result<bool, NoMemory>
     requires here { Stands asking.now spot.now captures.old }
     requires kind { asking.now.kind ≡ ValidateKind }
     requires lawful { IsLawful (coming_of asking.now) }
     requires sorted { PathsAscend (rests (length (path_of spot.now)) (paths locations.now)) }
     requires begin { AllBegin key.now (length (path_of spot.now)) (paths locations.now) }
     requires room { length (path_of spot.now) < most_keys }
-    ensures found { IfOk result (Found (Below key.now (Near (rests (length (path_of spot.now)) (paths locations.now)) (FailsFrom (ask_of asking.now) (coming_of asking.now) (path_of spot.now))))) }
+    requires none { failure.old ≡ None }
+    ensures told { IfOk result (λ all. all ≡ is_none failure.new) }
+    ensures found { OnOk result (Found (Below key.now (Near (rests (length (path_of spot.now)) (paths locations.now)) (FailsFrom (ask_of asking.now) (coming_of asking.now) (path_of spot.now)))) failure.new) }
     ensures back { OnOk result (captures.new ≡ captures.old) }
 {
-    let Some(next) = enter(asking, spot, key, captures)? else {
-        return Ok(None);
-    };
-    let failure = towards(asking, &next, locations, captures)?;
+    let mut next = *spot;
+    let there = enter(asking, &mut next, key, captures)?;
+    if !there {
+        return Ok(true);
+    }
+    let all = towards(asking, &next, locations, captures, failure)?;
     leave(&next, captures);
-    Ok(failure)
+    Ok(all)
 }
 
-// The same failure, with the key above it.
-fn with_key<'a>(failure: Failure<'a>, key: &'a Key) -> Result<Failure<'a>, NoMemory>
-    ensures place { IfOk result (λ f. place_of f ≡ key.now ∷ place_of failure.entry) }
-    ensures fault { IfOk result (λ f. fault_of f ≡ fault_of failure.entry) }
+// ---- what is told of a failure
+//
+// The two below stay functions of their own, since room for what they make would be made and cleared at each node.
+
+// Tells that the `.validate` of the node at the spot fails, and why.
+#[inline(never)]
+fn tell<'a>(asking: &Asking<'a>, spot: &Spot<'a>, why: Why, failure: &mut Option<Failure<'a>>)
+    ensures { IsToldHere (spot.now.rule.now.at, why) failure.new }
 {
-    let mut failure = failure;
-    failure.keys.push(key)?;
-    Ok(failure)
+    *failure = Some(Failure {
+        keys: Vec::new(asking.arena),
+        pattern: spot.rule.pattern(),
+        why,
+    });
+}
+
+// Tells of the same failure the key above it.
+#[inline(never)]
+fn add_key<'a>(failure: &mut Option<Failure<'a>>, key: &'a Key) -> Result<(), NoMemory>
+    ensures { OnOk result (IsToldBelow key.now failure.old failure.new) }
+{
+    match failure {
+        Some(failure) => failure.keys.push(key)?,
+        None => {}
+    }
+    Ok(())
 }
 
 /// The place of a failure: a growth for the list and one at most for each key.

@@ -1,5 +1,5 @@
 -- A walk that looks for the first failing place.
-use Rattle.std.specs.Prelude.{◌≡◌, ◌≢◌, ℕ, ◌++◌, List, [], ◌∷◌, map, reverse, true, Option, Some, None, MatchOption}
+use Rattle.std.specs.Prelude.{◌≡◌, ◌≢◌, ℕ, ◌++◌, List, [], ◌∷◌, map, reverse, true, Option, Some, None, MatchOption, IsSomeAnd}
 use Rattle.std.specs.declared.cmp.Ordering.TheVariants.{Less}
 use Rattle.tree_model.specs.Path.{Path, path_cmp}
 use Rattle.tree_model.specs.PathMap.{exists}
@@ -20,16 +20,16 @@ pub record IsFirst (P : Path → Pattern × Why → Type 0) (q : Path) (w : Patt
   pub fails : P q w
   pub least : (r : Path) (other : Pattern × Why) → P r other → path_cmp r q ≢ Less
 
--- the place of a failure, from where its walk began: its keys were met on the way back
+-- the place of a failure, from where its walk began: its keys are told on the way back
 abbrev pub place_of : Failure → Path
 place_of f = map (λ key. key.now) (reverse f.keys.items)
 
 abbrev pub fault_of : Failure → Pattern × Why
 fault_of f = (texts f.pattern.now, f.why)
 
--- the answer of a walk: the first failing place, or none where nothing fails
+-- what a walk tells: the first failing place, or none where nothing fails
 abbrev pub Found : (Path → Pattern × Why → Type 0) → Option Failure → Type 0
-Found P answer = MatchOption answer ((q : Path) (w : Pattern × Why) → ¬ (P q w)) (λ f. IsFirst P (place_of f) (fault_of f))
+Found P told = MatchOption told ((q : Path) (w : Pattern × Why) → ¬ (P q w)) (λ f. IsFirst P (place_of f) (fault_of f))
 
 -- a place from `from` on, that exists in the tree and where a rule fails
 abbrev pub FailsFrom : Ask → Tree → Path → Path → Pattern × Why → Type 0
@@ -45,4 +45,13 @@ Near locations P q w = (is_touched locations q ≡ true) × P q w
 
 -- what the rule where a walk stands comes to: its fault, at that very place, or none
 abbrev pub FaultsHere : Ask → Path → Option Failure → Type 0
-FaultsHere ask path answer = MatchOption answer (failing (ask path) ≡ None) (λ f. (place_of f ≡ []) × (failing (ask path) ≡ Some (fault_of f)))
+FaultsHere ask path told = MatchOption told (failing (ask path) ≡ None) (λ f. (place_of f ≡ []) × (failing (ask path) ≡ Some (fault_of f)))
+
+-- this fault is told, at the very place
+abbrev pub IsToldHere : Pattern × Why → Option Failure → Type 0
+IsToldHere fault told = IsSomeAnd told (λ f. (place_of f ≡ []) × (fault_of f ≡ fault))
+
+-- what is told of a failure, if there is one, is told of the same below a key
+abbrev pub IsToldBelow : List ℕ → Option Failure → Option Failure → Type 0
+IsToldBelow k None next = next ≡ None
+IsToldBelow k (Some f) next = IsSomeAnd next (λ g. (place_of g ≡ k ∷ place_of f) × (fault_of g ≡ fault_of f))

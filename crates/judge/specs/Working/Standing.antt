@@ -1,5 +1,5 @@
 -- Where a walk stands.
-use Rattle.std.specs.Prelude.{◌≡◌, ℕ, ◌-◌, ◌<◌, ◌++◌, List, [], ◌∷◌, length, Option, Some, None, option_map, option_and_then, slice_get}
+use Rattle.std.specs.Prelude.{◌≡◌, ℕ, ◌-◌, ◌<◌, ◌++◌, List, [], ◌∷◌, length, Bool, true, false, Option, None, option_map, option_and_then, slice_get}
 use Rattle.std.specs.List.{cons_option}
 use Rattle.tree_model.specs.declared.limits.TheConstants.{MAX_DEPTH}
 use Rattle.tree_model.specs.Key.{Key}
@@ -91,10 +91,10 @@ pub record Stands (asking : Asking) (spot : Spot) (bound : List (List ℕ × Key
   pub at : IsAt (question_of asking) spot.rule.now spot.here.now (access_of spot.access) bound
   pub asks : AsksFor asking.kind (question_of asking).request
 
--- one key further down, the spot stands, where there is one; else nothing answers there or below
-abbrev pub Entering : Asking → Path → Key → List (List ℕ × Key) → List (List ℕ × Key) → Option Spot → Type 0
-Entering asking from key old new None = (new ≡ old) × ((r : Path) → ask_of asking (from ++ key ∷ r) ≡ None)
-Entering asking from key old new (Some spot) = Stands asking spot new × (path_of spot ≡ from ++ key ∷ []) × (new ≡ old ++ last_bound spot.rule.now.at key)
+-- a spot that is moved one key further down stands there, where a rule node is there; else nothing answers there or below
+abbrev pub Entering : Asking → Path → Key → List (List ℕ × Key) → List (List ℕ × Key) → Spot → Bool → Type 0
+Entering asking from key old new spot false = (new ≡ old) × ((r : Path) → ask_of asking (from ++ key ∷ r) ≡ None)
+Entering asking from key old new spot true = Stands asking spot new × (path_of spot ≡ from ++ key ∷ []) × (new ≡ old ++ last_bound spot.rule.now.at key)
 
 -- a spot at the root, where there are no captures
 pub record StandsAtRoot (asking : Asking) (spot : Spot) : Type 0 where

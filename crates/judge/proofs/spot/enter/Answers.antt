@@ -20,8 +20,8 @@ returns c =
     let found = subst (λ (key : Key). Steps c.args.spot.now.rule.now key c.in-Some.rule.now) bytes c.in-Some.ensures.found in
     let moved = c.in_ok-here.ensures ∙ ap (below c.args.spot.now.here.now) bytes in (
       record {
-        at = is_at_next (question_of c.args.asking.now) c.args.spot.now.rule.now c.in-Some.rule.now c.args.spot.now.here.now c.in_ok-here.here.now (access_of c.args.spot.now.access) (access_of c.in_ok-access.access) c.args.key.now c.args.captures.now c.bind.new.captures
-            c.requires.here.at found moved c.in_ok-access.ensures c.in_ok-bind.ensures;
+        at = is_at_next (question_of c.args.asking.now) c.args.spot.now.rule.now c.in-Some.rule.now c.args.spot.now.here.now c.in_ok-here.here.now (access_of c.args.spot.now.access) (access_of c.lower.new.access) c.args.key.now c.args.captures.now c.bind.new.captures
+            c.requires.here.at found moved c.in_ok-lower.ensures c.in_ok-bind.ensures;
         asks = c.requires.here.asks;
       },
       ap (λ (s : Snapshot). s.1) moved,

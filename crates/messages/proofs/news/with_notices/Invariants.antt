@@ -1,7 +1,0 @@
-use Rattle.std.proofs.Common.{◌≡◌, ◌++◌, false, drop, nat_lt}
-use Rattle.messages.proofs.Notices.{left_text}
-use Rattle.messages.proofs.news.with_notices.Given as goal
-
--- what is told, and what is left, are all
-abbrev pub invariant-loop-index : goal.invariant-loop-index
-invariant-loop-index l = l.told.items ++ left_text (nat_lt 0 l.index) (drop l.index l.notices) ≡ l.fn.bytes.items ++ left_text false l.notices
