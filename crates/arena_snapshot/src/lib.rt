@@ -23,5 +23,5 @@ pub use overlapping::overlaps;
 pub use proposal::overlay;
 pub use sameness::{is_same_leaf, same};
 pub use selection::kept;
-pub use texts::write_view;
+pub use texts::{write_tree, write_view};
 pub use view::View;

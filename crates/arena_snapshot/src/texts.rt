@@ -26,8 +26,10 @@ pub fn write_view(bytes: Vec<u8>, view: Option<&View>) -> Result<Vec<u8>, NoMemo
     Ok(out.into_inner())
 }
 
+/// Writes the tokens of the JSON text of a view behind those of a writer, which puts the commas and the colons
+/// between them.
 #[cycle(write)]
-fn write_tree(out: &mut Writer, view: &View) -> Result<(), AllocError>
+pub fn write_tree(out: &mut Writer, view: &View) -> Result<(), AllocError>
     ensures before { out.new.before ≡ out.old.before }
     ensures tokens { OnOk result (out.new.tokens
         ≡ out.old.tokens ++ json_tokens (outline (value_of view.now))) }
