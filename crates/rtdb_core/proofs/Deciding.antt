@@ -1,18 +1,23 @@
 -- What is decided of a session's own listeners, and then made.
-use Rattle.std.proofs.Common.{◌≡◌, ℕ, ◌<◌, ◌^◌, Bool, true, false, not, cond, List, map, length, Option, Some, None, is_some, sym, ap, ◌∙◌}
-use Rattle.std.specs.FinMap as map_of
+use Rattle.std.proofs.Common.{◌≡◌, ◌||◌, ℕ, ◌<◌, ◌^◌, Bool, true, false, not, cond, List, map, length, Option, Some, None, refl, sym, ap, ◌∙◌}
+use Rattle.tree_model.specs.Path.{Path}
+use Rattle.tree_model.specs.Tree.{Tree, non_null}
 use Rattle.evaluator.specs.Identity.{Identity}
 use Rattle.listeners.specs.declared.limits.TheConstants.{MAX_LISTENERS}
+use Rattle.listeners.specs.Query.{Query}
 use Rattle.listeners.specs.Table.{Listener, has_id, taken}
 use Rattle.std.specs.Prelude.{nat_le}
 use Rattle.rtdb_core.specs.declared.fates.Decision.{Decision}
 use Rattle.rtdb_core.specs.declared.news.Notice.{Notice}
 use Rattle.rtdb_core.specs.declared.reply.Refusal.{Refusal}
 use Rattle.rtdb_core.specs.declared.reply.Refusal.TheVariants.{NoSession, DuplicateId, TooManyListeners}
-use Rattle.rtdb_core.specs.declared.reply.Reply.TheVariants.{Done, News}
-use Rattle.rtdb_core.specs.State.{State, Session, is_open, identity_of, listeners_in, listeners_of}
-use Rattle.rtdb_core.specs.Step.{Outcome, refused, with_session, own_again, signs, news_of, polls}
-use Rattle.rtdb_core.specs.Working.Fates.{sparse, settled, fate_of, listen_refusal}
+use Rattle.rtdb_core.specs.declared.event.Event.TheVariants.{Listen}
+use Rattle.rtdb_core.specs.declared.reply.Reply.TheVariants.{Done, News, Value}
+use Rattle.rtdb_core.specs.State.{State, is_open, identity_of, listeners_of}
+use Rattle.rtdb_core.specs.Rejudged.{selected_at}
+use Rattle.rtdb_core.specs.Step.{Outcome, refused, unless_refused, with_session, own_again, signs, news_of, polls, listening, listens, takes_no_memory}
+use Rattle.rtdb_core.specs.Working.Fates.{sparse, settled, fate_of, read_refusal_for, listen_refusal}
+use Rattle.rtdb_core.proofs.Refusing.{reads_as}
 use Rattle.rtdb_core.proofs.Fatings.{own_made}
 
 module _ (old : State) (now n : ℕ) (who : Option Identity) (ds : List Decision) where
@@ -39,28 +44,46 @@ polled_is old now n ds notices new opened are lt told is =
 
 -- ---- why a session can't listen
 
-abbrev refusal_in : Option Session → List ℕ → Option Refusal
-refusal_in o id =
-    cond (not (is_some o)) (Some NoSession)
-    (cond (has_id id (listeners_in o)) (Some DuplicateId)
-    (cond (nat_le MAX_LISTENERS (length (listeners_in o))) (Some TooManyListeners) None))
+pub known_refused : (ls : List Listener) (id : List ℕ) → true ≡ has_id id ls → Some DuplicateId ≡ listen_refusal ls id
+known_refused ls id has = ap (λ (b : Bool). cond b (Some DuplicateId) (cond (nat_le MAX_LISTENERS (length ls)) (Some TooManyListeners) None)) has
 
-module _ (old : State) (n : ℕ) (id : List ℕ) (o : Option Session) (found : o ≡ map_of.get old.sessions n) where
-  at_found : refusal_in o id ≡ listen_refusal old n id
-  at_found = ap (λ (p : Option Session). refusal_in p id) found
+pub by_room : (ls : List Listener) (id : List ℕ) → false ≡ has_id id ls → (b : Bool) → b ≡ nat_le MAX_LISTENERS (length ls) → cond b (Some TooManyListeners) None ≡ listen_refusal ls id
+by_room ls id new b room =
+    ap (λ (c : Bool). cond c (Some TooManyListeners) None) room
+    ∙ ap (λ (c : Bool). cond c (Some DuplicateId) (cond (nat_le MAX_LISTENERS (length ls)) (Some TooManyListeners) None)) new
 
-  pub closed_refused : o ≡ None → Some NoSession ≡ listen_refusal old n id
-  closed_refused none = ap (λ (p : Option Session). refusal_in p id) (sym none) ∙ at_found
+-- an open session that listens to these
+module _ (old : State) (now n : ℕ) (who : Option Identity) (ls : List Listener) (id : List ℕ) (path : Path) (query : Option Query) (opened : true ≡ is_open old n) (is : who ≡ identity_of old n) (heard : ls ≡ listeners_of old n) where
+  abbrev answered : Option Refusal → Outcome
+  answered o = unless_refused old o (record { reply = Value (non_null (selected_at old.tree path query)); after = listening old n id path query })
 
-  module _ (one : Session) (is : o ≡ Some one) where
-    as_open : cond (has_id id one.listeners) (Some DuplicateId) (cond (nat_le MAX_LISTENERS (length one.listeners)) (Some TooManyListeners) None) ≡ listen_refusal old n id
-    as_open = ap (λ (p : Option Session). refusal_in p id) (sym is) ∙ at_found
+  by_two : (a b : Bool) (rest : Outcome) → cond a (refused old DuplicateId) (cond b (refused old TooManyListeners) rest) ≡ unless_refused old (cond a (Some DuplicateId) (cond b (Some TooManyListeners) None)) rest
+  by_two true b rest = refl
+  by_two false true rest = refl
+  by_two false false rest = refl
 
-    pub known_refused : true ≡ has_id id one.listeners → Some DuplicateId ≡ listen_refusal old n id
-    known_refused has = ap (λ (b : Bool). cond b (Some DuplicateId) (cond (nat_le MAX_LISTENERS (length one.listeners)) (Some TooManyListeners) None)) has ∙ as_open
+  listens_as : listens old now n id path query ≡ unless_refused old (listen_refusal ls id) (answered (read_refusal_for old now who path query))
+  listens_as =
+      (λ i. cond (not (sym opened i)) (refused old NoSession) (cond (has_id id (sym heard i)) (refused old DuplicateId) (cond (nat_le MAX_LISTENERS (length (sym heard i))) (refused old TooManyListeners) (answered (sym (reads_as old now n who path query is) i)))))
+      ∙ by_two (has_id id ls) (nat_le MAX_LISTENERS (length ls)) (answered (read_refusal_for old now who path query))
 
-    pub by_room : false ≡ has_id id one.listeners → (b : Bool) → b ≡ nat_le MAX_LISTENERS (length one.listeners) → cond b (Some TooManyListeners) None ≡ listen_refusal old n id
-    by_room new b room =
-        ap (λ (c : Bool). cond c (Some TooManyListeners) None) room
-        ∙ ap (λ (c : Bool). cond c (Some DuplicateId) (cond (nat_le MAX_LISTENERS (length one.listeners)) (Some TooManyListeners) None)) new
-        ∙ as_open
+  pub listen_refused : (refusal : Refusal) → listen_refusal ls id ≡ Some refusal → listens old now n id path query ≡ refused old refusal
+  listen_refused refusal h = listens_as ∙ ap (λ (o : Option Refusal). unless_refused old o (answered (read_refusal_for old now who path query))) h
+
+  module _ (may : listen_refusal ls id ≡ None) where
+    listens_may : listens old now n id path query ≡ answered (read_refusal_for old now who path query)
+    listens_may = listens_as ∙ ap (λ (o : Option Refusal). unless_refused old o (answered (read_refusal_for old now who path query))) may
+
+    pub listen_denied : (refusal : Refusal) → read_refusal_for old now who path query ≡ Some refusal → listens old now n id path query ≡ refused old refusal
+    listen_denied refusal h = listens_may ∙ ap answered h
+
+    pub listen_made : (tree : Option Tree) (new : State) → read_refusal_for old now who path query ≡ None → tree ≡ non_null (selected_at old.tree path query) → new ≡ listening old n id path query → listens old now n id path query ≡ record { reply = Value tree; after = new }
+    listen_made tree new h selected made = listens_may ∙ ap answered h ∙ (λ i. record { reply = Value (sym selected i); after = sym made i })
+
+    pub listen_is_judged : takes_no_memory old n (Listen id path query) ≡ false
+    listen_is_judged = (λ i. not (sym opened i) || has_id id (sym heard i) || nat_le MAX_LISTENERS (length (sym heard i))) ∙ by_none (has_id id ls) (nat_le MAX_LISTENERS (length ls)) may
+      where
+        by_none : (a b : Bool) → cond a (Some DuplicateId) (cond b (Some TooManyListeners) None) ≡ None → a || b ≡ false
+        by_none true b h = cc
+        by_none false true h = cc
+        by_none false false h = refl

@@ -1,5 +1,5 @@
 -- Why reads and writes are refused, from their verdicts.
-use Rattle.std.proofs.Common.{◌≡◌, ℕ, List, map, Some, None, Option, option_map, sym, ap, subst, ◌∙◌}
+use Rattle.std.proofs.Common.{◌≡◌, ◌∷◌, [], ℕ, Bool, List, map, true, not, cond, Some, None, Option, option_map, sym, ap, subst, ◌∙◌}
 use Rattle.std.specs.Borrow.{Bor}
 use Rattle.tree_model.specs.Path.{Path}
 use Rattle.tree_model.specs.Tree.{Tree, non_null}
@@ -9,6 +9,7 @@ use Rattle.arena_snapshot.specs.View.{node_or_null}
 use Rattle.rules_reader.specs.Place.{HasOneCapture}
 use Rattle.evaluator.specs.Asked.{Asked}
 use Rattle.judge.specs.Question.{Scene}
+use Rattle.evaluator.specs.Identity.{Identity}
 use Rattle.judge.specs.Judging.{IsReadVerdict, IsWriteVerdict}
 use Rattle.judge.specs.Tests.{read_verdict}
 use Rattle.judge.specs.declared.verdict.Verdict.{Verdict}
@@ -16,16 +17,35 @@ use Rattle.judge.proofs.Coming.{is_proposed}
 use Rattle.judge.proofs.Verdicts.{reads_decided, one_verdict}
 use Rattle.listeners.specs.Query.{Query}
 use Rattle.rtdb_core.specs.declared.reply.Refusal.{Refusal}
-use Rattle.rtdb_core.specs.State.{State, scene_at}
+use Rattle.rtdb_core.specs.declared.reply.Refusal.TheVariants.{NoSession}
+use Rattle.rtdb_core.specs.declared.reply.Reply.TheVariants.{Done}
+use Rattle.rtdb_core.specs.State.{State, is_open, identity_of, scene_for}
 use Rattle.rtdb_core.specs.Rejudged.{asked_for}
-use Rattle.rtdb_core.specs.Step.{denial, full, or_full, tree_with, verdict_on, read_refusal, write_refusal}
+use Rattle.rtdb_core.specs.Step.{refused, unless_refused, denial, full, or_full, tree_with, written_to, read_refusal, write_refusal, value_at, gets, sets, makes}
+use Rattle.rtdb_core.specs.Working.Fates.{read_refusal_for, verdict_for, write_refusal_for}
 
 -- ---- reads
 
-pub read_is : (old : State) (now session : ℕ) (scene : Scene) (asked : Asked) (path : Path) (query : Option Query) (v : Verdict) → scene ≡ scene_at old now session → asked ≡ asked_for query → IsReadVerdict scene asked path v → denial v ≡ read_refusal old now session path query
-unfolding read_refusal
-read_is old now session scene asked path query v same none h =
+-- what is judged for who is signed in on a session is judged for the session
+pub reads_as : (old : State) (now session : ℕ) (who : Option Identity) (path : Path) (query : Option Query) → who ≡ identity_of old session → read_refusal_for old now who path query ≡ read_refusal old now session path query
+unfolding read_refusal read_refusal_for
+reads_as old now session who path query is = ap (λ (w : Option Identity). denial (read_verdict (scene_for old now w) (asked_for query) path)) is
+
+pub read_is : (old : State) (now : ℕ) (who : Option Identity) (scene : Scene) (asked : Asked) (path : Path) (query : Option Query) (v : Verdict) → scene ≡ scene_for old now who → asked ≡ asked_for query → IsReadVerdict scene asked path v → denial v ≡ read_refusal_for old now who path query
+unfolding read_refusal_for
+read_is old now who scene asked path query v same none h =
     ap denial ((reads_decided scene asked path v).1 h ∙ (λ i. read_verdict (same i) (none i) path))
+
+-- a read of an open session, as it is judged for who is signed in on it
+module _ (old : State) (now session : ℕ) (who : Option Identity) (path : Path) (query : Option Query) (opened : true ≡ is_open old session) (is : who ≡ identity_of old session) where
+  gets_as : gets old now session path query ≡ unless_refused old (read_refusal_for old now who path query) (value_at old path query)
+  gets_as = λ i. cond (not (sym opened i)) (refused old NoSession) (unless_refused old (sym (reads_as old now session who path query is) i) (value_at old path query))
+
+  pub get_refused : (refusal : Refusal) → read_refusal_for old now who path query ≡ Some refusal → gets old now session path query ≡ refused old refusal
+  get_refused refusal h = gets_as ∙ ap (λ (o : Option Refusal). unless_refused old o (value_at old path query)) h
+
+  pub get_granted : read_refusal_for old now who path query ≡ None → gets old now session path query ≡ value_at old path query
+  get_granted h = gets_as ∙ ap (λ (o : Option Refusal). unless_refused old o (value_at old path query)) h
 
 -- ---- writes
 
@@ -34,14 +54,39 @@ tree_is_proposed base tree old coming ws stored is laid =
     is_proposed base (option_map (λ (node : Bor Tree). node.now) base) coming ws (λ i. option_map (λ (node : Bor Tree). node.now) base) laid
     ∙ ap (λ (t : Tree). proposed t ws) (ap tree_or_null stored ∙ is)
 
-pub verdict_is : (old : State) (now session : ℕ) (scene : Scene) (ws : List Write) (v : Verdict) → scene ≡ scene_at old now session → HasOneCapture old.rules → IsWriteVerdict scene (proposed scene.old ws) (map location ws) v → v ≡ verdict_on old now session ws
-verdict_is old now session scene ws v same one h =
-    one_verdict (scene_at old now session) (tree_with old ws) (map location ws) v one (subst (λ (s : Scene). IsWriteVerdict s (proposed s.old ws) (map location ws) v) same h)
+pub verdict_is : (old : State) (now : ℕ) (who : Option Identity) (scene : Scene) (ws : List Write) (v : Verdict) → scene ≡ scene_for old now who → HasOneCapture old.rules → IsWriteVerdict scene (proposed scene.old ws) (map location ws) v → v ≡ verdict_for old now who ws
+verdict_is old now who scene ws v same one h =
+    one_verdict (scene_for old now who) (tree_with old ws) (map location ws) v one (subst (λ (s : Scene). IsWriteVerdict s (proposed s.old ws) (map location ws) v) same h)
 
-pub is_denied : (old : State) (now session : ℕ) (ws : List Write) (v : Verdict) (refusal : Refusal) → v ≡ verdict_on old now session ws → denial v ≡ Some refusal → Some refusal ≡ write_refusal old now session ws
-unfolding write_refusal
-is_denied old now session ws v refusal is denied = ap (λ (o : Option Refusal). or_full o (tree_with old ws)) (sym denied ∙ ap denial is)
+pub is_denied : (old : State) (now : ℕ) (who : Option Identity) (ws : List Write) (v : Verdict) (refusal : Refusal) → v ≡ verdict_for old now who ws → denial v ≡ Some refusal → Some refusal ≡ write_refusal_for old now who ws
+unfolding write_refusal_for
+is_denied old now who ws v refusal is denied = ap (λ (o : Option Refusal). or_full o (tree_with old ws)) (sym denied ∙ ap denial is)
 
-pub is_granted : (old : State) (now session : ℕ) (ws : List Write) (v : Verdict) → v ≡ verdict_on old now session ws → denial v ≡ None → full (tree_with old ws) ≡ write_refusal old now session ws
-unfolding write_refusal
-is_granted old now session ws v is none = ap (λ (o : Option Refusal). or_full o (tree_with old ws)) (sym none ∙ ap denial is)
+pub is_granted : (old : State) (now : ℕ) (who : Option Identity) (ws : List Write) (v : Verdict) → v ≡ verdict_for old now who ws → denial v ≡ None → full (tree_with old ws) ≡ write_refusal_for old now who ws
+unfolding write_refusal_for
+is_granted old now who ws v is none = ap (λ (o : Option Refusal). or_full o (tree_with old ws)) (sym none ∙ ap denial is)
+
+-- ---- writes of a session, as they are judged for who is signed in on it
+
+module _ (old : State) (now session : ℕ) (who : Option Identity) (ws : List Write) (is : who ≡ identity_of old session) where
+  writes_as : write_refusal_for old now who ws ≡ write_refusal old now session ws
+  unfolding write_refusal write_refusal_for
+  writes_as = ap (λ (w : Option Identity). or_full (denial (verdict_for old now w ws)) (tree_with old ws)) is
+
+  pub refused_write : (refusal : Refusal) → write_refusal_for old now who ws ≡ Some refusal → makes old now session ws ≡ refused old refusal
+  refused_write refusal h = ap (λ (o : Option Refusal). unless_refused old o (record { reply = Done; after = written_to old now ws })) (sym writes_as ∙ h)
+
+  pub granted_write : (new : State) → write_refusal_for old now who ws ≡ None → new ≡ written_to old now ws → makes old now session ws ≡ record { reply = Done; after = new }
+  granted_write new h made =
+      ap (λ (o : Option Refusal). unless_refused old o (record { reply = Done; after = written_to old now ws })) (sym writes_as ∙ h)
+      ∙ ap (λ (s : State). record { reply = Done; after = s }) (sym made)
+
+  module _ (opened : true ≡ is_open old session) where
+    sets_as : (write : Write) → sets old now session write ≡ makes old now session (write ∷ [])
+    sets_as write = ap (λ (b : Bool). cond (not b) (refused old NoSession) (makes old now session (write ∷ []))) (sym opened)
+
+    pub set_refused : (write : Write) → ws ≡ write ∷ [] → (refusal : Refusal) → write_refusal_for old now who ws ≡ Some refusal → sets old now session write ≡ refused old refusal
+    set_refused write one refusal h = sets_as write ∙ ap (makes old now session) (sym one) ∙ refused_write refusal h
+
+    pub set_granted : (write : Write) → ws ≡ write ∷ [] → (new : State) → write_refusal_for old now who ws ≡ None → new ≡ written_to old now ws → sets old now session write ≡ record { reply = Done; after = new }
+    set_granted write one new h made = sets_as write ∙ ap (makes old now session) (sym one) ∙ granted_write new h made

@@ -12,11 +12,13 @@ use Rattle.tree_model.specs.Path.{Path, path_cmp, is_path, prefixes}
 use Rattle.tree_model.specs.Primitive.{Primitive}
 use Rattle.tree_model.specs.Tree.{Tree, null, count, existing}
 use Rattle.tree_model.specs.Write.{Write}
+use Rattle.evaluator.specs.Identity.{Identity}
 use Rattle.rtdb_core.specs.declared.limits.TheConstants.{MAX_LOCATIONS}
 use Rattle.rtdb_core.specs.declared.reply.Refusal.{Refusal}
 use Rattle.rtdb_core.specs.declared.reply.Refusal.TheVariants.{TreeFull}
 use Rattle.rtdb_core.specs.State.{State}
-use Rattle.rtdb_core.specs.Step.{denial, or_full, tree_with, verdict_on, write_refusal}
+use Rattle.rtdb_core.specs.Step.{denial, or_full, tree_with}
+use Rattle.rtdb_core.specs.Working.Fates.{verdict_for, write_refusal_for}
 
 nil : {A : Type 0} (xs : List A) → length xs ≡ 0 → xs ≡ []
 nil [] h = refl
@@ -43,9 +45,9 @@ room_of None tree h = by_room (nat_le (count tree) MAX_LOCATIONS) refl h
     by_room true e g = leb-true (count tree) MAX_LOCATIONS e
     by_room false e g = cc
 
-pub has_room : (old : State) (now session : ℕ) (writes : List Write) → write_refusal old now session writes ≡ None → count (tree_with old writes) ≤ MAX_LOCATIONS
-unfolding write_refusal
-has_room old now session writes h = room_of (denial (verdict_on old now session writes)) (tree_with old writes) h
+pub has_room : (old : State) (now : ℕ) (who : Option Identity) (writes : List Write) → write_refusal_for old now who writes ≡ None → count (tree_with old writes) ≤ MAX_LOCATIONS
+unfolding write_refusal_for
+has_room old now who writes h = room_of (denial (verdict_for old now who writes)) (tree_with old writes) h
 
 -- a bound that is not reached
 pub has_more : (a b : ℕ) → b < a → nat_le a b ≡ false

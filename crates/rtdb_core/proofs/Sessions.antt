@@ -1,6 +1,7 @@
 -- The map of the sessions that are open, and the ordered entries that it is kept in.
 use Rattle.std.proofs.Common.{◌≡◌, ℕ, Bool, true, false, cond, T, List, [], ◌∷◌, length, Option, Some, None, is_some, Result, Ok, Err, IfOk, OnOk, OnErr, refl, sym, ap, subst, ◌∙◌}
-use Rattle.std.specs.Prelude.{◌&&◌, option_and_then}
+use Rattle.std.specs.Prelude.{◌&&◌, option_and_then, option_map, IfSome}
+use Rattle.std.specs.Borrow.{Bor}
 use Rattle.std.specs.FinMap as map_of
 use Rattle.std.specs.FinMap.{find, is_sorted}
 use Rattle.std.specs.FinMap.Entries.{below_all}
@@ -127,6 +128,23 @@ module _ (tree : Tree) (rules : Book) (es fs : List (ℕ × Session)) (state : S
       by_test : (q : ℕ) (b : Bool) → is_at (nat_cmp n) q ≡ b → cond b (Some one) (lookup (is_at (nat_cmp q)) es) ≡ lookup (is_at (nat_cmp q)) es
       by_test q false e = refl
       by_test q true e = ap Some same ∙ found ∙ ap (λ (k : ℕ). lookup (is_at (nat_cmp k)) es) (eqb-true n q (unsigned_ties n q ∙ e))
+
+-- what was looked up of a state
+module _ (tree : Tree) (rules : Book) (es : List (ℕ × Session)) (state : State) (n : ℕ) (is : ◌≡◌ {A = State} record { tree = tree; rules = rules; sessions = sessions_of es } state) where
+  abbrev LookedUp : Option (Bor Session) → Type 0
+  LookedUp o = option_map (λ (one : Bor Session). one.now) o ≡ lookup (is_at (nat_cmp n)) es
+
+  pub open_is : (o : Option (Bor Session)) → LookedUp o → is_some o ≡ is_open state n
+  open_is None found = ap is_some found ∙ has es n ∙ ap (λ (s : State). is_open s n) is
+  open_is (Some one) found = ap is_some found ∙ has es n ∙ ap (λ (s : State). is_open s n) is
+
+  pub open_identity : (o : Option (Bor Session)) → LookedUp o → IfSome o (λ one. one.now.identity ≡ identity_of state n)
+  open_identity None found = tt
+  open_identity (Some one) found = identity_at es n (Some one.now) found ∙ ap (λ (s : State). identity_of s n) is
+
+  pub open_listeners : (o : Option (Bor Session)) → LookedUp o → IfSome o (λ one. one.now.listeners ≡ listeners_of state n)
+  open_listeners None found = tt
+  open_listeners (Some one) found = listeners_at es n one.now found ∙ ap (λ (s : State). listeners_of s n) is
 
 -- ---- what holds of a result
 

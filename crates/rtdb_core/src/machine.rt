@@ -1,5 +1,5 @@
 //! The state machine: one event in, one reply out.
-ghost use Rattle.std.specs.Prelude.{◌≡◌, true, ◌↔◌, ◌^◌, map, ℕ, ◌≤◌, ◌<◌, ◌∷◌, [], length, None, Some, Option, false, IsErr, IfOk, IfErr, OnOk, OnErr, option_map};
+ghost use Rattle.std.specs.Prelude.{◌≡◌, true, ◌↔◌, ◌^◌, map, ℕ, ◌≤◌, ◌<◌, ◌∷◌, [], length, None, Some, Option, false, IsErr, IfOk, IfErr, IfSome, OnOk, OnErr, is_some, option_map};
 ghost use Rattle.std.specs.FinMap as map_of;
 ghost use Rattle.tree_model.specs.PathMap.{sub};
 ghost use Rattle.tree_model.specs.Tree.{non_null, count};
@@ -9,10 +9,10 @@ ghost use Rattle.rules_reader.specs.Place.{HasOneCapture};
 ghost use Rattle.judge.specs.Question.{scene_of};
 ghost use Rattle.evaluator.specs.Identity.{Identity};
 ghost use Rattle.listeners.specs.Table.{has_id, without_id, taken};
-ghost use Rattle.rtdb_core.specs.State.{opening, is_open, identity_of, listeners_of, is_admin, scene_at};
+ghost use Rattle.rtdb_core.specs.State.{opening, is_open, identity_of, listeners_of, is_admin, scene_for};
 ghost use Rattle.rtdb_core.specs.Rejudged.{selected_at};
-ghost use Rattle.rtdb_core.specs.Step.{opened, closed, closes, with_session, signs, tree_with, makes, read_refusal, write_refusal, listening, unlistens, polls, news_of, ticks, deployed, deploys, outcome, takes_no_memory, Step};
-ghost use Rattle.rtdb_core.specs.Working.Fates.{sparse, settled, fate_of, fates_of, all_sessions, with_settled, with_tree, with_rules, IsJudgedWrite, listen_refusal};
+ghost use Rattle.rtdb_core.specs.Step.{opened, closed, closes, with_session, signs, tree_with, listening, unlistens, polls, news_of, ticks, deployed, deploys, outcome, takes_no_memory, Step};
+ghost use Rattle.rtdb_core.specs.Working.Fates.{sparse, settled, fate_of, fates_of, all_sessions, with_settled, with_tree, with_rules, read_refusal_for, write_refusal_for, IsJudgedWrite};
 ghost use Rattle.rtdb_core.specs.Working.Heard.{AreHeard, AllHeardIn, AllHeard};
 ghost use Rattle.rtdb_core.specs.Working.Passages.{IsPassage, tree_before, tree_after, who_of};
 
@@ -23,7 +23,7 @@ use crate::judged::Judged;
 use crate::limits::{MAX_LOCATIONS, MAX_SESSIONS};
 use crate::news::News;
 use crate::passage::{Passage, shared};
-use crate::refusals::{denial, full, reset};
+use crate::refusals::{denial, full, listen_refusal, reset};
 use crate::rejudging::{decide_all, decide_own, settle_all};
 use crate::reply::{Refusal, Reply};
 use crate::selected::{asked_for, selected_in, view_in};
@@ -36,7 +36,7 @@ use bumpalo::Bump;
 use evaluator::{Identity, MAX_MOMENT, Moment};
 use json_tree::{Key, NoMemory, Node};
 use judge::{Scene, judge_read, judge_write};
-use listeners::{ListenerId, MAX_LISTENERS, Query};
+use listeners::{ListenerId, Query};
 use path_capture::{Path, Write, make_all};
 use rules_reader::Rules;
 use std::alloc::Global;
@@ -135,11 +135,11 @@ impl Machine {
         ensures for_want_of_memory { OnOk result (Step self.now now session (Event.Get path.now (option_map (λ query. query.now) query.entry)) (Reply.Refused Refusal.NoMemory) self.now) }
         ensures refused { IfErr result (λ refusal. Step self.now now session (Event.Get path.now (option_map (λ query. query.now) query.entry)) (Reply.Refused refusal) self.now) }
     {
-        if !self.is_open(session) {
+        let Some(open) = self.open_session(session) else {
             return Err(Refusal::NoSession);
-        }
+        };
         reset(arena)?;
-        match self.read_refusal(arena, now, session, path, query)? {
+        match self.read_refusal(arena, now, open.identity(), path, query)? {
             Some(refusal) => Err(refusal),
             None => Ok(()),
         }
@@ -181,39 +181,23 @@ impl Machine {
         ensures told { IfOk result (λ tidings. (polls self.now now session).reply ≡ Reply.News tidings) }
         ensures refused { IfErr result (λ refusal. Step self.now now session Event.Poll (Reply.Refused refusal) self.now) }
     {
-        self.demand_open(session)?;
-        let tidings = self.own_tidings(arena, now, session)?;
+        let open = self.demand_open(session)?;
+        let decisions = self.decide_own(arena, now, open, open.identity(), true)?;
+        let tidings = self.tidings_of(arena, open, &decisions.made)?;
         Ok(tidings)
     }
 
-    // A refusal, unless the session is open.
-    fn demand_open(&self, session: u64) -> Result<(), Refusal>
+    // The session of this number, or a refusal where it is not open.
+    fn demand_open(&self, session: u64) -> Result<&Session, Refusal>
         ensures open { OnOk result (is_open self.now session ≡ true) }
+        ensures identity { IfOk result (λ one. one.now.identity ≡ identity_of self.now session) }
+        ensures listeners { IfOk result (λ one. one.now.listeners ≡ listeners_of self.now session) }
         ensures refused { IfErr result (λ refusal. (refusal ≡ Refusal.NoSession) × (is_open self.now session ≡ false)) }
     {
-        if self.is_open(session) {
-            Ok(())
-        } else {
-            Err(Refusal::NoSession)
+        match self.open_session(session) {
+            Some(open) => Ok(open),
+            None => Err(Refusal::NoSession),
         }
-    }
-
-    // What a poll of an open session tells.
-    fn own_tidings<'a>(
-        &'a self,
-        arena: &'a Bump,
-        now: u64,
-        session: u64,
-    ) -> Result<Tidings<'a>, NoMemory>
-        requires moment { now ≤ MAX_MOMENT }
-        requires heard { AllHeard self.now }
-        requires open { is_open self.now session ≡ true }
-        ensures { IfOk result (λ tidings. (polls self.now now session).reply ≡ Reply.News tidings) }
-    {
-        let who = self.identity_of(session);
-        let decisions = self.decide_own(arena, now, session, who, true)?;
-        let tidings = self.tidings_of(arena, session, &decisions.made)?;
-        Ok(tidings)
     }
 
     /// Ends a poll as [`Core::end_poll`](crate::Core::end_poll) does.
@@ -229,11 +213,11 @@ impl Machine {
         ensures err { OnErr result (self.new ≡ self.old) }
         ensures later { OnErr result (is_open self.old session ≡ true) }
     {
-        if !self.is_open(session) {
+        let Some(open) = self.open_session(session) else {
             return Ok(());
-        }
+        };
         reset(arena)?;
-        let decisions = self.decide_own(&*arena, now, session, self.identity_of(session), true)?;
+        let decisions = self.decide_own(&*arena, now, open, open.identity(), true)?;
         self.hand_out(session, &decisions.made);
         Ok(())
     }
@@ -305,6 +289,15 @@ impl Machine {
         self.sessions.contains_key(&session)
     }
 
+    // The session of this number, if it is open.
+    fn open_session(&self, session: u64) -> Option<&Session>
+        ensures open { is_some result ≡ is_open self.now session }
+        ensures identity { IfSome result (λ one. one.now.identity ≡ identity_of self.now session) }
+        ensures listeners { IfSome result (λ one. one.now.listeners ≡ listeners_of self.now session) }
+    {
+        self.sessions.get(&session)
+    }
+
     fn open(&mut self, arena: &mut Bump, now: u64, session: u64) -> Result<Reply, NoMemory>
         ensures ok { IfOk result (λ reply. outcome self.old now session Event.Open ≡ record { reply = reply; after = self.new }) }
         ensures err { OnErr result (self.new ≡ self.old) }
@@ -353,11 +346,11 @@ impl Machine {
         ensures err { OnErr result (self.new ≡ self.old) }
         ensures later { OnErr result (is_open self.old session ≡ true) }
     {
-        if !self.is_open(session) {
+        let Some(open) = self.open_session(session) else {
             return Ok(Reply::Refused(Refusal::NoSession));
-        }
+        };
         reset(arena)?;
-        let decisions = self.decide_own(&*arena, now, session, who.as_ref(), false)?;
+        let decisions = self.decide_own(&*arena, now, open, who.as_ref(), false)?;
         self.put_identity(session, who, &decisions.made);
         Ok(Reply::Done)
     }
@@ -368,21 +361,17 @@ impl Machine {
         &self,
         arena: &'a Bump,
         now: u64,
-        session: u64,
+        session: &Session,
         who: Option<&Identity>,
         was_heard: bool,
     ) -> Result<Decisions<'a>, NoMemory>
         requires moment { now ≤ MAX_MOMENT }
-        requires open { is_open self.now session ≡ true }
-        requires heard { was_heard ≡ true → AreHeard self.now.rules self.now.tree (who_of who) (listeners_of self.now session) }
-        ensures made { IfOk result (λ decisions. decisions.made.items ≡ sparse 0 (map (fate_of self.now.tree self.now.rules self.now.tree now (who_of who.entry)) (listeners_of self.now session))) }
-        ensures fits { IfOk result (λ decisions. length (listeners_of self.now session) < 2 ^ 64) }
+        requires heard { was_heard ≡ true → AreHeard self.now.rules self.now.tree (who_of who) session.now.listeners }
+        ensures made { IfOk result (λ decisions. decisions.made.items ≡ sparse 0 (map (fate_of self.now.tree self.now.rules self.now.tree now (who_of who.entry)) session.now.listeners)) }
+        ensures fits { IfOk result (λ decisions. length session.now.listeners < 2 ^ 64) }
     {
         let passage = Passage::staying(&self.rules, self.tree.as_ref(), now, was_heard);
-        match self.sessions.get(&session) {
-            Some(open) => decide_own(arena, &passage, who, open.listeners()),
-            None => unreachable!(),
-        }
+        decide_own(arena, &passage, who, session.listeners())
     }
 
     // Signs in whoever this is on an open session, or signs out, and makes what was decided.
@@ -411,32 +400,20 @@ impl Machine {
         ensures err { OnErr result (self.new ≡ self.old) }
         ensures later { OnErr result (takes_no_memory self.old session (Event.Listen id path query) ≡ false) }
     {
-        if let Some(refusal) = self.listen_refusal(session, &id) {
+        let Some(open) = self.open_session(session) else {
+            return Ok(Reply::Refused(Refusal::NoSession));
+        };
+        if let Some(refusal) = listen_refusal(open, &id) {
             return Ok(Reply::Refused(refusal));
         }
         reset(arena)?;
-        if let Some(refusal) = self.read_refusal(arena, now, session, &path, query.as_ref())? {
+        let who = open.identity();
+        if let Some(refusal) = self.read_refusal(arena, now, who, &path, query.as_ref())? {
             return Ok(Reply::Refused(refusal));
         }
         let tree = self.selected_at(arena, path.keys(), query.as_ref())?;
         self.begin(session, id, path, query)?;
         Ok(Reply::Value(tree))
-    }
-
-    // Why a session can't listen under this id, whatever the rules say.
-    fn listen_refusal(&self, session: u64, id: &ListenerId) -> Option<Refusal>
-        ensures { result ≡ listen_refusal self.now session id.now }
-    {
-        let Some(open) = self.sessions.get(&session) else {
-            return Some(Refusal::NoSession);
-        };
-        if open.listeners().has(id) {
-            return Some(Refusal::DuplicateId);
-        }
-        if open.listeners().len() >= MAX_LISTENERS {
-            return Some(Refusal::TooManyListeners);
-        }
-        None
     }
 
     // Lets an open session listen to one thing more.
@@ -489,20 +466,24 @@ impl Machine {
         ensures err { OnErr result (self.new ≡ self.old) }
         ensures later { OnErr result (is_open self.old session ≡ true) }
     {
-        if !self.is_open(session) {
+        let Some(open) = self.open_session(session) else {
             return Ok(Reply::Refused(Refusal::NoSession));
-        }
+        };
         reset(arena)?;
-        let decisions = self.decide_own(&*arena, now, session, self.identity_of(session), true)?;
-        let news = self.news_of(arena, session, &decisions.made)?;
+        let decisions = self.decide_own(&*arena, now, open, open.identity(), true)?;
+        let news = self.news_of(arena, open, &decisions.made)?;
         self.hand_out(session, &decisions.made);
         Ok(Reply::News(news))
     }
 
     // The news of an open session, once this is made that was decided.
-    fn news_of(&self, arena: &Bump, session: u64, decisions: &[Decision]) -> Result<News, NoMemory>
-        requires { is_open self.now session ≡ true }
-        ensures { IfOk result (λ news. news ≡ news_of self.now.tree (settled 0 decisions.now (listeners_of self.now session))) }
+    fn news_of(
+        &self,
+        arena: &Bump,
+        session: &Session,
+        decisions: &[Decision],
+    ) -> Result<News, NoMemory>
+        ensures { IfOk result (λ news. news ≡ news_of self.now.tree (settled 0 decisions.now session.now.listeners)) }
     {
         self.tidings_of(arena, session, decisions)?.copy(self.alloc)
     }
@@ -511,16 +492,12 @@ impl Machine {
     fn tidings_of<'a>(
         &'a self,
         arena: &'a Bump,
-        session: u64,
+        session: &'a Session,
         decisions: &[Decision],
     ) -> Result<Tidings<'a>, NoMemory>
-        requires { is_open self.now session ≡ true }
-        ensures { IfOk result (λ tidings. tidings ≡ news_of self.now.tree (settled 0 decisions.now (listeners_of self.now session))) }
+        ensures { IfOk result (λ tidings. tidings ≡ news_of self.now.tree (settled 0 decisions.now session.now.listeners)) }
     {
-        match self.sessions.get(&session) {
-            Some(open) => tidings_of(arena, self.tree.as_ref(), open.listeners(), decisions),
-            None => unreachable!(),
-        }
+        tidings_of(arena, self.tree.as_ref(), session.listeners(), decisions)
     }
 
     // Makes what was decided of an open session's listeners, whose news was told.
@@ -559,10 +536,10 @@ impl Machine {
         ensures err { OnErr result (self.new ≡ self.old) }
         ensures later { OnErr result ((is_open self.old session ≡ true) × (is_admin (identity_of self.old session) ≡ true)) }
     {
-        if !self.is_open(session) {
+        let Some(open) = self.open_session(session) else {
             return Ok(Reply::Refused(Refusal::NoSession));
-        }
-        if !self.is_admin(session) {
+        };
+        if !open.is_admin() {
             return Ok(Reply::Refused(Refusal::NotAdmin));
         }
         reset(arena)?;
@@ -596,25 +573,6 @@ impl Machine {
         self.settle_all(decisions);
     }
 
-    // Who is signed in on a session, if it is open and anybody is.
-    fn identity_of(&self, session: u64) -> Option<&Identity>
-        ensures { option_map (λ who. who.now) result ≡ identity_of self.now session }
-    {
-        match self.sessions.get(&session) {
-            Some(open) => open.identity(),
-            None => None,
-        }
-    }
-
-    fn is_admin(&self, session: u64) -> bool
-        ensures { result ≡ is_admin (identity_of self.now session) }
-    {
-        match self.identity_of(session) {
-            Some(who) => who.admin(),
-            None => false,
-        }
-    }
-
     // Adds a session to those that are open.
     fn add(&mut self, session: u64) -> Result<(), NoMemory>
         ensures ok { OnOk result (self.new ≡ opened self.old session) }
@@ -638,18 +596,17 @@ impl Machine {
         ensures ok { IfOk result (λ reply. outcome self.now now session (Event.Get path.now (option_map (λ query. query.now) query.entry)) ≡ record { reply = reply; after = self.now }) }
         ensures later { OnErr result (takes_no_memory self.now session (Event.Get path.now (option_map (λ query. query.now) query.entry)) ≡ false) }
     {
-        if !self.is_open(session) {
+        let Some(open) = self.open_session(session) else {
             return Ok(Reply::Refused(Refusal::NoSession));
-        }
+        };
         reset(arena)?;
-        if let Some(refusal) = self.read_refusal(arena, now, session, path, query)? {
+        if let Some(refusal) = self.read_refusal(arena, now, open.identity(), path, query)? {
             return Ok(Reply::Refused(refusal));
         }
         let tree = self.selected_at(arena, path.keys(), query)?;
         Ok(Reply::Value(tree))
     }
 
-    #[tactic(auto, using(crate::proofs::Room::has_room))]
     fn set(
         &mut self,
         arena: &mut Bump,
@@ -663,11 +620,11 @@ impl Machine {
         ensures err { OnErr result (self.new ≡ self.old) }
         ensures later { OnErr result (takes_no_memory self.old session (Event.Set write) ≡ false) }
     {
-        if !self.is_open(session) {
+        let Some(open) = self.open_session(session) else {
             return Ok(Reply::Refused(Refusal::NoSession));
-        }
+        };
         reset(arena)?;
-        match self.judge_write(&*arena, now, session, slice::from_ref(&write))? {
+        match self.judge_write(&*arena, now, open.identity(), slice::from_ref(&write))? {
             Judged::Refused(refusal) => Ok(Reply::Refused(refusal)),
             Judged::Granted(decisions) => {
                 self.make(write)?;
@@ -690,9 +647,9 @@ impl Machine {
         ensures err { OnErr result (self.new ≡ self.old) }
         ensures later { OnErr result (takes_no_memory self.old session (Event.Update writes) ≡ false) }
     {
-        if !self.is_open(session) {
+        let Some(open) = self.open_session(session) else {
             return Ok(Reply::Refused(Refusal::NoSession));
-        }
+        };
         self.rules();
         let mut writes = writes.into_vec();
         if writes.is_empty() {
@@ -702,26 +659,8 @@ impl Machine {
         if overlaps(&writes) {
             return Ok(Reply::Refused(Refusal::Overlap));
         }
-        self.update_apart(arena, now, session, writes)
-    }
-
-    // The same of writes of which none overlaps another.
-    #[tactic(auto, using(crate::proofs::Room::has_room))]
-    fn update_apart(
-        &mut self,
-        arena: &mut Bump,
-        now: u64,
-        session: u64,
-        writes: Vec<Write>,
-    ) -> Result<Reply, NoMemory>
-        requires moment { now ≤ MAX_MOMENT }
-        requires heard { AllHeard self.old }
-        requires apart { overlaps writes.items ≡ false }
-        ensures ok { IfOk result (λ reply. makes self.old now session writes.items ≡ record { reply = reply; after = self.new }) }
-        ensures err { OnErr result (self.new ≡ self.old) }
-    {
         reset(arena)?;
-        match self.judge_write(&*arena, now, session, &writes)? {
+        match self.judge_write(&*arena, now, open.identity(), &writes)? {
             Judged::Refused(refusal) => Ok(Reply::Refused(refusal)),
             Judged::Granted(decisions) => {
                 self.make_all(writes)?;
@@ -731,10 +670,10 @@ impl Machine {
         }
     }
 
-    // What the rules and the trees are judged by.
-    fn scene(&self, now: u64, session: u64) -> Scene<'_>
+    // What the rules and the trees are judged by, for whoever is signed in.
+    fn scene<'a>(&'a self, now: u64, who: Option<&'a Identity>) -> Scene<'a>
         requires { now ≤ MAX_MOMENT }
-        ensures { scene_of result ≡ scene_at self.now now session }
+        ensures { scene_of result ≡ scene_for self.now now (who_of who.entry) }
     {
         let old = match &self.tree {
             Some(node) => Some(View::stored(node)),
@@ -742,46 +681,45 @@ impl Machine {
         };
         Scene {
             rules: &self.rules,
-            auth: self.identity_of(session),
+            auth: who,
             moment: Moment::new(now),
             old,
         }
     }
 
-    // Why a read is refused, if it is.
-    #[tactic(auto, unfolding(crate::specs::Step::read_refusal))]
+    // Why a read is refused for whoever is signed in, if it is.
     fn read_refusal(
         &self,
         arena: &Bump,
         now: u64,
-        session: u64,
+        who: Option<&Identity>,
         path: &Path,
         query: Option<&Query>,
     ) -> Result<Option<Refusal>, NoMemory>
         requires { now ≤ MAX_MOMENT }
-        ensures { IfOk result (λ refusal. refusal ≡ read_refusal self.now now session path.now (option_map (λ query. query.now) query.entry)) }
+        ensures { IfOk result (λ refusal. refusal ≡ read_refusal_for self.now now (who_of who.entry) path.now (option_map (λ query. query.now) query.entry)) }
     {
         let asked = asked_for(query);
-        let scene = self.scene(now, session);
+        let scene = self.scene(now, who);
         let verdict = judge_read(self.alloc, arena, &scene, path, &asked)?;
         Ok(denial(verdict))
     }
 
-    // Why writes are refused, or what becomes of all listeners where they are made.
+    // Why writes are refused for whoever is signed in, or what becomes of all listeners where they are made.
     fn judge_write<'a>(
         &self,
         arena: &'a Bump,
         now: u64,
-        session: u64,
+        who: Option<&Identity>,
         writes: &[Write],
     ) -> Result<Judged<'a>, NoMemory>
         requires moment { now ≤ MAX_MOMENT }
         requires heard { AllHeard self.now }
         requires apart { overlaps writes.now ≡ false }
-        ensures { IfOk result (IsJudgedWrite self.now now session writes.now) }
+        ensures { IfOk result (IsJudgedWrite self.now now (who_of who.entry) writes.now) }
     {
         let coming = overlay(arena, self.tree.as_ref(), writes)?;
-        if let Some(refusal) = self.write_refusal(arena, now, session, writes, &coming)? {
+        if let Some(refusal) = self.write_refusal(arena, now, who, writes, &coming)? {
             return Ok(Judged::Refused(refusal));
         }
         let passage = Passage {
@@ -797,23 +735,22 @@ impl Machine {
     }
 
     // Why writes that propose this tree are refused, if they are.
-    #[tactic(auto, unfolding(crate::specs::Step::write_refusal))]
     fn write_refusal(
         &self,
         arena: &Bump,
         now: u64,
-        session: u64,
+        who: Option<&Identity>,
         writes: &[Write],
         coming: &Option<View<'_>>,
     ) -> Result<Option<Refusal>, NoMemory>
         requires moment { now ≤ MAX_MOMENT }
         requires apart { overlaps writes.now ≡ false }
         requires proposes { tree_or_null coming.now ≡ tree_with self.now writes.now }
-        ensures { IfOk result (λ refusal. refusal ≡ write_refusal self.now now session writes.now) }
+        ensures { IfOk result (λ refusal. refusal ≡ write_refusal_for self.now now (who_of who.entry) writes.now) }
     {
         self.rules();
         let count = count_in(coming);
-        let scene = self.scene(now, session);
+        let scene = self.scene(now, who);
         let verdict = judge_write(self.alloc, arena, &scene, shared(coming), writes)?;
         let Some(denial) = denial(verdict) else {
             return Ok(full(count));

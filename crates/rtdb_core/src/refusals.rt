@@ -2,12 +2,15 @@
 ghost use Rattle.std.specs.Prelude.{◌≡◌, min};
 ghost use Rattle.tree_model.specs.Tree.{Tree, count};
 ghost use Rattle.rtdb_core.specs.Step.{denial, full};
+ghost use Rattle.rtdb_core.specs.Working.Fates.{listen_refusal};
 
 use crate::limits::MAX_LOCATIONS;
 use crate::reply::Refusal;
+use crate::session::Session;
 use bumpalo::Bump;
 use json_tree::NoMemory;
 use judge::Verdict;
+use listeners::{ListenerId, MAX_LISTENERS};
 
 /// The denial of a verdict, if it is one.
 pub(crate) fn denial(verdict: Verdict) -> Option<Refusal>
@@ -29,6 +32,19 @@ pub(crate) fn full(locations: usize) -> Option<Refusal>
 {
     if locations > MAX_LOCATIONS {
         return Some(Refusal::TreeFull);
+    }
+    None
+}
+
+/// Why an open session can't listen under this id, whatever the rules say.
+pub(crate) fn listen_refusal(session: &Session, id: &ListenerId) -> Option<Refusal>
+    ensures { result ≡ listen_refusal session.now.listeners id.now }
+{
+    if session.listeners().has(id) {
+        return Some(Refusal::DuplicateId);
+    }
+    if session.listeners().len() >= MAX_LISTENERS {
+        return Some(Refusal::TooManyListeners);
     }
     None
 }

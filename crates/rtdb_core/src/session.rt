@@ -2,7 +2,7 @@
 ghost use Rattle.std.specs.Prelude.{◌≡◌, ◌++◌, ◌∷◌, [], Option, option_map, OnOk, OnErr};
 ghost use Rattle.evaluator.specs.Identity.{Identity};
 ghost use Rattle.listeners.specs.Table.{begun, has_id, without_id, taken};
-ghost use Rattle.rtdb_core.specs.State.{fresh};
+ghost use Rattle.rtdb_core.specs.State.{fresh, is_admin};
 ghost use Rattle.rtdb_core.specs.Working.Fates.{settled, left_of, with_listeners};
 
 use crate::fates::{Docket, settle};
@@ -46,6 +46,16 @@ impl Session {
         ensures { option_map (λ who. who.now) result ≡ self.now.identity }
     {
         self.identity.as_ref()
+    }
+
+    /// Whether an administrator is signed in on it.
+    pub(crate) fn is_admin(&self) -> bool
+        ensures { result ≡ is_admin self.now.identity }
+    {
+        match &self.identity {
+            Some(who) => who.admin(),
+            None => false,
+        }
     }
 
     /// Signs in whoever this is, or signs out.

@@ -1,20 +1,24 @@
--- What becomes of listeners, as the code decides and makes it. No public clause stands on these words.
-use Rattle.std.specs.Prelude.{◌≡◌, ℕ, suc, ◌+◌, ◌-◌, ◌^◌, ◌==◌, List, [], ◌∷◌, ◌++◌, map, length, min, nat_le, Bool, not, if◌then◌else◌, Option, None, Some}
+-- What events are refused for, and what becomes of listeners, as the code decides and makes it. No public clause stands on these words.
+use Rattle.std.specs.Prelude.{◌≡◌, ℕ, suc, ◌+◌, ◌-◌, ◌^◌, ◌==◌, List, [], ◌∷◌, ◌++◌, map, length, min, nat_le, Bool, if◌then◌else◌, Option, None, Some}
 use Rattle.std.specs.FinMap as map_of
 use Rattle.evaluator.specs.Identity.{Identity}
 use Rattle.tree_model.specs.Tree.{Tree}
-use Rattle.tree_model.specs.Write.{Write}
+use Rattle.tree_model.specs.Path.{Path}
+use Rattle.tree_model.specs.Write.{Write, location}
 use Rattle.rules_reader.specs.Book.{Book}
 use Rattle.judge.specs.Question.{Scene}
+use Rattle.judge.specs.declared.verdict.Verdict.{Verdict}
+use Rattle.judge.specs.Tests.{read_verdict, write_verdict}
+use Rattle.listeners.specs.Query.{Query}
 use Rattle.listeners.specs.Table.{Listener, with_mark, cancelled, has_id}
 use Rattle.listeners.specs.declared.limits.TheConstants.{MAX_LISTENERS}
-use Rattle.rtdb_core.specs.State.{State, Session, Sessions, is_open, listeners_of}
-use Rattle.rtdb_core.specs.Rejudged.{hears, moves}
-use Rattle.rtdb_core.specs.Step.{tree_with, written_to, write_refusal}
+use Rattle.rtdb_core.specs.State.{State, Session, Sessions, scene_for}
+use Rattle.rtdb_core.specs.Rejudged.{asked_for, hears, moves}
+use Rattle.rtdb_core.specs.Step.{denial, or_full, tree_with, written_to}
 use Rattle.rtdb_core.specs.declared.judged.Judged.{Judged}
 use Rattle.rtdb_core.specs.declared.judged.Judged.TheVariants.{Refused, Granted}
 use Rattle.rtdb_core.specs.declared.reply.Refusal.{Refusal}
-use Rattle.rtdb_core.specs.declared.reply.Refusal.TheVariants.{NoSession, DuplicateId, TooManyListeners}
+use Rattle.rtdb_core.specs.declared.reply.Refusal.TheVariants.{DuplicateId, TooManyListeners}
 use Rattle.rtdb_core.specs.declared.fates.Fate.{Fate}
 use Rattle.rtdb_core.specs.declared.fates.Fate.TheVariants.{Marked, Cancelled}
 use Rattle.rtdb_core.specs.declared.fates.Decision.{Decision}
@@ -100,15 +104,28 @@ with_tree old writes = record old { tree = tree_with old writes }
 abbrev pub with_rules : State → Book → State
 with_rules old rules = record old { rules = rules }
 
--- writes are refused for this, or this is decided of all listeners
-abbrev pub IsJudgedWrite : State → ℕ → ℕ → List Write → Judged → Type 0
-IsJudgedWrite old now session writes (Refused refusal) = write_refusal old now session writes ≡ Some refusal
-IsJudgedWrite old now session writes (Granted decisions) = (write_refusal old now session writes ≡ None) × (with_settled (with_tree old writes) decisions.made.items ≡ written_to old now writes)
+-- ---- refusals, for whoever is signed in
 
--- why a session can't listen under this id, whatever the rules say
-abbrev pub listen_refusal : State → ℕ → List ℕ → Option Refusal
-listen_refusal old session id =
-    if not (is_open old session) then Some NoSession
-    else if has_id id (listeners_of old session) then Some DuplicateId
-    else if nat_le MAX_LISTENERS (length (listeners_of old session)) then Some TooManyListeners
+-- why a read is refused, if it is
+unfoldable pub read_refusal_for : State → ℕ → Option Identity → Path → Option Query → Option Refusal
+read_refusal_for old now who path query = denial (read_verdict (scene_for old now who) (asked_for query) path)
+
+-- the verdict on writes, which are judged together
+abbrev pub verdict_for : State → ℕ → Option Identity → List Write → Verdict
+verdict_for old now who writes = write_verdict (scene_for old now who) (tree_with old writes) (map location writes)
+
+-- why these writes are refused, if they are
+unfoldable pub write_refusal_for : State → ℕ → Option Identity → List Write → Option Refusal
+write_refusal_for old now who writes = or_full (denial (verdict_for old now who writes)) (tree_with old writes)
+
+-- writes are refused for this, or this is decided of all listeners
+abbrev pub IsJudgedWrite : State → ℕ → Option Identity → List Write → Judged → Type 0
+IsJudgedWrite old now who writes (Refused refusal) = write_refusal_for old now who writes ≡ Some refusal
+IsJudgedWrite old now who writes (Granted decisions) = (write_refusal_for old now who writes ≡ None) × (with_settled (with_tree old writes) decisions.made.items ≡ written_to old now writes)
+
+-- why an open session that listens to these can't listen under this id, whatever the rules say
+abbrev pub listen_refusal : List Listener → List ℕ → Option Refusal
+listen_refusal listeners id =
+    if has_id id listeners then Some DuplicateId
+    else if nat_le MAX_LISTENERS (length listeners) then Some TooManyListeners
     else None

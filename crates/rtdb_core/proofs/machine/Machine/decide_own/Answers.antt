@@ -1,18 +1,12 @@
-use Rattle.std.proofs.Common.{◌≡◌, ◌∙◌, ◌<◌, ◌^◌, List, map, length, is_some, IfOk, sym, ap, subst}
+use Rattle.std.proofs.Common.{◌≡◌, ◌∙◌, ◌<◌, ◌^◌, List, map, length, IfOk, sym, ap, subst}
 use Rattle.rtdb_core.specs.Working.Heard.{AreHeard}
-use Rattle.std.proofs.lemmas.Bool.{false≢true}
 use Rattle.arena_snapshot.specs.View.{node_or_null}
 use Rattle.listeners.specs.Table.{Listener}
-use Rattle.rtdb_core.specs.State.{State, is_open, listeners_of}
+use Rattle.rtdb_core.specs.State.{State}
 use Rattle.rtdb_core.specs.Working.Fates.{sparse, fate_of}
 use Rattle.rtdb_core.specs.Working.Passages.{who_of}
-use Rattle.rtdb_core.proofs.Sessions.{has, listeners_at}
 use Rattle.rtdb_core.proofs.Passing.{base_is}
 use Rattle.rtdb_core.proofs.machine.Machine.decide_own.Goals as goal
-
-pub unreachable-requires : goal.unreachable-requires
-unreachable-requires c =
-    false≢true (ap is_some c.in-None.ensures.value ∙ has c.self.inside.sessions.entries c.args.session ∙ ap (λ (state : State). is_open state c.args.session) c.self.view_is ∙ c.requires.open)
 
 pub returns-clause-made : goal.returns-clause-made
 returns-clause-made c =
@@ -20,15 +14,12 @@ returns-clause-made c =
     let s = c.args.self.now in
     let base : node_or_null c.as_ref.result ≡ s.tree = base_is c.as_ref.result c.self.inside.tree c.as_ref.ensures.value ∙ ap (λ (state : State). state.tree) c.self.view_is in
     let rules : p.rules.now ≡ s.rules = c.staying-passage.ensures.rules ∙ ap (λ (state : State). state.rules) c.self.view_is in
-    let heard : c.listeners.result.now ≡ listeners_of s c.args.session = c.listeners.ensures ∙ listeners_at c.self.inside.sessions.entries c.args.session c.in-Some.open.now c.in-Some.ensures.value ∙ ap (λ (state : State). listeners_of state c.args.session) c.self.view_is in
     subst (λ ds. IfOk c.decide_own.result (λ decisions. decisions.made.items ≡ ds))
-    (λ i. sparse 0 (map (fate_of ((c.staying-passage.ensures.before ∙ base) i) (rules i) ((c.staying-passage.ensures.after ∙ base) i) (c.staying-passage.ensures.moment i) (who_of c.args.who)) (heard i)))
+    (λ i. sparse 0 (map (fate_of ((c.staying-passage.ensures.before ∙ base) i) (rules i) ((c.staying-passage.ensures.after ∙ base) i) (c.staying-passage.ensures.moment i) (who_of c.args.who)) (c.listeners.ensures i)))
     c.decide_own.ensures.made
 
 pub returns-clause-fits : goal.returns-clause-fits
-returns-clause-fits c =
-    let heard : c.listeners.result.now ≡ listeners_of c.args.self.now c.args.session = c.listeners.ensures ∙ listeners_at c.self.inside.sessions.entries c.args.session c.in-Some.open.now c.in-Some.ensures.value ∙ ap (λ (state : State). listeners_of state c.args.session) c.self.view_is in
-    subst (λ (ls : List Listener). IfOk c.decide_own.result (λ decisions. length ls < 2 ^ 64)) heard c.decide_own.ensures.fits
+returns-clause-fits c = subst (λ (ls : List Listener). IfOk c.decide_own.result (λ decisions. length ls < 2 ^ 64)) c.listeners.ensures c.decide_own.ensures.fits
 
 pub decide_own-requires-clause-heard : goal.decide_own-requires-clause-heard
 decide_own-requires-clause-heard c was =
@@ -36,5 +27,4 @@ decide_own-requires-clause-heard c was =
     let s = c.args.self.now in
     let base : node_or_null c.as_ref.result ≡ s.tree = base_is c.as_ref.result c.self.inside.tree c.as_ref.ensures.value ∙ ap (λ (state : State). state.tree) c.self.view_is in
     let rules : p.rules.now ≡ s.rules = c.staying-passage.ensures.rules ∙ ap (λ (state : State). state.rules) c.self.view_is in
-    let mine : c.listeners.result.now ≡ listeners_of s c.args.session = c.listeners.ensures ∙ listeners_at c.self.inside.sessions.entries c.args.session c.in-Some.open.now c.in-Some.ensures.value ∙ ap (λ (state : State). listeners_of state c.args.session) c.self.view_is in
-    subst (λ x. x) (sym (λ i. AreHeard (rules i) ((c.staying-passage.ensures.before ∙ base) i) (who_of c.args.who) (mine i))) (c.requires.heard (sym c.staying-passage.ensures.heard ∙ was))
+    subst (λ x. x) (sym (λ i. AreHeard (rules i) ((c.staying-passage.ensures.before ∙ base) i) (who_of c.args.who) (c.listeners.ensures i))) (c.requires.heard (sym c.staying-passage.ensures.heard ∙ was))

@@ -1,9 +1,9 @@
-use Rattle.std.proofs.Common.{◌∙◌, Option, ap, map, refl, sym}
-use Rattle.evaluator.specs.Identity.{Identity}
-use Rattle.listeners.specs.Table.{taken}
+use Rattle.std.proofs.Common.{◌∙◌, ◌<◌, ◌^◌, List, map, length, refl, sym, ap, subst}
+use Rattle.listeners.specs.Table.{Listener, taken}
 use Rattle.rtdb_core.specs.State.{listeners_of, identity_of}
 use Rattle.rtdb_core.specs.Step.{Outcome, with_session, news_of}
 use Rattle.rtdb_core.specs.Working.Fates.{settled, sparse, fate_of}
+use Rattle.rtdb_core.specs.Working.Heard.{AreHeard}
 use Rattle.rtdb_core.proofs.Deciding.{polled_is}
 use Rattle.rtdb_core.proofs.machine.Machine.end_poll.Goals as goal
 
@@ -12,8 +12,13 @@ returns-clause-ok c =
     let old = c.args.self.now in
     let n = c.args.session in
     let ds = c.in_ok-decisions.decisions.made.items in
-    sym (ap (λ (o : Outcome). o.after) (polled_is old c.args.now n ds (news_of old.tree (settled 0 ds (listeners_of old n))) c.hand_out.new.self c.if-not-is_open.ensures
-    (c.in_ok-decisions.ensures.made ∙ ap (λ (who : Option Identity). sparse 0 (map (fate_of old.tree old.rules old.tree c.args.now who) (listeners_of old n))) c.identity_of.ensures)
-    c.in_ok-decisions.ensures.fits
+    sym (ap (λ (o : Outcome). o.after) (polled_is old c.args.now n ds (news_of old.tree (settled 0 ds (listeners_of old n))) c.hand_out.new.self c.in-Some.ensures.open
+    (c.in_ok-decisions.ensures.made ∙ (λ i. sparse 0 (map (fate_of old.tree old.rules old.tree c.args.now ((c.identity.ensures ∙ c.in-Some.ensures.identity) i)) (c.in-Some.ensures.listeners i))))
+    (subst (λ (ls : List Listener). length ls < 2 ^ 64) c.in-Some.ensures.listeners c.in_ok-decisions.ensures.fits)
     refl
     (c.hand_out.ensures ∙ ap (λ ds. with_session old n (identity_of old n) (taken (settled 0 ds (listeners_of old n)))) c.deref.ensures.value)))
+
+pub decide_own-requires-clause-heard : goal.decide_own-requires-clause-heard
+decide_own-requires-clause-heard c _ =
+    let old = c.args.self.now in
+    subst (λ x. x) (sym (λ i. AreHeard old.rules old.tree ((c.identity.ensures ∙ c.in-Some.ensures.identity) i) (c.in-Some.ensures.listeners i))) (c.requires.heard c.args.session)
