@@ -1,4 +1,5 @@
 pub mod Texts
+pub mod Behind
 pub mod Messages
 pub mod Headers
 pub mod Members

@@ -1,10 +1,10 @@
 -- The text of news, notice by notice.
 use Rattle.std.proofs.Common.{◌≡◌, ℕ, ◌+◌, ◌<◌, Bool, false, true, List, ◌++◌, map, length, get_or, drop, sym, ap, ◌∙◌, refl, append_assoc}
-use Rattle.std.specs.Prelude.{codes, unwrap_or, Option}
+use Rattle.std.specs.Prelude.{codes, Option}
 use Rattle.json.specs.Print.{quoted}
 use Rattle.serde_json.specs.Written.{compact_text, items_text, comma_if}
 use Rattle.serde_json.proofs.OnLiterals.{serde_json_on_literals}
-use Rattle.tree_model.specs.Tree.{Tree, null}
+use Rattle.tree_model.specs.Tree.{Tree}
 use Rattle.json_tree.specs.Json.{value_of}
 use Rattle.json_tree.proofs.Lists.{drop_next}
 use Rattle.path_capture.specs.Write.{tree_or_null}
@@ -13,7 +13,6 @@ use Rattle.rtdb_core.specs.declared.news.What.TheVariants.{Gone, Now}
 use Rattle.rtdb_core.specs.declared.reply.Reply.TheVariants.{News}
 use Rattle.rtdb_core.specs.News.{gone, selected_now}
 use Rattle.messages.specs.AnswerText.{notice_data, items_of, text}
-use Rattle.messages.proofs.Texts.{tree_is}
 
 -- the notices that are left, with the closing bracket
 abbrev pub left_text : Bool → List Notice → List ℕ
@@ -62,11 +61,11 @@ named_so bytes front named all id begins goes_on closes =
     ∙ regrouped bytes (codes "{\"id\":") (quoted id) (codes ",\"value\":")
 
 pub now_told : (bytes front valued all id : List ℕ) (tree : Option Tree) (notice : Notice) → selected_now id tree ≡ notice → front ≡ bytes ++ before_value id
-    → valued ≡ front ++ compact_text (value_of (unwrap_or tree null)) → all ≡ valued ++ codes "}" → all ≡ bytes ++ compact_text (notice_data notice)
+    → valued ≡ front ++ compact_text (value_of (tree_or_null tree)) → all ≡ valued ++ codes "}" → all ≡ bytes ++ compact_text (notice_data notice)
 now_told bytes front valued all id tree notice is begins value closes =
     let text = compact_text (value_of (tree_or_null tree)) in
     closes
-    ∙ ap (λ s. s ++ codes "}") (value ∙ ap (λ t. front ++ compact_text (value_of t)) (tree_is tree))
+    ∙ ap (λ s. s ++ codes "}") value
     ∙ append_assoc front text (codes "}")
     ∙ ap (λ s. s ++ (text ++ codes "}")) begins
     ∙ append_assoc bytes (before_value id) (text ++ codes "}")
@@ -77,10 +76,12 @@ pub news_text : (notices : List Notice) → codes "{\"news\":[" ++ (left_text fa
 unfolding text serde_json_on_literals
 news_text notices = refl
 
-pub news_closed : (notices : List Notice) (front told bytes : List ℕ) → front ≡ codes "{\"news\":[" → told ++ codes "]" ≡ front ++ left_text false notices → bytes ≡ told ++ codes "],\"ok\":true}" → bytes ≡ text (News notices)
-news_closed notices front told bytes begins is closes =
+pub news_told : (notices : List Notice) (old front told all : List ℕ) → front ≡ old ++ codes "{\"news\":[" → told ++ codes "]" ≡ front ++ left_text false notices → all ≡ told ++ codes "],\"ok\":true}" → all ≡ old ++ text (News notices)
+news_told notices old front told all begins is closes =
+    let head = codes "{\"news\":[" in
     closes
     ∙ sym (append_assoc told (codes "]") (codes ",\"ok\":true}"))
     ∙ ap (λ s. s ++ codes ",\"ok\":true}") (is ∙ ap (λ s. s ++ left_text false notices) begins)
-    ∙ append_assoc (codes "{\"news\":[") (left_text false notices) (codes ",\"ok\":true}")
-    ∙ news_text notices
+    ∙ append_assoc (old ++ head) (left_text false notices) (codes ",\"ok\":true}")
+    ∙ append_assoc old head (left_text false notices ++ codes ",\"ok\":true}")
+    ∙ ap (λ s. old ++ s) (news_text notices)

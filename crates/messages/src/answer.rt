@@ -1,41 +1,40 @@
 //! Answers: the texts of replies and faults, compact JSON with the members in the order of their
 //! names, and no line feed.
-ghost use Rattle.std.specs.Prelude.{◌≡◌, option_map, IfOk};
+ghost use Rattle.std.specs.Prelude.{◌≡◌, ◌++◌, [], option_map, IfOk, OnOk};
 ghost use Rattle.serde_json.specs.View.{view};
-ghost use Rattle.serde_json.specs.Written.{compact_text};
 ghost use Rattle.messages.specs.AnswerText.{text, fault_text, rules_fault_text, bad_tokens_text, unknown_token_text, line_fault_text, accepted_text, message_code, plain_data, placed_data, accepted_data, rule_data, byte_data, what_data, rule_fault_data, rules_fault_data};
 
+use crate::answer_writer::AnswerWriter;
 use crate::ask::LineFault;
 use crate::code::Code;
 use crate::message::MessageFault;
-use crate::news::{FIRST_ROOM, with_piece, write_news};
-use crate::refusal::{put_plain, put_refusal};
-use arena_snapshot::{View, write_view};
-use json::Writer;
-use json_tree::{NoMemory, Node, write_json};
+use arena_snapshot::View;
+use json_tree::{NoMemory, Node};
 use rtdb_core::{Refusal, Reply};
 use rules_reader::{RuleFault, RuleName, RulesFault};
 use serde_json::{Value, json};
 use std::alloc::Global;
 
-/// The text of a reply, in one pass over what it has, and two over each tree in it.
+// How many bytes the text of a reply has room for at first, which most don't fill: so that it takes one growth, and
+// one that allocators keep at hand.
+const FIRST_ROOM: usize = 1_000;
+
+/// The text of a reply, in one pass over what it has.
 pub fn write_reply(alloc: Global, reply: &Reply) -> Result<Vec<u8>, NoMemory>
     ensures { IfOk result (λ bytes. bytes.items ≡ text reply.now) }
 {
-    match reply {
-        Reply::Done => done(alloc),
-        Reply::Value(tree) => write_value(alloc, tree.as_ref()),
-        Reply::News(news) => write_news(alloc, news),
-        Reply::Refused(refusal) => write_refusal(alloc, refusal),
-    }
+    let mut out = AnswerWriter::new(alloc, Vec::with_capacity(alloc, FIRST_ROOM)?);
+    out.put_reply(reply)?;
+    Ok(out.into_bytes())
 }
 
 /// The text of a fault of a message.
-#[tactic(auto, unfolding(crate::specs::AnswerText::fault_text))]
 pub fn write_fault(alloc: Global, fault: MessageFault) -> Result<Vec<u8>, NoMemory>
     ensures { IfOk result (λ bytes. bytes.items ≡ fault_text fault) }
 {
-    plain_text(alloc, code_of_message(fault))
+    let mut out = AnswerWriter::new(alloc, Vec::with_capacity(alloc, FIRST_ROOM)?);
+    out.put_fault(fault)?;
+    Ok(out.into_bytes())
 }
 
 /// The text of a fault of a rules file.
@@ -47,32 +46,6 @@ pub fn write_rules_fault(alloc: Global, fault: &RulesFault) -> Result<Vec<u8>, N
     Ok(value.to_vec(alloc)?)
 }
 
-/// The text for tokens that are none.
-#[tactic(auto, unfolding(crate::specs::AnswerText::bad_tokens_text))]
-pub fn write_bad_tokens(alloc: Global) -> Result<Vec<u8>, NoMemory>
-    ensures { IfOk result (λ bytes. bytes.items ≡ bad_tokens_text) }
-{
-    plain_text(alloc, Code::BadTokens)
-}
-
-#[tactic(auto, unfolding(crate::specs::AnswerText::unknown_token_text))]
-fn write_unknown_token(alloc: Global) -> Result<Vec<u8>, NoMemory>
-    ensures { IfOk result (λ bytes. bytes.items ≡ unknown_token_text) }
-{
-    plain_text(alloc, Code::UnknownToken)
-}
-
-/// The text for a message that asks nothing of the database.
-pub fn write_line_fault(alloc: Global, fault: &LineFault) -> Result<Vec<u8>, NoMemory>
-    ensures { IfOk result (λ bytes. bytes.items ≡ line_fault_text fault.now) }
-{
-    match fault {
-        LineFault::Message(fault) => write_fault(alloc, *fault),
-        LineFault::UnknownToken => write_unknown_token(alloc),
-        LineFault::Rules(fault) => write_rules_fault(alloc, fault),
-    }
-}
-
 /// The text of the answer to a header that is accepted, with so many rules.
 #[tactic(auto, unfolding(crate::specs::AnswerText::accepted_text), using(crate::proofs::Texts::text_of_view))]
 pub fn write_accepted(alloc: Global, count: usize) -> Result<Vec<u8>, NoMemory>
@@ -80,6 +53,108 @@ pub fn write_accepted(alloc: Global, count: usize) -> Result<Vec<u8>, NoMemory>
 {
     let value = accepted(alloc, count as u64)?;
     Ok(value.to_vec(alloc)?)
+}
+
+impl AnswerWriter {
+    /// Writes the text of a reply, in one pass over what it has.
+    pub fn put_reply(&mut self, reply: &Reply) -> Result<(), NoMemory>
+        ensures before { self.new.before ≡ self.old.before }
+        ensures text { OnOk result (self.new.text ≡ self.old.text ++ text reply.now) }
+    {
+        match reply {
+            Reply::Done => self.put_done(),
+            Reply::Value(tree) => self.put_value(tree.as_ref()),
+            Reply::News(news) => self.put_news(news),
+            Reply::Refused(refusal) => self.put_refusal(refusal),
+        }
+    }
+
+    fn put_done(&mut self) -> Result<(), NoMemory>
+        ensures before { self.new.before ≡ self.old.before }
+        ensures text { OnOk result (self.new.text ≡ self.old.text ++ text Reply.Done) }
+    {
+        self.piece(b"{\"ok\":true}")
+    }
+
+    /// Writes the text of the value that stands in a tree, in one pass over it: what a reply that has this tree
+    /// says, with no copy of it.
+    pub fn put_value(&mut self, tree: Option<&Node>) -> Result<(), NoMemory>
+        ensures before { self.new.before ≡ self.old.before }
+        ensures text { OnOk result (self.new.text ≡ self.old.text ++ text (Reply.Value (option_map (λ node. node.now) tree.entry))) }
+    {
+        self.piece(b"{\"ok\":true,\"value\":")?;
+        self.tree(tree)?;
+        self.piece(b"}")
+    }
+
+    /// Writes the text of the value that a view shows, in one pass over it: what a reply that has this tree says,
+    /// with no copy of it.
+    pub fn put_selected(&mut self, view: Option<&View>) -> Result<(), NoMemory>
+        ensures before { self.new.before ≡ self.old.before }
+        ensures text { OnOk result (self.new.text ≡ self.old.text ++ text (Reply.Value (option_map (λ view. view.now) view.entry))) }
+    {
+        self.piece(b"{\"ok\":true,\"value\":")?;
+        self.view(view)?;
+        self.piece(b"}")
+    }
+
+    /// Writes the text of a refusal, in one pass over what it names.
+    #[tactic(auto, unfolding(crate::specs::AnswerText::text))]
+    pub fn put_refusal(&mut self, refusal: &Refusal) -> Result<(), NoMemory>
+        ensures before { self.new.before ≡ self.old.before }
+        ensures text { OnOk result (self.new.text ≡ self.old.text ++ text (Reply.Refused refusal.now)) }
+    {
+        self.refusal(refusal)
+    }
+
+    /// Writes the text for a message that asks nothing of the database.
+    #[tactic(auto, unfolding(crate::specs::AnswerText::unknown_token_text))]
+    pub fn put_line_fault(&mut self, fault: &LineFault) -> Result<(), NoMemory>
+        ensures before { self.new.before ≡ self.old.before }
+        ensures text { OnOk result (self.new.text ≡ self.old.text ++ line_fault_text fault.now) }
+    {
+        match fault {
+            LineFault::Message(fault) => self.put_fault(*fault),
+            LineFault::UnknownToken => self.plain(Code::UnknownToken),
+            LineFault::Rules(fault) => self.put_rules_fault(fault),
+        }
+    }
+
+    /// Writes the text of a fault of a message.
+    #[tactic(auto, unfolding(crate::specs::AnswerText::fault_text))]
+    pub fn put_fault(&mut self, fault: MessageFault) -> Result<(), NoMemory>
+        ensures before { self.new.before ≡ self.old.before }
+        ensures text { OnOk result (self.new.text ≡ self.old.text ++ fault_text fault) }
+    {
+        self.plain(code_of_message(fault))
+    }
+
+    /// Writes the text of a fault of a rules file, which is made first.
+    pub fn put_rules_fault(&mut self, fault: &RulesFault) -> Result<(), NoMemory>
+        ensures before { self.new.before ≡ self.old.before }
+        ensures text { OnOk result (self.new.text ≡ self.old.text ++ rules_fault_text fault.now) }
+    {
+        let text = write_rules_fault(self.alloc(), fault)?;
+        self.piece(&text)
+    }
+
+    /// Writes the text for tokens that are none.
+    #[tactic(auto, unfolding(crate::specs::AnswerText::bad_tokens_text))]
+    pub fn put_bad_tokens(&mut self) -> Result<(), NoMemory>
+        ensures before { self.new.before ≡ self.old.before }
+        ensures text { OnOk result (self.new.text ≡ self.old.text ++ bad_tokens_text) }
+    {
+        self.plain(Code::BadTokens)
+    }
+
+    /// Writes the text of the answer to a header that is accepted, with so many rules; it is made first.
+    pub fn put_accepted(&mut self, count: usize) -> Result<(), NoMemory>
+        ensures before { self.new.before ≡ self.old.before }
+        ensures text { OnOk result (self.new.text ≡ self.old.text ++ accepted_text count) }
+    {
+        let text = write_accepted(self.alloc(), count)?;
+        self.piece(&text)
+    }
 }
 
 fn accepted(alloc: Global, count: u64) -> Result<Value, NoMemory>
@@ -101,56 +176,6 @@ fn code_of_message(fault: MessageFault) -> Code
         MessageFault::BadQuery => Code::BadQuery,
         MessageFault::NoMemory => Code::NoMemory,
     }
-}
-
-#[tactic(auto, using(crate::proofs::Texts::done_text))]
-fn done(alloc: Global) -> Result<Vec<u8>, NoMemory>
-    ensures { IfOk result (λ bytes. bytes.items ≡ text Reply.Done) }
-{
-    Ok(Vec::from_slice(alloc, b"{\"ok\":true}")?)
-}
-
-/// The text of the value that stands in a tree, in two passes over it: what a reply that has this tree
-/// says, with no copy of it.
-pub fn write_value(alloc: Global, tree: Option<&Node>) -> Result<Vec<u8>, NoMemory>
-    ensures { IfOk result (λ bytes. bytes.items ≡ text (Reply.Value (option_map (λ node. node.now) tree.entry))) }
-{
-    let room = Vec::with_capacity(alloc, FIRST_ROOM)?;
-    let front = with_piece(room, b"{\"ok\":true,\"value\":")?;
-    let mut bytes = write_json(front, tree)?;
-    bytes.push(b'}')?;
-    Ok(bytes)
-}
-
-/// The text of the value that a view shows, in one pass over it: what a reply that has this tree says, with no
-/// copy of it.
-pub fn write_selected(alloc: Global, view: Option<&View>) -> Result<Vec<u8>, NoMemory>
-    ensures { IfOk result (λ bytes. bytes.items ≡ text (Reply.Value (option_map (λ view. view.now) view.entry))) }
-{
-    let room = Vec::with_capacity(alloc, FIRST_ROOM)?;
-    let front = with_piece(room, b"{\"ok\":true,\"value\":")?;
-    let mut bytes = write_view(front, view)?;
-    bytes.push(b'}')?;
-    Ok(bytes)
-}
-
-/// The text of a refusal, in one pass over what it names.
-#[tactic(auto, unfolding(crate::specs::AnswerText::text))]
-pub fn write_refusal(alloc: Global, refusal: &Refusal) -> Result<Vec<u8>, NoMemory>
-    ensures { IfOk result (λ bytes. bytes.items ≡ text (Reply.Refused refusal.now)) }
-{
-    let mut out = Writer::new(Vec::with_capacity(alloc, FIRST_ROOM)?);
-    put_refusal(alloc, &mut out, refusal)?;
-    Ok(out.into_inner())
-}
-
-// The text of a refusal with no further member.
-fn plain_text(alloc: Global, code: Code) -> Result<Vec<u8>, NoMemory>
-    ensures { IfOk result (λ bytes. bytes.items ≡ compact_text (plain_data code)) }
-{
-    let mut out = Writer::new(Vec::with_capacity(alloc, FIRST_ROOM)?);
-    put_plain(&mut out, code)?;
-    Ok(out.into_inner())
 }
 
 fn value_of_rules_fault(alloc: Global, fault: &RulesFault) -> Result<Value, NoMemory>

@@ -159,15 +159,17 @@ fn said_from<'a>(alloc: Global, reader: &mut Reader<'a>, token: Token<'a>) -> Op
     }
 }
 
-/// What the last member of this name is: a look at each.
+/// What the last member of this name is: a look at each from the last one on, up to it.
 pub(crate) fn part_at<'a>(members: &'a [Member<'a>], name: &str) -> Option<Part<'a>>
     ensures { option_map part_data result ≡ get_member name.now (put_all members.now no_members) }
 {
-    let mut found = None;
-    for member in members {
+    let mut left = members.len();
+    'members: while left > 0 {
+        left -= 1;
+        let member = &members[left];
         if member.name == name {
-            found = Some(member.said.part());
+            return Some(member.said.part());
         }
     }
-    found
+    None
 }

@@ -1,16 +1,35 @@
-use Rattle.std.proofs.Common.{◌∙◌, Some, sym, ap, option_map}
-use Rattle.messages.specs.Working.Outline.{part_data}
+use Rattle.std.proofs.Common.{◌≡◌, ◌+◌, ◌-◌, ◌<◌, length, take, Some, sym, ap, ◌∙◌, arith}
+use Rattle.serde_json.specs.Data.{no_members}
+use Rattle.serde_json.specs.Find.{get_member}
+use Rattle.messages.specs.Working.Outline.{put_all}
 use Rattle.messages.proofs.Outlines.{said_here, said_before}
 use Rattle.messages.proofs.outline.part_at.Goals as goal
-use Rattle.messages.proofs.outline.part_at.Goals.{then-eq, else-eq}
 
-pub loop-member-preserved : goal.loop-member-preserved
-loop-member-preserved c =
+pub returns-then-eq : goal.returns-then-eq
+returns-then-eq c =
     let ms = c.args.members.now in
-    let i = c.loop-member.member-index in
-    let m = c.member-item.result in
     let name = c.args.name.now in
-    elim c.if-eq.branch [
-      | then-eq w ↦ ap (option_map part_data) w.found-is ∙ ap (λ d. Some d) w.part.ensures ∙ sym (said_here ms i m name c.loop-member-test.true c.member-item.is (sym c.eq.ensures ∙ w.if-eq.true))
-      | else-eq w ↦ ap (option_map part_data) w.found-is ∙ c.loop-member.invariant ∙ sym (said_before ms i m name c.loop-member-test.true c.member-item.is (sym c.eq.ensures ∙ w.if-eq.false))
-    ]
+    let i = c.members.left - 1 in
+    let some = c.members-test.true in
+    let fits = c.members.invariant.0 in
+    let within : i < length ms = omega (arith, some, fits) in
+    let back : i + 1 ≡ c.members.left = omega (arith, some) in
+    ap (λ d. Some d) c.part.ensures
+    ∙ sym (said_here ms i c.index-members-left.result name within c.index-members-left.is (sym c.eq.ensures ∙ c.if-eq.true))
+    ∙ ap (λ n. get_member name (put_all (take n ms) no_members)) back
+    ∙ c.members.invariant.1
+
+pub members-preserved : goal.members-preserved
+members-preserved c =
+    let ms = c.args.members.now in
+    let name = c.args.name.now in
+    let i = c.members.left - 1 in
+    let some = c.members-test.true in
+    let fits = c.members.invariant.0 in
+    let within : i < length ms = omega (arith, some, fits) in
+    let back : i + 1 ≡ c.members.left = omega (arith, some) in (
+      omega (arith, fits),
+      sym (said_before ms i c.index-members-left.result name within c.index-members-left.is (sym c.eq.ensures ∙ c.if-eq.false))
+          ∙ ap (λ n. get_member name (put_all (take n ms) no_members)) back
+          ∙ c.members.invariant.1,
+    )

@@ -1,8 +1,14 @@
-use Rattle.std.proofs.Common.{◌≡◌, take, option_map}
+use Rattle.std.proofs.Common.{◌≡◌, ◌≤◌, length, take}
 use Rattle.serde_json.specs.Data.{no_members}
 use Rattle.serde_json.specs.Find.{get_member}
-use Rattle.messages.specs.Working.Outline.{part_data, put_all}
+use Rattle.messages.specs.Working.Outline.{put_all}
 use Rattle.messages.proofs.outline.part_at.Given as goal
 
-abbrev pub invariant-loop-member : goal.invariant-loop-member
-invariant-loop-member l = option_map part_data l.found ≡ get_member l.name (put_all (take l.member-index l.members) no_members)
+-- those that are left say of the name what all do
+abbrev pub invariant-members : goal.invariant-members
+invariant-members l =
+    (l.left ≤ length l.members)
+    × (get_member l.name (put_all (take l.left l.members) no_members) ≡ get_member l.name (put_all l.members no_members))
+
+abbrev pub decreases-members : goal.decreases-members
+decreases-members l = l.left

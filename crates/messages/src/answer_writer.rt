@@ -1,0 +1,162 @@
+//! An answer that is being written behind others.
+ghost use Rattle.std.specs.Prelude.{◌≡◌, ◌++◌, [], option_map, OnOk};
+ghost use Rattle.json.specs.Print.{quoted};
+ghost use Rattle.json.specs.Tree.{json_tokens};
+ghost use Rattle.serde_json.specs.Written.{outline, compact_text};
+ghost use Rattle.json_tree.specs.Json.{value_of};
+ghost use Rattle.path_capture.specs.Write.{tree_or_null};
+ghost use Rattle.messages.specs.AnswerText.{plain_data, refusal_data};
+
+use crate::code::Code;
+use crate::refusal::{put_plain, put_refusal};
+use arena_snapshot::{View, write_tree};
+use json::Writer;
+use json_tree::{NoMemory, Node, write_node};
+use rtdb_core::Refusal;
+use std::alloc::{AllocError, Global};
+use std::marker::Model;
+use std::mem::replace;
+
+/// What writes an answer behind bytes that stand before it, such as earlier answers, and that stay as they are.
+/// Where memory is wanted, a front of the answer may have been written. Contracts see what stands before it, and
+/// its text so far.
+#[derive(Drop)]
+pub struct AnswerWriter {
+    alloc: Global,
+    bytes: Vec<u8>,
+    // How many bytes stand before the answer.
+    start: usize,
+}
+
+impl Model for AnswerWriter {
+    ghost use Rattle.std.specs.Prelude.{◌≤◌, drop, length, take};
+    ghost use Rattle.messages.specs.AnswerSoFar.{AnswerSoFar, answer_code};
+
+    ghost Value = { AnswerSoFar };
+
+    ghost coded = { answer_code };
+
+    ghost view = { λ writer. record { before = take writer.start writer.bytes.items; text = drop writer.start writer.bytes.items } };
+
+    ghost invariant = { λ writer. writer.start ≤ length writer.bytes.items };
+}
+
+impl AnswerWriter {
+    /// What writes an answer behind these bytes. It takes no memory.
+    pub fn new(alloc: Global, bytes: Vec<u8>) -> AnswerWriter
+        ensures before { result.before ≡ bytes.items }
+        ensures text { result.text ≡ [] }
+    {
+        let start = bytes.len();
+        AnswerWriter {
+            alloc,
+            bytes,
+            start,
+        }
+    }
+
+    /// The bytes that stand before the answer, and its text.
+    pub fn into_bytes(self) -> Vec<u8>
+        ensures { result.items ≡ self.before ++ self.text }
+    {
+        let AnswerWriter { bytes, .. } = self;
+        bytes
+    }
+
+    /// Takes back what is written of the answer.
+    pub fn clear(&mut self)
+        ensures before { self.new.before ≡ self.old.before }
+        ensures text { self.new.text ≡ [] }
+    {
+        self.bytes.truncate(self.start);
+    }
+
+    /// The allocator that it keeps.
+    pub(crate) fn alloc(&self) -> Global {
+        self.alloc
+    }
+
+    /// Writes these bytes.
+    pub(crate) fn piece(&mut self, piece: &[u8]) -> Result<(), NoMemory>
+        ensures before { self.new.before ≡ self.old.before }
+        ensures text { OnOk result (self.new.text ≡ self.old.text ++ piece.now) }
+    {
+        self.bytes.extend_from_slice(piece)?;
+        Ok(())
+    }
+
+    /// Writes a text as JSON has it.
+    pub(crate) fn string(&mut self, text: &str) -> Result<(), NoMemory>
+        ensures before { self.new.before ≡ self.old.before }
+        ensures text { OnOk result (self.new.text ≡ self.old.text ++ quoted text.now) }
+    {
+        let mut out = Writer::new(replace(&mut self.bytes, Vec::new(self.alloc)));
+        let written = out.string(text);
+        self.bytes = out.into_inner();
+        Ok(written?)
+    }
+
+    /// Writes the value of a tree, null for None.
+    pub(crate) fn tree(&mut self, tree: Option<&Node>) -> Result<(), NoMemory>
+        ensures before { self.new.before ≡ self.old.before }
+        ensures text { OnOk result (self.new.text ≡ self.old.text ++ compact_text (value_of (tree_or_null (option_map (λ node. node.now) tree.entry)))) }
+    {
+        let mut out = Writer::new(replace(&mut self.bytes, Vec::new(self.alloc)));
+        let written = write_some_node(&mut out, tree);
+        self.bytes = out.into_inner();
+        Ok(written?)
+    }
+
+    /// Writes the value of the tree that a view shows, null for None.
+    pub(crate) fn view(&mut self, view: Option<&View>) -> Result<(), NoMemory>
+        ensures before { self.new.before ≡ self.old.before }
+        ensures text { OnOk result (self.new.text ≡ self.old.text ++ compact_text (value_of (tree_or_null (option_map (λ view. view.now) view.entry)))) }
+    {
+        let mut out = Writer::new(replace(&mut self.bytes, Vec::new(self.alloc)));
+        let written = write_some_view(&mut out, view);
+        self.bytes = out.into_inner();
+        Ok(written?)
+    }
+
+    /// Writes a refusal of the database.
+    pub(crate) fn refusal(&mut self, refusal: &Refusal) -> Result<(), NoMemory>
+        ensures before { self.new.before ≡ self.old.before }
+        ensures text { OnOk result (self.new.text ≡ self.old.text ++ compact_text (refusal_data refusal.now)) }
+    {
+        let mut out = Writer::new(replace(&mut self.bytes, Vec::new(self.alloc)));
+        let written = put_refusal(self.alloc, &mut out, refusal);
+        self.bytes = out.into_inner();
+        written
+    }
+
+    /// Writes a refusal with no further member.
+    pub(crate) fn plain(&mut self, code: Code) -> Result<(), NoMemory>
+        ensures before { self.new.before ≡ self.old.before }
+        ensures text { OnOk result (self.new.text ≡ self.old.text ++ compact_text (plain_data code)) }
+    {
+        let mut out = Writer::new(replace(&mut self.bytes, Vec::new(self.alloc)));
+        let written = put_plain(&mut out, code);
+        self.bytes = out.into_inner();
+        written
+    }
+}
+
+fn write_some_node(out: &mut Writer, tree: Option<&Node>) -> Result<(), AllocError>
+    ensures before { out.new.before ≡ out.old.before }
+    ensures tokens { OnOk result (out.new.tokens ≡ out.old.tokens ++ json_tokens (outline (value_of (tree_or_null (option_map (λ node. node.now) tree.entry))))) }
+{
+    match tree {
+        Some(node) => write_node(out, node),
+        None => out.null(),
+    }
+}
+
+fn write_some_view(out: &mut Writer, view: Option<&View>) -> Result<(), AllocError>
+    ensures before { out.new.before ≡ out.old.before }
+    ensures tokens { OnOk result (out.new.tokens ≡ out.old.tokens ++ json_tokens (outline (value_of (tree_or_null (option_map (λ view. view.now) view.entry))))) }
+{
+    match view {
+        Some(view) => write_tree(out, view),
+        None => out.null(),
+    }
+}
