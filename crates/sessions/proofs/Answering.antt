@@ -20,13 +20,13 @@ use Rattle.sessions.specs.Working.Follow.{bytes_of, AnswersAt}
 abbrev Says : State → Result Asked LineFault → State → List ℕ → Type 0
 Says old message new out = (said : List ℕ) × IsAnsweredBy old message said new × (out ≡ as_line said)
 
-pub IfOk-AnswersAt : {E : Type 0} (result : Result Answer E) (tokens : Tokens) (line : List ℕ) (old new : State) (message : Result Asked LineFault) → IsAsked tokens Script line message → IfOk result (λ answer. Says old message new (bytes_of answer)) → IfOk result (λ answer. AnswersAt (running tokens old) line (running tokens new) (bytes_of answer))
-IfOk-AnswersAt result tokens line old new message asked =
-    IfOk-weaker result (λ answer. Says old message new (bytes_of answer)) (λ answer. AnswersAt (running tokens old) line (running tokens new) (bytes_of answer)) (λ answer s. (s.0, new, (message, asked, s.1), refl, s.2))
+pub IfOk-AnswersAt : {E : Type 0} (result : Result Answer E) (tokens : Tokens) (line : List ℕ) (old new : State) (message : Result Asked LineFault) (text : List ℕ) → IsAsked tokens Script line message → IfOk result (λ answer. Says old message new (bytes_of answer text)) → IfOk result (λ answer. AnswersAt (running tokens old) line (running tokens new) (bytes_of answer text))
+IfOk-AnswersAt result tokens line old new message text asked =
+    IfOk-weaker result (λ answer. Says old message new (bytes_of answer text)) (λ answer. AnswersAt (running tokens old) line (running tokens new) (bytes_of answer text)) (λ answer s. (s.0, new, (message, asked, s.1), refl, s.2))
 
-pub IfOk-AnswersAt-fault : {E : Type 0} (result : Result Answer E) (tokens : Tokens) (line : List ℕ) (state : State) (fault : LineFault) → IsAsked tokens Script line (Err fault) → IfOk result (λ answer. bytes_of answer ≡ as_line (line_fault_text fault)) → IfOk result (λ answer. AnswersAt (running tokens state) line (running tokens state) (bytes_of answer))
-IfOk-AnswersAt-fault result tokens line state fault asked =
-    IfOk-weaker result (λ answer. bytes_of answer ≡ as_line (line_fault_text fault)) (λ answer. AnswersAt (running tokens state) line (running tokens state) (bytes_of answer)) (λ answer e. (line_fault_text fault, state, (Err fault, asked, (refl, refl)), refl, e))
+pub IfOk-AnswersAt-fault : {E : Type 0} (result : Result Answer E) (tokens : Tokens) (line : List ℕ) (state : State) (fault : LineFault) (text : List ℕ) → IsAsked tokens Script line (Err fault) → IfOk result (λ answer. bytes_of answer text ≡ as_line (line_fault_text fault)) → IfOk result (λ answer. AnswersAt (running tokens state) line (running tokens state) (bytes_of answer text))
+IfOk-AnswersAt-fault result tokens line state fault text asked =
+    IfOk-weaker result (λ answer. bytes_of answer text ≡ as_line (line_fault_text fault)) (λ answer. AnswersAt (running tokens state) line (running tokens state) (bytes_of answer text)) (λ answer e. (line_fault_text fault, state, (Err fault, asked, (refl, refl)), refl, e))
 
 -- a header that is accepted
 pub AnswersAt-accepted : (line : List ℕ) (opened : Opened) (out : List ℕ) → Opens line (Ok opened) → out ≡ as_line (accepted_text (length (rules opened.core.rules))) → AnswersAt unopened line (running opened.tokens opened.core) out

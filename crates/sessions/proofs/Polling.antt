@@ -1,8 +1,6 @@
 -- A poll that is answered in parts.
 use Rattle.std.proofs.Common.{◌≡◌, ℕ, true, not, List, inl, inr, sym, ap, subst, refl}
-use Rattle.std.proofs.lemmas.Result.{IfOk-weaker}
-use Rattle.std.specs.Prelude.{Result, Ok, IfOk}
-use Rattle.json_tree.specs.declared.memory.NoMemory.{NoMemory}
+use Rattle.std.specs.Prelude.{Ok}
 use Rattle.messages.specs.AnswerText.{text}
 use Rattle.messages.specs.declared.message.Stamp.{Stamp}
 use Rattle.rtdb_core.specs.State.{State, is_open}
@@ -11,9 +9,7 @@ use Rattle.rtdb_core.specs.declared.event.Event.TheVariants.{Poll}
 use Rattle.rtdb_core.specs.declared.news.Notice.{Notice}
 use Rattle.rtdb_core.specs.declared.reply.Reply.TheVariants.{News, Refused}
 use Rattle.rtdb_core.specs.declared.reply.Refusal.TheVariants as refusals
-use Rattle.sessions.specs.declared.respond.Answer.{Answer}
-use Rattle.sessions.specs.Said.{as_line, IsAnsweredBy}
-use Rattle.sessions.specs.Working.Follow.{bytes_of}
+use Rattle.sessions.specs.Said.{IsAnsweredBy}
 
 -- what is told and what it changes are a step
 pub told : (old new : State) (now session : ℕ) (notices : List Notice) → (polls old now session).reply ≡ News notices → new ≡ (polls old now session).after → Step old now session Poll (News notices) new
@@ -25,8 +21,5 @@ pub wanting : (old : State) (now session : ℕ) → is_open old session ≡ true
 unfolding Step
 wanting old now session opened = inr (refl, refl, ap not opened)
 
-pub IfOk-wanting : (old new : State) (stamp : Stamp) (result : Result Answer NoMemory) → is_open old stamp.session ≡ true → new ≡ old → IfOk result (λ answer. bytes_of answer ≡ as_line (text (Refused refusals.NoMemory)))
-    → IfOk result (λ answer. (said : List ℕ) × IsAnsweredBy old (Ok (record { stamp = stamp; event = Poll })) said new × (bytes_of answer ≡ as_line said))
-IfOk-wanting old new stamp result opened same =
-    let step : Step old stamp.now stamp.session Poll (Refused refusals.NoMemory) new = subst (Step old stamp.now stamp.session Poll (Refused refusals.NoMemory)) (sym same) (wanting old stamp.now stamp.session opened) in
-    IfOk-weaker result (λ answer. bytes_of answer ≡ as_line (text (Refused refusals.NoMemory))) (λ answer. (said : List ℕ) × IsAnsweredBy old (Ok (record { stamp = stamp; event = Poll })) said new × (bytes_of answer ≡ as_line said)) (λ answer is. (text (Refused refusals.NoMemory), (Refused refusals.NoMemory, step, refl), is))
+pub want_answered : (old new : State) (stamp : Stamp) → is_open old stamp.session ≡ true → new ≡ old → IsAnsweredBy old (Ok (record { stamp = stamp; event = Poll })) (text (Refused refusals.NoMemory)) new
+want_answered old new stamp opened same = (Refused refusals.NoMemory, subst (Step old stamp.now stamp.session Poll (Refused refusals.NoMemory)) (sym same) (wanting old stamp.now stamp.session opened), refl)

@@ -1,18 +1,18 @@
 //! Where lines are answered, one at a time, and their answers put behind one another.
-ghost use Rattle.std.specs.Prelude.{◌≡◌, ◌≢◌, ℕ, ◌++◌, ◌∷◌, [], false, List, IfOk, IfErr, OnOk, MatchResult};
+ghost use Rattle.std.specs.Prelude.{◌≡◌, ◌≢◌, ℕ, ◌++◌, ◌∷◌, [], false, List, IfOk, IfErr, OnOk, OnErr, MatchResult};
 ghost use Rattle.sessions.specs.Lines.{non_blank};
 ghost use Rattle.sessions.specs.Working.Sent.{tells, Passes};
 ghost use Rattle.sessions.specs.Said.{unopened, refused, IsWritten};
 ghost use Rattle.sessions.specs.declared.desk.Stop.TheVariants.{NoMemory as no_memory, WriteFault as write_fault};
 ghost use Rattle.sessions.specs.Working.Parts.{ShowsFront};
-ghost use Rattle.sessions.specs.Working.Follow.{phase_of, AnswersAt, StopsAt, HasAnswered, StopsAfter};
+ghost use Rattle.sessions.specs.Working.Follow.{phase_of, rest_of, AnswersAt, StopsAt, HasAnswered, StopsAfter};
 
 use crate::outgoing::Outgoing;
-use crate::respond::{Stage, respond};
+use crate::respond::{Answer, Stage, respond};
 use crate::stream::{Broken, Sink};
 use bumpalo::Bump;
 use json_tree::NoMemory;
-use messages::MessageReader;
+use messages::{AnswerWriter, MessageReader};
 use std::alloc::Global;
 
 /// Why a script stops before the end of its input.
@@ -109,11 +109,36 @@ impl Desk {
         ensures going { OnOk result (phase_of self.new.stage ≢ refused) }
         ensures sound { MatchResult result (λ _. W.failed sink.new ≡ W.failed sink.old) (λ stop. stop ≢ Stop.WriteFault → W.failed sink.new ≡ W.failed sink.old) }
     {
-        let answer = respond(self.alloc, &mut self.reader, &mut self.stage, arena, line)?;
-        self.outgoing.put(sink, answer.as_slice())?;
+        let answer = self.respond(arena, line)?;
+        self.outgoing.put(sink, answer.rest())?;
         match &self.stage {
             Stage::Refused => Err(Stop::BadHeader),
             _ => Ok(()),
         }
+    }
+
+    // Answers a line that is not blank. What is written of the answer stands behind what was kept; for want of memory
+    // nothing does.
+    fn respond(&mut self, arena: &mut Bump, line: &[u8]) -> Result<Answer, NoMemory>
+        requires { phase_of self.old.stage ≢ refused }
+        ensures ok { IfOk result (λ answer. (out : List ℕ) × AnswersAt (phase_of self.old.stage) line.now (phase_of self.new.stage) out
+            × (self.new.outgoing.bytes.items ++ rest_of answer ≡ self.old.outgoing.bytes.items ++ out)) }
+        ensures going { OnErr result (phase_of self.new.stage ≢ refused) }
+        ensures kept { OnErr result (self.new.outgoing.bytes.items ≡ self.old.outgoing.bytes.items) }
+    {
+        let mut out = AnswerWriter::new(self.alloc, self.outgoing.lend(self.alloc));
+        let answer = respond(
+            self.alloc,
+            &mut self.reader,
+            &mut self.stage,
+            arena,
+            line,
+            &mut out,
+        );
+        if !matches!(answer, Ok(Answer::Written)) {
+            out.clear();
+        }
+        self.outgoing.put_back(out.into_bytes());
+        answer
     }
 }

@@ -1,37 +1,54 @@
 //! Text on its way to a sink, which is kept until there is much of it.
-ghost use Rattle.std.specs.Prelude.{◌≡◌, ℕ, List, ◌≤◌, ◌++◌, [], true, false, vec_len, vec_capacity, IfOk, OnOk, OnErr, MatchResult};
+ghost use Rattle.std.specs.Prelude.{◌≡◌, ℕ, List, ◌++◌, [], true, false, IfOk, OnOk, OnErr, MatchResult};
 ghost use Rattle.std.specs.Io.KnownBytes.{Appends};
-ghost use Rattle.sessions.specs.declared.outgoing.TheConstants.{MAX_KEPT_BYTES};
 ghost use Rattle.sessions.specs.Working.Sent.{Passes, Breaks};
 
 use crate::stream::{Broken, Sink};
 use json_tree::NoMemory;
 use std::alloc::Global;
+use std::mem::replace;
 
-/// How many bytes are kept at most, 64 KiB: so much goes to the sink by one write, and not each line
-/// by its own.
+/// How many bytes are kept at most between two answers, 64 KiB: so much goes to the sink by one write, and not each
+/// line by its own.
 pub const MAX_KEPT_BYTES: usize = 65_536;
 
-/// Text on its way to a sink. All its memory is taken when it is made.
+// For how many bytes there is room: for all that is kept, and for most answers behind it.
+const ROOM_BYTES: usize = 98_304;
+
+/// Text on its way to a sink. It takes 96 KiB when it is made, and more only for an answer that wants more, which
+/// is given back when that is written.
 #[derive(Drop)]
 pub struct Outgoing {
     bytes: Vec<u8>,
-    ghost room: { MAX_KEPT_BYTES ≤ vec_capacity bytes },
-    ghost fits: { vec_len bytes ≤ MAX_KEPT_BYTES },
 }
 
 impl Outgoing {
-    /// Nothing on its way, with room for 65,536 bytes.
+    /// Nothing on its way, with room for 98,304 bytes.
     pub fn new(alloc: Global) -> Result<Outgoing, NoMemory>
         ensures { IfOk result (λ outgoing. outgoing.bytes.items ≡ []) }
     {
         Ok(Outgoing {
-            bytes: Vec::with_capacity(alloc, MAX_KEPT_BYTES)?,
+            bytes: Vec::with_capacity(alloc, ROOM_BYTES)?,
         })
     }
 
-    /// Puts a text behind what is kept, which is written before if both are too long together. A text
-    /// that is itself too long is written at once. After an error all that was kept is lost.
+    /// Lends what is kept to whom writes behind it, and gets it back by [`Outgoing::put_back`].
+    pub fn lend(&mut self, alloc: Global) -> Vec<u8>
+        ensures lent { result.items ≡ self.old.bytes.items }
+        ensures none { self.new.bytes.items ≡ [] }
+    {
+        replace(&mut self.bytes, Vec::new(alloc))
+    }
+
+    /// Keeps these bytes, and nothing else.
+    pub fn put_back(&mut self, bytes: Vec<u8>)
+        ensures { self.new.bytes.items ≡ bytes.items }
+    {
+        self.bytes = bytes;
+    }
+
+    /// Puts a text behind what is kept, and writes all of it where there is much of it by then, or where there is no
+    /// room for the text. After an error all that was kept is lost.
     pub fn put<W: Sink>(&mut self, sink: &mut W, text: &[u8]) -> Result<(), Broken>
         requires { W.failed sink.old ≡ false }
         ensures ok { OnOk result (Passes (W.written sink.old) (W.written sink.new)
@@ -40,18 +57,15 @@ impl Outgoing {
             (self.old.bytes.items ++ text.now)) }
         ensures failed { MatchResult result (λ _. W.failed sink.new ≡ W.failed sink.old) (λ _. W.failed sink.new ≡ true) }
     {
-        if MAX_KEPT_BYTES - self.bytes.len() < text.len() {
+        if self.bytes.extend_from_slice(text).is_err() {
             self.send(sink)?;
-            if MAX_KEPT_BYTES < text.len() {
-                write_all(sink, text)?;
-                return Ok(());
-            }
+            write_all(sink, text)?;
+            return Ok(());
         }
-        // It fits: there is room for `MAX_KEPT_BYTES`, so this never fails.
-        match self.bytes.extend_from_slice(text) {
-            Ok(()) => Ok(()),
-            Err(_) => Err(Broken),
+        if self.bytes.len() > MAX_KEPT_BYTES {
+            self.send(sink)?;
         }
+        Ok(())
     }
 
     /// Writes all that is kept, so that nothing is, and flushes the sink. After an error it is lost.
@@ -76,6 +90,7 @@ impl Outgoing {
     {
         let result = write_all(sink, &self.bytes);
         self.bytes.clear();
+        self.bytes.shrink_to(ROOM_BYTES);
         result
     }
 }

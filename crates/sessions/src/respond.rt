@@ -1,8 +1,8 @@
 //! What a line is answered: a header by its acceptance or its refusal, a request by a reply.
-ghost use Rattle.std.specs.Prelude.{◌≡◌, ◌≢◌, ◌≤◌, ℕ, List, Ok, Some, None, option_map, IfOk, IsOk, OnErr};
+ghost use Rattle.std.specs.Prelude.{◌≡◌, ◌≢◌, ◌≤◌, ℕ, List, [], Ok, Some, None, option_map, IfOk, IsOk, OnErr};
 ghost use Rattle.messages.specs.AnswerText.{text, fault_text, rules_fault_text, line_fault_text};
 ghost use Rattle.sessions.specs.Said.{unopened, refused, running, as_line, IsAnsweredBy, header_fault_text};
-ghost use Rattle.sessions.specs.Working.Follow.{phase_of, bytes_of, AnswersAt};
+ghost use Rattle.sessions.specs.Working.Follow.{phase_of, bytes_of, rest_of, AnswersAt};
 ghost use Rattle.rtdb_core.specs.declared.reply.Reply.TheVariants as replies;
 ghost use Rattle.rtdb_core.specs.declared.reply.Refusal.TheVariants as refusals;
 ghost use Rattle.rules_reader.specs.declared.fault.RulesFault.TheVariants as rules_faults;
@@ -12,9 +12,8 @@ use bumpalo::Bump;
 use json_tree::NoMemory;
 use listeners::Query;
 use messages::{
-    Asked, Form, HeaderFault, LineFault, MessageFault, MessageReader, Opened, Stamp, read_header,
-    write_accepted, write_bad_tokens, write_fault, write_line_fault, write_refusal, write_reply,
-    write_rules_fault, write_selected, write_tidings, write_value,
+    AnswerWriter, Asked, Form, HeaderFault, LineFault, MessageFault, MessageReader, Opened, Stamp,
+    read_header,
 };
 use path_capture::Path;
 use rtdb_core::{Core, Event, MAX_MOMENT, Refusal, Reply};
@@ -33,267 +32,315 @@ pub enum Stage {
 }
 
 /// An answer, as a line of the output with its line feed.
-#[derive(Debug, Drop)]
+#[derive(Clone, Copy, Debug)]
 pub enum Answer {
     /// It was done.
     Done,
     /// Memory was wanted.
     NoMemory,
-    /// Any other, written out.
-    Written(Vec<u8>),
+    /// Any other, whose text is written.
+    Written,
 }
 
 impl Answer {
-    /// The bytes of the answer. Those of `Done` and `NoMemory` are constants, so that neither takes
-    /// memory.
-    pub fn as_slice(&self) -> &[u8]
-        ensures { result.now ≡ bytes_of self.now }
+    /// What of the answer is not written yet. Those of `Done` and `NoMemory` are whole lines and constants, so that
+    /// neither takes memory.
+    pub fn rest(self) -> &'static [u8]
+        ensures { result.now ≡ rest_of self }
     {
         match self {
             Answer::Done => done_line(),
             Answer::NoMemory => no_memory_line(),
-            Answer::Written(bytes) => bytes.as_slice(),
+            Answer::Written => b"\n",
         }
     }
 }
 
 /// Answers a line that is not blank: the header, where there is no database yet, else a request. An
-/// error is want of memory for the answer's text, and the request may have been done.
+/// error is want of memory for the answer's text, and the request may have been done. Only where the answer says
+/// so is what was written its text.
 pub fn respond(
     alloc: Global,
     reader: &mut MessageReader,
     stage: &mut Stage,
     arena: &mut Bump,
     line: &[u8],
+    out: &mut AnswerWriter,
 ) -> Result<Answer, NoMemory>
-    requires { phase_of stage.old ≢ refused }
-    ensures ok { IfOk result (λ answer. AnswersAt (phase_of stage.old) line.now (phase_of stage.new) (bytes_of answer)) }
+    requires going { phase_of stage.old ≢ refused }
+    requires none { out.old.text ≡ [] }
+    ensures before { out.new.before ≡ out.old.before }
+    ensures ok { IfOk result (λ answer. AnswersAt (phase_of stage.old) line.now (phase_of stage.new) (bytes_of answer out.new.text)) }
     ensures err { OnErr result (phase_of stage.new ≢ refused) }
 {
     match stage {
         Stage::Unopened => {
-            let (opened, answer) = open(alloc, line)?;
+            let (opened, answer) = open(alloc, line, out)?;
             *stage = opened;
             Ok(answer)
         }
         Stage::Refused => unreachable!(),
-        Stage::Running(opened) => answer_request(alloc, reader, opened, arena, line),
+        Stage::Running(opened) => answer_request(reader, opened, arena, line, out),
     }
 }
 
 fn answer_request(
-    alloc: Global,
     reader: &mut MessageReader,
     opened: &mut Opened,
     arena: &mut Bump,
     line: &[u8],
+    out: &mut AnswerWriter,
 ) -> Result<Answer, NoMemory>
-    ensures { IfOk result (λ answer. AnswersAt (running opened.old.tokens opened.old.core) line.now (running opened.new.tokens opened.new.core) (bytes_of answer)) }
+    requires none { out.old.text ≡ [] }
+    ensures before { out.new.before ≡ out.old.before }
+    ensures answered { IfOk result (λ answer. AnswersAt (running opened.old.tokens opened.old.core) line.now (running opened.new.tokens opened.new.core) (bytes_of answer out.new.text)) }
 {
     match reader.read_asked(&opened.tokens, line, Form::Script) {
-        Ok(asked) => answer_asked(alloc, &mut opened.core, arena, asked),
-        Err(fault) => say_line_fault(alloc, &fault),
+        Ok(asked) => answer_asked(&mut opened.core, arena, asked, out),
+        Err(fault) => say_line_fault(&fault, out),
     }
 }
 
 // Answers what is asked by a step.
 fn answer_asked(
-    alloc: Global,
     core: &mut Core,
     arena: &mut Bump,
     asked: Asked,
+    out: &mut AnswerWriter,
 ) -> Result<Answer, NoMemory>
-    requires { asked.stamp.now ≤ MAX_MOMENT }
-    ensures { IfOk result (λ answer. (said : List ℕ) × IsAnsweredBy core.old (Ok asked) said core.new × (bytes_of answer ≡ as_line said)) }
+    requires moment { asked.stamp.now ≤ MAX_MOMENT }
+    requires none { out.old.text ≡ [] }
+    ensures before { out.new.before ≡ out.old.before }
+    ensures answered { IfOk result (λ answer. (said : List ℕ) × IsAnsweredBy core.old (Ok asked) said core.new × (bytes_of answer out.new.text ≡ as_line said)) }
 {
     let stamp = asked.stamp;
     match asked.event {
-        Event::Get(path, query) => answer_read(alloc, core, arena, stamp, &path, query.as_ref()),
-        Event::Poll => answer_poll(alloc, core, arena, stamp),
+        Event::Get(path, query) => answer_read(core, arena, stamp, &path, query.as_ref(), out),
+        Event::Poll => answer_poll(core, arena, stamp, out),
         event => {
             let reply = core.step(arena, stamp.now, stamp.session, event);
-            say(alloc, &reply)
+            say(&reply, out)
         }
     }
 }
 
 // Answers a read: what it is answered by is written from where it stands.
 fn answer_read(
-    alloc: Global,
     core: &Core,
     arena: &mut Bump,
     stamp: Stamp,
     path: &Path,
     query: Option<&Query>,
+    out: &mut AnswerWriter,
 ) -> Result<Answer, NoMemory>
-    requires { stamp.now ≤ MAX_MOMENT }
-    ensures { IfOk result (λ answer. (said : List ℕ) × IsAnsweredBy core.now (Ok (record { stamp = stamp; event = Event.Get path.now (option_map (λ query. query.now) query.entry) })) said core.now × (bytes_of answer ≡ as_line said)) }
+    requires moment { stamp.now ≤ MAX_MOMENT }
+    requires none { out.old.text ≡ [] }
+    ensures before { out.new.before ≡ out.old.before }
+    ensures answered { IfOk result (λ answer. (said : List ℕ) × IsAnsweredBy core.now (Ok (record { stamp = stamp; event = Event.Get path.now (option_map (λ query. query.now) query.entry) })) said core.now × (bytes_of answer out.new.text ≡ as_line said)) }
 {
     match query {
-        None => answer_plain_read(alloc, core, arena, stamp, path),
-        Some(query) => answer_query(alloc, core, arena, stamp, path, query),
+        None => answer_plain_read(core, arena, stamp, path, out),
+        Some(query) => answer_query(core, arena, stamp, path, query, out),
     }
 }
 
 // Answers a read without a query.
 fn answer_plain_read(
-    alloc: Global,
     core: &Core,
     arena: &mut Bump,
     stamp: Stamp,
     path: &Path,
+    out: &mut AnswerWriter,
 ) -> Result<Answer, NoMemory>
-    requires { stamp.now ≤ MAX_MOMENT }
-    ensures { IfOk result (λ answer. (said : List ℕ) × IsAnsweredBy core.now (Ok (record { stamp = stamp; event = Event.Get path.now None })) said core.now × (bytes_of answer ≡ as_line said)) }
+    requires moment { stamp.now ≤ MAX_MOMENT }
+    requires none { out.old.text ≡ [] }
+    ensures before { out.new.before ≡ out.old.before }
+    ensures answered { IfOk result (λ answer. (said : List ℕ) × IsAnsweredBy core.now (Ok (record { stamp = stamp; event = Event.Get path.now None })) said core.now × (bytes_of answer out.new.text ≡ as_line said)) }
 {
     match core.read(arena, stamp.now, stamp.session, path) {
-        Ok(found) => written(write_value(alloc, found)?),
-        Err(refusal) => say_refusal(alloc, &refusal),
+        Ok(found) => {
+            out.put_value(found)?;
+            Ok(Answer::Written)
+        }
+        Err(refusal) => say_refusal(&refusal, out),
     }
 }
 
 // Answers a read by a query.
 fn answer_query(
-    alloc: Global,
     core: &Core,
     arena: &mut Bump,
     stamp: Stamp,
     path: &Path,
     query: &Query,
+    out: &mut AnswerWriter,
 ) -> Result<Answer, NoMemory>
-    requires { stamp.now ≤ MAX_MOMENT }
-    ensures { IfOk result (λ answer. (said : List ℕ) × IsAnsweredBy core.now (Ok (record { stamp = stamp; event = Event.Get path.now (Some query.now) })) said core.now × (bytes_of answer ≡ as_line said)) }
+    requires moment { stamp.now ≤ MAX_MOMENT }
+    requires none { out.old.text ≡ [] }
+    ensures before { out.new.before ≡ out.old.before }
+    ensures answered { IfOk result (λ answer. (said : List ℕ) × IsAnsweredBy core.now (Ok (record { stamp = stamp; event = Event.Get path.now (Some query.now) })) said core.now × (bytes_of answer out.new.text ≡ as_line said)) }
 {
     if let Err(refusal) = core.grant(arena, stamp.now, stamp.session, path, Some(query)) {
-        return say_refusal(alloc, &refusal);
+        return say_refusal(&refusal, out);
     }
     match core.selected(arena, path, Some(query)) {
-        Ok(found) => written(write_selected(alloc, found.as_ref())?),
-        Err(_) => say_refusal(alloc, &Refusal::NoMemory),
+        Ok(found) => {
+            out.put_selected(found.as_ref())?;
+            Ok(Answer::Written)
+        }
+        Err(_) => say_refusal(&Refusal::NoMemory, out),
     }
 }
 
 // Answers a poll: what it tells is written from where it stands, before it counts as told.
 fn answer_poll(
-    alloc: Global,
     core: &mut Core,
     arena: &mut Bump,
     stamp: Stamp,
+    out: &mut AnswerWriter,
 ) -> Result<Answer, NoMemory>
-    requires { stamp.now ≤ MAX_MOMENT }
-    ensures { IfOk result (λ answer. (said : List ℕ) × IsAnsweredBy core.old (Ok (record { stamp = stamp; event = Event.Poll })) said core.new × (bytes_of answer ≡ as_line said)) }
+    requires moment { stamp.now ≤ MAX_MOMENT }
+    requires none { out.old.text ≡ [] }
+    ensures before { out.new.before ≡ out.old.before }
+    ensures answered { IfOk result (λ answer. (said : List ℕ) × IsAnsweredBy core.old (Ok (record { stamp = stamp; event = Event.Poll })) said core.new × (bytes_of answer out.new.text ≡ as_line said)) }
 {
     match core.begin_poll(arena, stamp.session) {
-        Ok(()) => answer_news(alloc, core, arena, stamp),
-        Err(refusal) => say_refusal(alloc, &refusal),
+        Ok(()) => answer_news(core, arena, stamp, out),
+        Err(refusal) => say_refusal(&refusal, out),
     }
 }
 
 // Answers a poll that has begun.
 fn answer_news(
-    alloc: Global,
     core: &mut Core,
     arena: &mut Bump,
     stamp: Stamp,
+    out: &mut AnswerWriter,
 ) -> Result<Answer, NoMemory>
-    requires { stamp.now ≤ MAX_MOMENT }
-    ensures { IfOk result (λ answer. (said : List ℕ) × IsAnsweredBy core.old (Ok (record { stamp = stamp; event = Event.Poll })) said core.new × (bytes_of answer ≡ as_line said)) }
+    requires moment { stamp.now ≤ MAX_MOMENT }
+    requires none { out.old.text ≡ [] }
+    ensures before { out.new.before ≡ out.old.before }
+    ensures answered { IfOk result (λ answer. (said : List ℕ) × IsAnsweredBy core.old (Ok (record { stamp = stamp; event = Event.Poll })) said core.new × (bytes_of answer out.new.text ≡ as_line said)) }
 {
-    let answer = match core.news(arena, stamp.now, stamp.session) {
-        Ok(tidings) => written(write_tidings(alloc, &tidings)?)?,
-        Err(why) => return say_refusal(alloc, &why),
-    };
+    match core.news(arena, stamp.now, stamp.session) {
+        Ok(tidings) => out.put_tidings(&tidings)?,
+        Err(why) => return say_refusal(&why, out),
+    }
     match core.end_poll(arena, stamp.now, stamp.session) {
-        Ok(()) => Ok(answer),
-        Err(_) => say_refusal(alloc, &Refusal::NoMemory),
+        Ok(()) => Ok(Answer::Written),
+        Err(_) => Ok(Answer::NoMemory),
     }
 }
 
 // Where a header leads, and the answer to it.
-fn open(alloc: Global, line: &[u8]) -> Result<(Stage, Answer), NoMemory>
-    ensures { IfOk result (λ r. AnswersAt unopened line.now (phase_of r.0) (bytes_of r.1)) }
+fn open(alloc: Global, line: &[u8], out: &mut AnswerWriter) -> Result<(Stage, Answer), NoMemory>
+    requires none { out.old.text ≡ [] }
+    ensures before { out.new.before ≡ out.old.before }
+    ensures opened { IfOk result (λ r. AnswersAt unopened line.now (phase_of r.0) (bytes_of r.1 out.new.text)) }
 {
     match read_header(alloc, line) {
         Ok(opened) => {
-            let answer = written(write_accepted(alloc, opened.core.rules().count())?)?;
-            Ok((Stage::Running(opened), answer))
+            out.put_accepted(opened.core.rules().count())?;
+            Ok((Stage::Running(opened), Answer::Written))
         }
-        Err(fault) => Ok((Stage::Refused, say_header_fault(alloc, &fault)?)),
+        Err(fault) => Ok((Stage::Refused, say_header_fault(&fault, out)?)),
     }
 }
 
-fn say_header_fault(alloc: Global, fault: &HeaderFault) -> Result<Answer, NoMemory>
-    ensures line { IfOk result (λ answer. bytes_of answer ≡ as_line (header_fault_text fault.now)) }
+fn say_header_fault(fault: &HeaderFault, out: &mut AnswerWriter) -> Result<Answer, NoMemory>
+    requires none { out.old.text ≡ [] }
+    ensures before { out.new.before ≡ out.old.before }
+    ensures line { IfOk result (λ answer. bytes_of answer out.new.text ≡ as_line (header_fault_text fault.now)) }
 {
     match fault {
-        HeaderFault::Line(fault) => say_fault(alloc, *fault),
-        HeaderFault::Rules(fault) => say_rules_fault(alloc, fault),
-        HeaderFault::Data(fault) => say_fault(alloc, *fault),
-        HeaderFault::BadTokens => written(write_bad_tokens(alloc)?),
-        HeaderFault::TreeFull => say(alloc, &Reply::Refused(Refusal::TreeFull)),
+        HeaderFault::Line(fault) => say_fault(*fault, out),
+        HeaderFault::Rules(fault) => say_rules_fault(fault, out),
+        HeaderFault::Data(fault) => say_fault(*fault, out),
+        HeaderFault::BadTokens => {
+            out.put_bad_tokens()?;
+            Ok(Answer::Written)
+        }
+        HeaderFault::TreeFull => say_refusal(&Refusal::TreeFull, out),
     }
 }
 
-fn say(alloc: Global, reply: &Reply) -> Result<Answer, NoMemory>
-    ensures line { IfOk result (λ answer. bytes_of answer ≡ as_line (text reply.now)) }
+fn say(reply: &Reply, out: &mut AnswerWriter) -> Result<Answer, NoMemory>
+    requires none { out.old.text ≡ [] }
+    ensures before { out.new.before ≡ out.old.before }
+    ensures line { IfOk result (λ answer. bytes_of answer out.new.text ≡ as_line (text reply.now)) }
     ensures done { reply.now ≡ replies.Done → IsOk result }
     ensures no_memory { reply.now ≡ replies.Refused refusals.NoMemory → IsOk result }
 {
     match reply {
         Reply::Done => Ok(Answer::Done),
-        Reply::Value(_) | Reply::News(_) => written(write_reply(alloc, reply)?),
-        Reply::Refused(refusal) => say_refusal(alloc, refusal),
+        Reply::Value(_) | Reply::News(_) => {
+            out.put_reply(reply)?;
+            Ok(Answer::Written)
+        }
+        Reply::Refused(refusal) => say_refusal(refusal, out),
     }
 }
 
 #[tactic(auto, using(crate::proofs::Fixed::no_memory_of_reply))]
-fn say_refusal(alloc: Global, refusal: &Refusal) -> Result<Answer, NoMemory>
-    ensures line { IfOk result (λ answer. bytes_of answer ≡ as_line (text (replies.Refused refusal.now))) }
+fn say_refusal(refusal: &Refusal, out: &mut AnswerWriter) -> Result<Answer, NoMemory>
+    requires none { out.old.text ≡ [] }
+    ensures before { out.new.before ≡ out.old.before }
+    ensures line { IfOk result (λ answer. bytes_of answer out.new.text ≡ as_line (text (replies.Refused refusal.now))) }
     ensures no_memory { refusal.now ≡ refusals.NoMemory → IsOk result }
 {
     match refusal {
         Refusal::NoMemory => Ok(Answer::NoMemory),
-        _ => written(write_refusal(alloc, refusal)?),
+        _ => {
+            out.put_refusal(refusal)?;
+            Ok(Answer::Written)
+        }
     }
 }
 
-fn say_fault(alloc: Global, fault: MessageFault) -> Result<Answer, NoMemory>
-    ensures line { IfOk result (λ answer. bytes_of answer ≡ as_line (fault_text fault)) }
+fn say_fault(fault: MessageFault, out: &mut AnswerWriter) -> Result<Answer, NoMemory>
+    requires none { out.old.text ≡ [] }
+    ensures before { out.new.before ≡ out.old.before }
+    ensures line { IfOk result (λ answer. bytes_of answer out.new.text ≡ as_line (fault_text fault)) }
     ensures no_memory { fault ≡ message_faults.NoMemory → IsOk result }
 {
     match fault {
         MessageFault::NoMemory => Ok(Answer::NoMemory),
-        _ => written(write_fault(alloc, fault)?),
+        _ => {
+            out.put_fault(fault)?;
+            Ok(Answer::Written)
+        }
     }
 }
 
-fn say_line_fault(alloc: Global, fault: &LineFault) -> Result<Answer, NoMemory>
-    ensures line { IfOk result (λ answer. bytes_of answer ≡ as_line (line_fault_text fault.now)) }
+fn say_line_fault(fault: &LineFault, out: &mut AnswerWriter) -> Result<Answer, NoMemory>
+    requires none { out.old.text ≡ [] }
+    ensures before { out.new.before ≡ out.old.before }
+    ensures line { IfOk result (λ answer. bytes_of answer out.new.text ≡ as_line (line_fault_text fault.now)) }
 {
     match fault {
-        LineFault::Message(fault) => say_fault(alloc, *fault),
-        LineFault::Rules(fault) => say_rules_fault(alloc, fault),
-        LineFault::UnknownToken => written(write_line_fault(alloc, fault)?),
+        LineFault::Message(fault) => say_fault(*fault, out),
+        LineFault::Rules(fault) => say_rules_fault(fault, out),
+        LineFault::UnknownToken => {
+            out.put_line_fault(fault)?;
+            Ok(Answer::Written)
+        }
     }
 }
 
 #[tactic(auto, using(crate::proofs::Fixed::no_memory_of_rules))]
-fn say_rules_fault(alloc: Global, fault: &RulesFault) -> Result<Answer, NoMemory>
-    ensures line { IfOk result (λ answer. bytes_of answer ≡ as_line (rules_fault_text fault.now)) }
+fn say_rules_fault(fault: &RulesFault, out: &mut AnswerWriter) -> Result<Answer, NoMemory>
+    requires none { out.old.text ≡ [] }
+    ensures before { out.new.before ≡ out.old.before }
+    ensures line { IfOk result (λ answer. bytes_of answer out.new.text ≡ as_line (rules_fault_text fault.now)) }
     ensures no_memory { fault.now ≡ rules_faults.NoMemory → IsOk result }
 {
     match fault {
         RulesFault::NoMemory => Ok(Answer::NoMemory),
-        _ => written(write_rules_fault(alloc, fault)?),
+        _ => {
+            out.put_rules_fault(fault)?;
+            Ok(Answer::Written)
+        }
     }
-}
-
-// The answer of a text, which gets its line feed.
-fn written(mut text: Vec<u8>) -> Result<Answer, NoMemory>
-    ensures { IfOk result (λ answer. bytes_of answer ≡ as_line text.items) }
-{
-    text.push(b'\n')?;
-    Ok(Answer::Written(text))
 }
 
 #[tactic(auto, using(crate::proofs::Fixed::done_is))]

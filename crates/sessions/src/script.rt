@@ -241,7 +241,7 @@ impl Script {
 
 /// Runs a script: reads its header and its requests from the source, 64 KiB at a time where so much
 /// is there, and writes their answers to the sink, which has all answers to what was read before the
-/// next read. It takes 128 KiB for what is read and written, up to about 2 MiB for a line that is cut
+/// next read. It takes 160 KiB for what is read and written, up to about 2 MiB for a line that is cut
 /// by the end of a block, and what each line needs; each step is handed the arena. A source that has
 /// failed is read no more, and a sink that has failed is written to no more.
 pub fn run_script<R: Source, W: Sink>(

@@ -21,7 +21,7 @@ use Rattle.sessions.specs.Working.Parts.{IsPlain, KeepsFront}
 use Rattle.sessions.specs.Said.{Phase, unopened, refused, running, IsWritten, Continues, IsAnswered, as_line}
 use Rattle.sessions.specs.Working.Sent.{SinkTells, Passes, Breaks}
 use Rattle.rtdb_core.specs.State.{State}
-use Rattle.messages.specs.AnswerText.{text, fault_text}
+use Rattle.messages.specs.AnswerText as answer
 
 -- ---- phases
 
@@ -33,11 +33,21 @@ phase_of (stages.Running opened) = running opened.tokens opened.core
 
 -- ---- one line
 
+-- what is written of an answer, where this was written
+abbrev pub written_of : Answer → List ℕ → List ℕ
+written_of answers.Done text = []
+written_of answers.NoMemory text = []
+written_of answers.Written text = text
+
+-- what comes behind it
+abbrev pub rest_of : Answer → List ℕ
+rest_of answers.Done = as_line (answer.text replies.Done)
+rest_of answers.NoMemory = as_line (answer.fault_text message_faults.NoMemory)
+rest_of answers.Written = 10 ∷ []
+
 -- the line of the output that an answer is
-abbrev pub bytes_of : Answer → List ℕ
-bytes_of answers.Done = as_line (text replies.Done)
-bytes_of answers.NoMemory = as_line (fault_text message_faults.NoMemory)
-bytes_of (answers.Written bytes) = bytes.items
+abbrev pub bytes_of : Answer → List ℕ → List ℕ
+bytes_of a text = written_of a text ++ rest_of a
 
 -- at a phase a line that is not blank is answered so, and leads to a phase
 abbrev pub AnswersAt : Phase → List ℕ → Phase → List ℕ → Type 0

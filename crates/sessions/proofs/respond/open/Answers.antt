@@ -1,12 +1,12 @@
-use Rattle.std.proofs.Common.{◌∙◌, ℕ, List, length, ap}
+use Rattle.std.proofs.Common.{◌∙◌, ◌++◌, ℕ, List, length, ap}
 use Rattle.rules_reader.specs.Book.{Book, rules}
 use Rattle.sessions.specs.Said.{as_line}
 use Rattle.messages.specs.AnswerText.{accepted_text}
 use Rattle.sessions.proofs.Answering.{AnswersAt-accepted}
 use Rattle.sessions.proofs.respond.open.Goals as goal
 
-pub returns-in_ok-answer-in-Ok : goal.returns-in_ok-answer-in-Ok
-returns-in_ok-answer-in-Ok c =
+pub returns-in_ok-put_accepted-in-Ok-clause-opened : goal.returns-in_ok-put_accepted-in-Ok-clause-opened
+returns-in_ok-put_accepted-in-Ok-clause-opened c =
     let count = ap (λ (n : ℕ). accepted_text n) (c.count.ensures ∙ ap (λ (book : Book). length (rules book)) c.rules.ensures.rules) in
-    let said = c.in_ok-write_accepted-in-Ok.ensures ∙ count in
-    AnswersAt-accepted c.args.line.now c.in-Ok.opened _ c.in-Ok.ensures (c.in_ok-answer-in-Ok.ensures ∙ ap (λ (t : List ℕ). as_line t) said)
+    let said = c.in_ok-put_accepted-in-Ok.ensures.text ∙ ap (λ (t : List ℕ). t ++ accepted_text c.count.result) c.requires.none ∙ count in
+    AnswersAt-accepted c.args.line.now c.in-Ok.opened _ c.in-Ok.ensures (ap (λ (t : List ℕ). as_line t) said)
