@@ -15,26 +15,22 @@ use rules_reader::{RuleFault, RuleName, RulesFault};
 use serde_json::{Value, json};
 use std::alloc::Global;
 
-// How many bytes the text of a reply has room for at first, which most don't fill: so that it takes one growth, and
-// one that allocators keep at hand.
-const FIRST_ROOM: usize = 1_000;
-
 /// The text of a reply, in one pass over what it has.
 pub fn write_reply(alloc: Global, reply: &Reply) -> Result<Vec<u8>, NoMemory>
     ensures { IfOk result (λ bytes. bytes.items ≡ text reply.now) }
 {
-    let mut out = AnswerWriter::new(alloc, Vec::with_capacity(alloc, FIRST_ROOM)?);
+    let mut out = AnswerWriter::new(alloc);
     out.put_reply(reply)?;
-    Ok(out.into_bytes())
+    Ok(out.end())
 }
 
 /// The text of a fault of a message.
 pub fn write_fault(alloc: Global, fault: MessageFault) -> Result<Vec<u8>, NoMemory>
     ensures { IfOk result (λ bytes. bytes.items ≡ fault_text fault) }
 {
-    let mut out = AnswerWriter::new(alloc, Vec::with_capacity(alloc, FIRST_ROOM)?);
+    let mut out = AnswerWriter::new(alloc);
     out.put_fault(fault)?;
-    Ok(out.into_bytes())
+    Ok(out.end())
 }
 
 /// The text of a fault of a rules file.

@@ -1,6 +1,6 @@
-//! An answer that is being written behind others.
+//! Answers, each written behind others.
 ghost use Rattle.std.specs.Prelude.{◌≡◌, ◌++◌, [], option_map, OnOk};
-ghost use Rattle.json.specs.Print.{quoted};
+ghost use Rattle.json.specs.Print.{print, quoted};
 ghost use Rattle.json.specs.Tree.{json_tokens};
 ghost use Rattle.serde_json.specs.Written.{outline, compact_text};
 ghost use Rattle.json_tree.specs.Json.{value_of};
@@ -17,15 +17,21 @@ use std::alloc::{AllocError, Global};
 use std::marker::Model;
 use std::mem::replace;
 
-/// What writes an answer behind bytes that stand before it, such as earlier answers, and that stay as they are.
-/// Where memory is wanted, a front of the answer may have been written. Contracts see what stands before it, and
-/// its text so far.
+// How many bytes of room for values are kept, 64 KiB.
+const KEPT_ROOM: usize = 65_536;
+
+/// What writes answers, one after another, each behind bytes that stand before it, such as earlier answers, and
+/// that stay as they are. Where memory is wanted, a front of the answer may have been written. Contracts see what
+/// stands before the answer, and its text so far.
 #[derive(Drop)]
 pub struct AnswerWriter {
     alloc: Global,
     bytes: Vec<u8>,
     // How many bytes stand before the answer.
     start: usize,
+    // Where values are written, and copied from: the kit's writer fills what comes next with zeros, the more the more
+    // stands before it.
+    room: Vec<u8>,
 }
 
 impl Model for AnswerWriter {
@@ -42,25 +48,38 @@ impl Model for AnswerWriter {
 }
 
 impl AnswerWriter {
-    /// What writes an answer behind these bytes. It takes no memory.
-    pub fn new(alloc: Global, bytes: Vec<u8>) -> AnswerWriter
-        ensures before { result.before ≡ bytes.items }
+    /// A writer of an answer that nothing stands before. It takes no memory.
+    pub fn new(alloc: Global) -> AnswerWriter
+        ensures before { result.before ≡ [] }
         ensures text { result.text ≡ [] }
     {
-        let start = bytes.len();
         AnswerWriter {
             alloc,
-            bytes,
-            start,
+            bytes: Vec::new(alloc),
+            start: 0,
+            room: Vec::new(alloc),
         }
     }
 
-    /// The bytes that stand before the answer, and its text.
-    pub fn into_bytes(self) -> Vec<u8>
-        ensures { result.items ≡ self.before ++ self.text }
+    /// Begins an answer behind these bytes, in place of all that stands there.
+    pub fn begin(&mut self, bytes: Vec<u8>)
+        ensures before { self.new.before ≡ bytes.items }
+        ensures text { self.new.text ≡ [] }
     {
-        let AnswerWriter { bytes, .. } = self;
-        bytes
+        self.start = bytes.len();
+        self.bytes = bytes;
+    }
+
+    /// Hands out what stands before the answer, and its text behind it. Of the memory that values took 64 KiB are
+    /// kept.
+    pub fn end(&mut self) -> Vec<u8>
+        ensures all { result.items ≡ self.old.before ++ self.old.text }
+        ensures before { self.new.before ≡ [] }
+        ensures text { self.new.text ≡ [] }
+    {
+        self.start = 0;
+        self.room.shrink_to(KEPT_ROOM);
+        replace(&mut self.bytes, Vec::new(self.alloc))
     }
 
     /// Takes back what is written of the answer.
@@ -90,10 +109,10 @@ impl AnswerWriter {
         ensures before { self.new.before ≡ self.old.before }
         ensures text { OnOk result (self.new.text ≡ self.old.text ++ quoted text.now) }
     {
-        let mut out = Writer::new(replace(&mut self.bytes, Vec::new(self.alloc)));
-        let written = out.string(text);
-        self.bytes = out.into_inner();
-        Ok(written?)
+        let mut out = self.lend_room();
+        out.string(text)?;
+        self.put_written(out)?;
+        Ok(())
     }
 
     /// Writes the value of a tree, null for None.
@@ -101,10 +120,10 @@ impl AnswerWriter {
         ensures before { self.new.before ≡ self.old.before }
         ensures text { OnOk result (self.new.text ≡ self.old.text ++ compact_text (value_of (tree_or_null (option_map (λ node. node.now) tree.entry)))) }
     {
-        let mut out = Writer::new(replace(&mut self.bytes, Vec::new(self.alloc)));
-        let written = write_some_node(&mut out, tree);
-        self.bytes = out.into_inner();
-        Ok(written?)
+        let mut out = self.lend_room();
+        write_some_node(&mut out, tree)?;
+        self.put_written(out)?;
+        Ok(())
     }
 
     /// Writes the value of the tree that a view shows, null for None.
@@ -112,10 +131,10 @@ impl AnswerWriter {
         ensures before { self.new.before ≡ self.old.before }
         ensures text { OnOk result (self.new.text ≡ self.old.text ++ compact_text (value_of (tree_or_null (option_map (λ view. view.now) view.entry)))) }
     {
-        let mut out = Writer::new(replace(&mut self.bytes, Vec::new(self.alloc)));
-        let written = write_some_view(&mut out, view);
-        self.bytes = out.into_inner();
-        Ok(written?)
+        let mut out = self.lend_room();
+        write_some_view(&mut out, view)?;
+        self.put_written(out)?;
+        Ok(())
     }
 
     /// Writes a refusal of the database.
@@ -123,10 +142,10 @@ impl AnswerWriter {
         ensures before { self.new.before ≡ self.old.before }
         ensures text { OnOk result (self.new.text ≡ self.old.text ++ compact_text (refusal_data refusal.now)) }
     {
-        let mut out = Writer::new(replace(&mut self.bytes, Vec::new(self.alloc)));
-        let written = put_refusal(self.alloc, &mut out, refusal);
-        self.bytes = out.into_inner();
-        written
+        let mut out = self.lend_room();
+        put_refusal(self.alloc, &mut out, refusal)?;
+        self.put_written(out)?;
+        Ok(())
     }
 
     /// Writes a refusal with no further member.
@@ -134,10 +153,31 @@ impl AnswerWriter {
         ensures before { self.new.before ≡ self.old.before }
         ensures text { OnOk result (self.new.text ≡ self.old.text ++ compact_text (plain_data code)) }
     {
-        let mut out = Writer::new(replace(&mut self.bytes, Vec::new(self.alloc)));
-        let written = put_plain(&mut out, code);
-        self.bytes = out.into_inner();
-        written
+        let mut out = self.lend_room();
+        put_plain(&mut out, code)?;
+        self.put_written(out)?;
+        Ok(())
+    }
+
+    // A writer of a value by itself, in memory that is kept from value to value.
+    fn lend_room(&mut self) -> Writer
+        ensures same { self.new ≡ self.old }
+        ensures before { result.before ≡ [] }
+        ensures tokens { result.tokens ≡ [] }
+    {
+        let mut room = replace(&mut self.room, Vec::new(self.alloc));
+        room.clear();
+        Writer::new(room)
+    }
+
+    // Writes what such a writer has written, whose memory is kept.
+    fn put_written(&mut self, out: Writer) -> Result<(), NoMemory>
+        ensures before { self.new.before ≡ self.old.before }
+        ensures text { OnOk result (self.new.text ≡ self.old.text ++ (out.before ++ print out.tokens)) }
+    {
+        self.room = out.into_inner();
+        self.bytes.extend_from_slice(&self.room)?;
+        Ok(())
     }
 }
 

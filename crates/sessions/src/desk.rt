@@ -42,11 +42,13 @@ impl From<Broken> for Stop {
     }
 }
 
-/// What answers the lines of a script: where it stands, and the answers on their way.
+/// What answers the lines of a script: where it stands, what reads requests and writes answers, and the answers on
+/// their way.
 #[derive(Drop)]
 pub struct Desk {
     alloc: Global,
     reader: MessageReader,
+    writer: AnswerWriter,
     stage: Stage,
     /// The answers that are not written yet.
     pub outgoing: Outgoing,
@@ -61,6 +63,7 @@ impl Desk {
         Ok(Desk {
             alloc,
             reader: MessageReader::new(alloc),
+            writer: AnswerWriter::new(alloc),
             stage: Stage::Unopened,
             outgoing,
         })
@@ -126,19 +129,19 @@ impl Desk {
         ensures going { OnErr result (phase_of self.new.stage ≢ refused) }
         ensures kept { OnErr result (self.new.outgoing.bytes.items ≡ self.old.outgoing.bytes.items) }
     {
-        let mut out = AnswerWriter::new(self.alloc, self.outgoing.lend(self.alloc));
+        self.writer.begin(self.outgoing.lend(self.alloc));
         let answer = respond(
             self.alloc,
             &mut self.reader,
             &mut self.stage,
             arena,
             line,
-            &mut out,
+            &mut self.writer,
         );
         if !matches!(answer, Ok(Answer::Written)) {
-            out.clear();
+            self.writer.clear();
         }
-        self.outgoing.put_back(out.into_bytes());
+        self.outgoing.put_back(self.writer.end());
         answer
     }
 }

@@ -1,14 +1,8 @@
-use Rattle.std.proofs.Common.{ap, ◌∙◌}
-use Rattle.std.proofs.lemmas.Result.{on_ok_weaker}
-use Rattle.messages.specs.AnswerSoFar.{AnswerSoFar}
 use Rattle.messages.specs.AnswerText.{refusal_data}
 use Rattle.messages.proofs.Behind.{value_behind}
 use Rattle.messages.proofs.answer_writer.AnswerWriter.refusal.Goals as goal
 
 pub returns-clause-text : goal.returns-clause-text
 returns-clause-text c =
-    let done = c.put_refusal-written.ensures in
-    on_ok_weaker c.put_refusal-written.result
-    (λ same. value_behind (refusal_data c.args.refusal.now) c.self.inside.start c.self.inside.bytes.items c.into_inner.result.items c.args.self.now.text c.new-out.result c.put_refusal-written.new.out
-    c.self.invariant (ap (λ (s : AnswerSoFar). s.text) c.self.view_is) (c.new-out.ensures.before ∙ (λ i. (c.replace.ensures.value i).items)) c.new-out.ensures.tokens done.before same c.into_inner.ensures.items)
-    done.tokens
+    let done = c.in_ok-put_refusal.ensures in
+    value_behind (refusal_data c.args.refusal.now) c.args.self.now c.lend_room-out.new.self c.put_written.new.self c.lend_room-out.result c.put_refusal.new.out c.lend_room-out.ensures.same c.lend_room-out.ensures.before c.lend_room-out.ensures.tokens done.before done.tokens c.in_ok-put_written.ensures.text

@@ -1,11 +1,8 @@
-use Rattle.std.proofs.Common.{ap, ◌∙◌}
-use Rattle.messages.specs.AnswerSoFar.{AnswerSoFar}
 use Rattle.serde_json.specs.Data.{string}
 use Rattle.messages.proofs.Behind.{value_behind}
 use Rattle.messages.proofs.answer_writer.AnswerWriter.string.Goals as goal
 
 pub returns-clause-text : goal.returns-clause-text
 returns-clause-text c =
-    let done = c.in_ok-written.ensures in
-    value_behind (string c.args.text.now) c.self.inside.start c.self.inside.bytes.items c.into_inner.result.items c.args.self.now.text c.new-out.result c.string-written.new.self
-    c.self.invariant (ap (λ (s : AnswerSoFar). s.text) c.self.view_is) (c.new-out.ensures.before ∙ (λ i. (c.replace.ensures.value i).items)) c.new-out.ensures.tokens done.room.0 done.ok c.into_inner.ensures.items
+    let done = c.in_ok-string.ensures in
+    value_behind (string c.args.text.now) c.args.self.now c.lend_room-out.new.self c.put_written.new.self c.lend_room-out.result c.string.new.self c.lend_room-out.ensures.same c.lend_room-out.ensures.before c.lend_room-out.ensures.tokens done.room.0 done.ok c.in_ok-put_written.ensures.text

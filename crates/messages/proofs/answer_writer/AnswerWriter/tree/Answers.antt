@@ -1,5 +1,4 @@
-use Rattle.std.proofs.Common.{ap, ◌∙◌, Bor, option_map}
-use Rattle.messages.specs.AnswerSoFar.{AnswerSoFar}
+use Rattle.std.proofs.Common.{Bor, option_map}
 use Rattle.tree_model.specs.Tree.{Tree}
 use Rattle.json_tree.specs.Json.{value_of}
 use Rattle.path_capture.specs.Write.{tree_or_null}
@@ -8,6 +7,5 @@ use Rattle.messages.proofs.answer_writer.AnswerWriter.tree.Goals as goal
 
 pub returns-clause-text : goal.returns-clause-text
 returns-clause-text c =
-    let done = c.in_ok-written.ensures in
-    value_behind (value_of (tree_or_null (option_map (λ (node : Bor Tree). node.now) c.args.tree))) c.self.inside.start c.self.inside.bytes.items c.into_inner.result.items c.args.self.now.text c.new-out.result c.write_some_node-written.new.out
-    c.self.invariant (ap (λ (s : AnswerSoFar). s.text) c.self.view_is) (c.new-out.ensures.before ∙ (λ i. (c.replace.ensures.value i).items)) c.new-out.ensures.tokens done.before done.tokens c.into_inner.ensures.items
+    let done = c.in_ok-write_some_node.ensures in
+    value_behind (value_of (tree_or_null (option_map (λ (node : Bor Tree). node.now) c.args.tree))) c.args.self.now c.lend_room-out.new.self c.put_written.new.self c.lend_room-out.result c.write_some_node.new.out c.lend_room-out.ensures.same c.lend_room-out.ensures.before c.lend_room-out.ensures.tokens done.before done.tokens c.in_ok-put_written.ensures.text
