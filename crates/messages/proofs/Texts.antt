@@ -3,8 +3,8 @@ use Rattle.std.proofs.Common.{◌≡◌, ℕ, ◌||◌, ◌++◌, Bool, false, L
 use Rattle.serde_json.specs.Data.{Data, number, string, object, member, no_members, unsigned}
 use Rattle.serde_json.specs.Written.{has_float, compact_text}
 use Rattle.serde_json.proofs.OnLiterals.{serde_json_on_literals}
-use Rattle.std.specs.Prelude.{codes}
-use Rattle.tree_model.specs.Tree.{Tree}
+use Rattle.std.specs.Prelude.{codes, unwrap_or}
+use Rattle.tree_model.specs.Tree.{Tree, null}
 use Rattle.json_tree.specs.Json.{value_of}
 use Rattle.path_capture.specs.Write.{tree_or_null}
 use Rattle.rules_reader.specs.declared.fault.RulesFault.{RulesFault}
@@ -53,6 +53,10 @@ done_text = refl
 pub value_text : (tree : Option Tree) → codes "{\"ok\":true,\"value\":" ++ (compact_text (value_of (tree_or_null tree)) ++ codes "}") ≡ text (Value tree)
 unfolding text serde_json_on_literals
 value_text tree = refl
+
+pub tree_is : (tree : Option Tree) → unwrap_or tree null ≡ tree_or_null tree
+tree_is None = refl
+tree_is (Some t) = refl
 
 -- a value is written behind what stands before it, and closed
 pub value_told : (old front middle all : List ℕ) (tree : Option Tree) → front ≡ old ++ codes "{\"ok\":true,\"value\":" → middle ≡ front ++ compact_text (value_of (tree_or_null tree)) → all ≡ middle ++ codes "}" → all ≡ old ++ text (Value tree)

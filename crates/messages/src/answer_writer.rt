@@ -1,19 +1,18 @@
 //! Answers, each written behind others.
 ghost use Rattle.std.specs.Prelude.{◌≡◌, ◌++◌, [], option_map, OnOk};
-ghost use Rattle.json.specs.Print.{print, quoted};
-ghost use Rattle.json.specs.Tree.{json_tokens};
-ghost use Rattle.serde_json.specs.Written.{outline, compact_text};
+ghost use Rattle.json.specs.Print.{quoted};
+ghost use Rattle.serde_json.specs.Written.{compact_text};
 ghost use Rattle.json_tree.specs.Json.{value_of};
 ghost use Rattle.path_capture.specs.Write.{tree_or_null};
 ghost use Rattle.messages.specs.AnswerText.{plain_data, refusal_data};
 
 use crate::code::Code;
 use crate::refusal::{put_plain, put_refusal};
-use arena_snapshot::{View, write_tree};
+use arena_snapshot::{View, write_view};
 use json::Writer;
-use json_tree::{NoMemory, Node, write_node};
+use json_tree::{NoMemory, Node, write_json};
 use rtdb_core::Refusal;
-use std::alloc::{AllocError, Global};
+use std::alloc::Global;
 use std::marker::Model;
 use std::mem::replace;
 
@@ -109,20 +108,19 @@ impl AnswerWriter {
         ensures before { self.new.before ≡ self.old.before }
         ensures text { OnOk result (self.new.text ≡ self.old.text ++ quoted text.now) }
     {
-        let mut out = self.lend_room();
+        let mut out = Writer::new(self.lend_room());
         out.string(text)?;
-        self.put_written(out)?;
+        self.put_written(out.into_inner())?;
         Ok(())
     }
 
-    /// Writes the value of a tree, null for None.
+    /// Writes the value of a tree, null for None, in two passes over it.
     pub(crate) fn tree(&mut self, tree: Option<&Node>) -> Result<(), NoMemory>
         ensures before { self.new.before ≡ self.old.before }
         ensures text { OnOk result (self.new.text ≡ self.old.text ++ compact_text (value_of (tree_or_null (option_map (λ node. node.now) tree.entry)))) }
     {
-        let mut out = self.lend_room();
-        write_some_node(&mut out, tree)?;
-        self.put_written(out)?;
+        let text = write_json(self.lend_room(), tree)?;
+        self.put_written(text)?;
         Ok(())
     }
 
@@ -131,9 +129,8 @@ impl AnswerWriter {
         ensures before { self.new.before ≡ self.old.before }
         ensures text { OnOk result (self.new.text ≡ self.old.text ++ compact_text (value_of (tree_or_null (option_map (λ view. view.now) view.entry)))) }
     {
-        let mut out = self.lend_room();
-        write_some_view(&mut out, view)?;
-        self.put_written(out)?;
+        let text = write_view(self.lend_room(), view)?;
+        self.put_written(text)?;
         Ok(())
     }
 
@@ -142,9 +139,9 @@ impl AnswerWriter {
         ensures before { self.new.before ≡ self.old.before }
         ensures text { OnOk result (self.new.text ≡ self.old.text ++ compact_text (refusal_data refusal.now)) }
     {
-        let mut out = self.lend_room();
+        let mut out = Writer::new(self.lend_room());
         put_refusal(self.alloc, &mut out, refusal)?;
-        self.put_written(out)?;
+        self.put_written(out.into_inner())?;
         Ok(())
     }
 
@@ -153,50 +150,29 @@ impl AnswerWriter {
         ensures before { self.new.before ≡ self.old.before }
         ensures text { OnOk result (self.new.text ≡ self.old.text ++ compact_text (plain_data code)) }
     {
-        let mut out = self.lend_room();
+        let mut out = Writer::new(self.lend_room());
         put_plain(&mut out, code)?;
-        self.put_written(out)?;
+        self.put_written(out.into_inner())?;
         Ok(())
     }
 
-    // A writer of a value by itself, in memory that is kept from value to value.
-    fn lend_room(&mut self) -> Writer
+    // Room for a value by itself, in memory that is kept from value to value.
+    fn lend_room(&mut self) -> Vec<u8>
         ensures same { self.new ≡ self.old }
-        ensures before { result.before ≡ [] }
-        ensures tokens { result.tokens ≡ [] }
+        ensures none { result.items ≡ [] }
     {
         let mut room = replace(&mut self.room, Vec::new(self.alloc));
         room.clear();
-        Writer::new(room)
+        room
     }
 
-    // Writes what such a writer has written, whose memory is kept.
-    fn put_written(&mut self, out: Writer) -> Result<(), NoMemory>
+    // Writes what was written there, whose memory is kept.
+    fn put_written(&mut self, text: Vec<u8>) -> Result<(), NoMemory>
         ensures before { self.new.before ≡ self.old.before }
-        ensures text { OnOk result (self.new.text ≡ self.old.text ++ (out.before ++ print out.tokens)) }
+        ensures text { OnOk result (self.new.text ≡ self.old.text ++ text.items) }
     {
-        self.room = out.into_inner();
+        self.room = text;
         self.bytes.extend_from_slice(&self.room)?;
         Ok(())
-    }
-}
-
-fn write_some_node(out: &mut Writer, tree: Option<&Node>) -> Result<(), AllocError>
-    ensures before { out.new.before ≡ out.old.before }
-    ensures tokens { OnOk result (out.new.tokens ≡ out.old.tokens ++ json_tokens (outline (value_of (tree_or_null (option_map (λ node. node.now) tree.entry))))) }
-{
-    match tree {
-        Some(node) => write_node(out, node),
-        None => out.null(),
-    }
-}
-
-fn write_some_view(out: &mut Writer, view: Option<&View>) -> Result<(), AllocError>
-    ensures before { out.new.before ≡ out.old.before }
-    ensures tokens { OnOk result (out.new.tokens ≡ out.old.tokens ++ json_tokens (outline (value_of (tree_or_null (option_map (λ view. view.now) view.entry))))) }
-{
-    match view {
-        Some(view) => write_tree(out, view),
-        None => out.null(),
     }
 }

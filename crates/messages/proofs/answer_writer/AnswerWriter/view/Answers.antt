@@ -1,11 +1,15 @@
-use Rattle.std.proofs.Common.{Bor, option_map}
+use Rattle.std.proofs.Common.{◌++◌, ◌∙◌, Bor, option_map, ap}
+use Rattle.serde_json.specs.Written.{compact_text}
 use Rattle.tree_model.specs.Tree.{Tree}
 use Rattle.json_tree.specs.Json.{value_of}
 use Rattle.path_capture.specs.Write.{tree_or_null}
-use Rattle.messages.proofs.Behind.{value_behind}
+use Rattle.messages.proofs.Texts.{tree_is}
+use Rattle.messages.proofs.Behind.{text_put}
 use Rattle.messages.proofs.answer_writer.AnswerWriter.view.Goals as goal
 
 pub returns-clause-text : goal.returns-clause-text
 returns-clause-text c =
-    let done = c.in_ok-write_some_view.ensures in
-    value_behind (value_of (tree_or_null (option_map (λ (view : Bor Tree). view.now) c.args.view))) c.args.self.now c.lend_room-out.new.self c.put_written.new.self c.lend_room-out.result c.write_some_view.new.out c.lend_room-out.ensures.same c.lend_room-out.ensures.before c.lend_room-out.ensures.tokens done.before done.tokens c.in_ok-put_written.ensures.text
+    let tree = option_map (λ (view : Bor Tree). view.now) c.args.view in
+    let room = c.lend_room.result.items in
+    let written = c.in_ok-text.ensures ∙ ap (λ t. room ++ compact_text (value_of t)) (tree_is tree) in
+    text_put c.args.self.now c.lend_room.new.self c.put_written.new.self room c.in_ok-text.text.items (compact_text (value_of (tree_or_null tree))) c.lend_room.ensures.same c.lend_room.ensures.none written c.in_ok-put_written.ensures.text
