@@ -1,5 +1,5 @@
 -- Children in order, of which one is set, inserted or taken out.
-use Rattle.std.proofs.Common.{◌≡◌, ◌≢◌, ℕ, zero, suc, ◌+◌, ◌-◌, ◌<◌, ◌≤◌, ◌++◌, reverse, true, false, cond, ◌&&◌, List, [], ◌∷◌, length, get_or, set, take, drop, Some, None, Err, sym, ap, ◌∙◌, refl, arith}
+use Rattle.std.proofs.Common.{◌≡◌, ◌≢◌, ℕ, zero, suc, ◌-◌, ◌<◌, ◌≤◌, true, false, cond, ◌&&◌, List, [], ◌∷◌, length, get_or, set, take, drop, Some, None, Err, sym, ap, ◌∙◌, refl, arith}
 use Rattle.std.specs.declared.cmp.Ordering.{Ordering}
 use Rattle.std.specs.declared.cmp.Ordering.TheVariants.{Less, Equal, Greater}
 use Rattle.std.specs.Ordering.{is_lt, eq_by_cmp, ordering_reverse}
@@ -9,7 +9,7 @@ use Rattle.std.specs.FinMap.Entries.{below_all}
 use Rattle.std.specs.List.{AllByRecursion, insert, remove}
 use Rattle.std.specs.List.Sorted.{IsBinarySearchResult}
 use Rattle.std.specs.Str.{bytes_eq}
-use Rattle.std.proofs.lemmas.List.{get_or-set_same, length-set, length-append, reverse-append}
+use Rattle.std.proofs.lemmas.List.{get_or-set_same, length-set}
 use Rattle.std.proofs.lemmas.List.Edits.{length-insert, get_or-insert_at}
 use Rattle.std.proofs.lemmas.List.Sorted.{searchable_from_sorted}
 use Rattle.std.proofs.lemmas.Map.Text.{is_eq-slice_cmp}
@@ -180,11 +180,3 @@ first_and_rest {X} (y ∷ xs) x h is = (λ j. sym is j ∷ all xs j) ∙ ap (λ 
     all : (ys : List X) → ys ≡ take (length ys) ys
     all [] = refl
     all (z ∷ ys) = ap (λ zs. z ∷ zs) (all ys)
-
--- ---- keys that are taken from behind
-
-pub popped : {X : Type 0} (old new : List X) (x : X) → old ≡ new ++ x ∷ [] → reverse old ≡ x ∷ reverse new
-popped old new x e = ap reverse e ∙ reverse-append new (x ∷ [])
-
-pub popped_length : {X : Type 0} (old new : List X) (x : X) → old ≡ new ++ x ∷ [] → length old ≡ length new + 1
-popped_length old new x e = ap length e ∙ length-append new (x ∷ [])

@@ -4,6 +4,7 @@ use Rattle.std.specs.Cmp.{first_so}
 use Rattle.std.specs.Option.{option_map_or}
 use Rattle.std.specs.Str.{bytes_eq}
 use Rattle.std.proofs.lemmas.Bool.{false≢true}
+use Rattle.std.proofs.Math.Seq.{take-append_seam}
 use Rattle.tree_model.specs.declared.limits.TheConstants.{MAX_DEPTH}
 use Rattle.tree_model.specs.Key.{Key}
 use Rattle.tree_model.specs.Path.{Path, strip_prefix, is_prefix, is_proper_prefix, is_root}
@@ -134,8 +135,12 @@ module _ (t : Tree) (p q r : Path) (u : Tree) (is : p ≡ q ++ r) (clear : (x : 
 
 -- ---- at a primitive, and at given children
 
+-- a put below a primitive changes it
+pub place-lone : (v : Primitive) (k : Key) (p : Path) → changed_at (lone v) (k ∷ p) ≡ []
+place-lone v k p = ap (λ o. cond (is_some o) [] (k ∷ below_key (non_null (sub (lone v) (k ∷ []))) p)) (get-lone-root v)
+
 pub changed-lone : (v : Primitive) (k : Key) (p : Path) → sub (lone v) (changed_at (lone v) (k ∷ p)) ≡ lone v
-changed-lone v k p = ap (λ o. sub (lone v) (cond (is_some o) [] (k ∷ below_key (non_null (sub (lone v) (k ∷ []))) p))) (get-lone-root v) ∙ sub-root (lone v)
+changed-lone v k p = ap (sub (lone v)) (place-lone v k p) ∙ sub-root (lone v)
 
 -- below a primitive nothing exists
 pub exists-lone : (v : Primitive) (k : Key) (p : Path) → exists (lone v) (k ∷ p) ≡ false
@@ -144,15 +149,12 @@ exists-lone v k p = not_true _ (λ h. let found = found_at_or_below (lone v) (k 
 pub exists-null : (p : Path) → exists null p ≡ false
 exists-null p = exists-sub null p ∙ ap (λ t. not (is_null t)) (sub-null p) ∙ ap not is_null-null
 
--- in nothing it is the first key of the path
-pub changed-null : (p : Path) (n : ℕ) → n ≡ min (length p) 1 → take n p ≡ changed_at null p
-changed-null [] n is = let none : n ≡ 0 = omega arith in ap (λ m. take m []) none
-changed-null (k ∷ p) n is =
-    let one : n ≡ 1 = omega arith in
-    ap (λ m. take m (k ∷ p)) one
-    ∙ sym (
-    (λ i. cond (is_some (get-null [] i)) [] (k ∷ below_key (non_null (sub-null (k ∷ []) i)) p))
-    ∙ ap (λ o. k ∷ below_key o p) non_null-null)
+-- in nothing the first key of the path leads there, if it has one
+pub place-null : (p : Path) → length (changed_at null p) ≡ min (length p) 1
+place-null [] = refl
+place-null (k ∷ p) =
+    ap length ((λ i. cond (is_some (get-null [] i)) [] (k ∷ below_key (non_null (sub-null (k ∷ []) i)) p)) ∙ ap (λ o. k ∷ below_key o p) non_null-null)
+    ∙ omega arith
 
 changed-graft : (cs : List (Key × Tree)) (k : Key) (p : Path) → AreLawfulChildren cs → changed_at (graft cs) (k ∷ p) ≡ k ∷ below_key (non_null (child_of k cs)) p
 changed-graft cs k p h = λ i. cond (is_some (get-graft-root cs i)) [] (k ∷ below_key (non_null (sub-graft cs k h.0.ascending i)) p)
@@ -164,9 +166,12 @@ module _ {cs : List (Key × Tree)} {i : ℕ} {d : Key × Tree} {name : Key} (h :
   child_some : d.1 ≢ null
   child_some = subst (λ (c : Key × Tree). c.1 ≢ null) (sym h.at) (all_from_recursion (λ (c : Key × Tree). c.1 ≢ null) cs h.children.0.each i d h.within)
 
+  pub place-there : (p : Path) → changed_at (graft cs) (name ∷ p) ≡ name ∷ changed_at d.1 p
+  place-there p = changed-graft cs name p h.children ∙ ap (λ t. name ∷ below_key (non_null t) p) (child_is h) ∙ ap (λ o. name ∷ below_key o p) (non_null-some d.1 child_some)
+
   pub changed-there : (p : Path) → sub (graft cs) (changed_at (graft cs) (name ∷ p)) ≡ sub d.1 (changed_at d.1 p)
   changed-there p =
-      ap (sub (graft cs)) (changed-graft cs name p h.children ∙ ap (λ t. name ∷ below_key (non_null t) p) (child_is h) ∙ ap (λ o. name ∷ below_key o p) (non_null-some d.1 child_some))
+      ap (sub (graft cs)) (place-there p)
       ∙ sub-child cs name (changed_at d.1 p) h.children
       ∙ ap (λ t. sub t (changed_at d.1 p)) (child_is h)
 
@@ -180,9 +185,12 @@ module _ {cs : List (Key × Tree)} {i : ℕ} {name : Key} (h : IsMissing cs i na
   child_none : child_of name cs ≡ null
   child_none = ap (λ o. unwrap_or o null) h.none
 
+  pub place-missing : (p : Path) → changed_at (graft cs) (name ∷ p) ≡ name ∷ []
+  place-missing p = changed-graft cs name p h.children ∙ ap (λ t. name ∷ below_key (non_null t) p) child_none ∙ ap (λ o. name ∷ below_key o p) non_null-null
+
   pub changed-missing : (p : Path) → sub (graft cs) (changed_at (graft cs) (name ∷ p)) ≡ null
   changed-missing p =
-      ap (sub (graft cs)) (changed-graft cs name p h.children ∙ ap (λ t. name ∷ below_key (non_null t) p) child_none ∙ ap (λ o. name ∷ below_key o p) non_null-null)
+      ap (sub (graft cs)) (place-missing p)
       ∙ sub-child cs name [] h.children
       ∙ ap (λ t. sub t []) child_none
       ∙ sub-null []
@@ -194,6 +202,10 @@ module _ {cs : List (Key × Tree)} {i : ℕ} {name : Key} (h : IsMissing cs i na
       ∙ ap not is_null-null
 
 -- ---- together
+
+-- as many keys of the path as lead to what changes are its location
+pub take-changed : (t : Tree) (p : Path) → take (length (changed_at t p)) p ≡ changed_at t p
+take-changed t p = let above = changed-above t p in ap (take (length (changed_at t p))) above.1 ∙ take-append_seam (changed_at t p) above.0
 
 pub undoes : (t new : Tree) (p : Path) (u : Tree) → u ≢ null → new ≡ proposed t ((p, u) ∷ []) → Undoes (changed_at t p, sub t (changed_at t p)) new t
 undoes t new p u some is =

@@ -1,5 +1,5 @@
 //! A key: the name of one child.
-ghost use Rattle.std.specs.Prelude.{◌≡◌, ◌↔◌, false, true, IfOk, IsErrOf, decimal};
+ghost use Rattle.std.specs.Prelude.{◌≡◌, ◌↔◌, ◌<◌, ◌≤◌, ◌++◌, ◌∷◌, ℕ, List, false, true, length, take, get_or, IfOk, IsErrOf, decimal};
 ghost use Rattle.std.specs.List.{list_all};
 ghost use Rattle.tree_model.specs.Key.{is_key, is_key_byte, key_cmp};
 ghost use Rattle.json_tree.specs.declared.key.KeyFault.TheVariants.{NoMemory as no_memory};
@@ -75,6 +75,20 @@ impl Key {
         Ok(Key::of_lawful(alloc, text)?)
     }
 
+    /// The key of a text of bytes that may stand in a key, in one growth at most: of the text only the length is
+    /// tested.
+    pub fn of_key_bytes(alloc: Global, text: &str) -> Result<Key, KeyFault>
+        requires { list_all is_key_byte text.now ≡ true }
+        ensures ok { IfOk result (λ key. key ≡ text.now) }
+        ensures lawful { IfOk result (λ key. is_key key ≡ true) }
+        ensures bad_key { IsErrOf result KeyFault.BadKey ↔ (is_key text.now ≡ false) }
+    {
+        if !has_length_of_key(text) {
+            return Err(KeyFault::BadKey);
+        }
+        Ok(Key::of_lawful(alloc, text)?)
+    }
+
     /// The text of the key.
     pub fn text(&self) -> &str
         ensures bytes { result.now ≡ self.now }
@@ -130,6 +144,38 @@ pub fn is_lawful_key(text: &str) -> bool
     1 <= bytes.len() && bytes.len() <= MAX_KEY_BYTES && has_key_bytes(bytes)
 }
 
+// Whether a text of bytes that may stand in a key is one.
+fn has_length_of_key(text: &str) -> bool
+    requires { list_all is_key_byte text.now ≡ true }
+    ensures { result ≡ is_key text.now }
+{
+    let length = text.len();
+    1 <= length && length <= MAX_KEY_BYTES
+}
+
+/// The longest front of a text that has no byte but those that may stand in a key, and what follows it, in one
+/// pass over that front. It takes no memory.
+pub fn key_front(text: &str) -> (&str, &str)
+    ensures whole { text.now ≡ result.0.now ++ result.1.now }
+    ensures bytes { list_all is_key_byte result.0.now ≡ true }
+    ensures longest { (b : ℕ) (rest : List ℕ) → result.1.now ≡ b ∷ rest → is_key_byte b ≡ false }
+{
+    text.split_at(key_run(text.as_bytes()))
+}
+
+// How many bytes come first that may stand in a key.
+fn key_run(bytes: &[u8]) -> usize
+    ensures within { result ≤ length bytes.now }
+    ensures passes { list_all is_key_byte (take result bytes.now) ≡ true }
+    ensures stops { result < length bytes.now → is_key_byte (get_or bytes.now result 0) ≡ false }
+{
+    let mut n = 0;
+    while n < bytes.len() && is_key_byte(bytes[n]) {
+        n += 1;
+    }
+    n
+}
+
 fn has_key_bytes(bytes: &[u8]) -> bool
     ensures { result ≡ list_all is_key_byte bytes.now }
 {
@@ -139,9 +185,12 @@ fn has_key_bytes(bytes: &[u8]) -> bool
 fn is_key_byte(b: u8) -> bool
     ensures { result ≡ is_key_byte b }
 {
-    // Most bytes of keys are small letters.
+    // Most bytes of keys are small letters or digits.
     if b'^' <= b {
         return b != 127;
+    }
+    if b'0' <= b && b <= b'Z' {
+        return true;
     }
     32 <= b && !matches!(b, b'.' | b'$' | b'#' | b'[' | b']' | b'/')
 }

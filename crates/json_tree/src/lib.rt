@@ -23,7 +23,7 @@ pub use json_laws::{
 };
 pub use json_text::{write_json, write_node};
 pub use json_value::{ValueFault, from_json, to_json};
-pub use key::{Key, KeyFault, copy_keys, is_lawful_key};
+pub use key::{Key, KeyFault, copy_keys, is_lawful_key, key_front};
 pub use leaf::{Leaf, LeafText, Number};
 pub use memory::NoMemory;
 pub use node::{Child, Node, Place};

@@ -1,9 +1,9 @@
 //! Puts in place: one location of a stored tree is written, and memory is taken before anything
 //! changes.
-ghost use Rattle.std.specs.Prelude.{◌≡◌, ◌+◌, ◌<◌, ◌≤◌, ◌∷◌, [], true, length, reverse, unwrap_or, if◌then◌else◌, IfOk, IsOk, IsNone, IfSome, OnSome, IfNone, OnOk, OnErr};
+ghost use Rattle.std.specs.Prelude.{◌≡◌, ◌+◌, ◌<◌, ◌≤◌, ◌∷◌, [], true, length, unwrap_or, if◌then◌else◌, IfOk, IsOk, IsNone, IfSome, OnSome, IfNone, OnOk, OnErr};
 ghost use Rattle.std.specs.Bool.{OnTrue, OnFalse};
 ghost use Rattle.tree_model.specs.PathMap.{sub, exists, depth};
-ghost use Rattle.tree_model.specs.Tree.{null};
+ghost use Rattle.tree_model.specs.Tree.{null, IsLawful};
 ghost use Rattle.tree_model.specs.Children.{graft};
 ghost use Rattle.tree_model.specs.Write.{proposed};
 ghost use Rattle.json_tree.specs.Node.{AreLawfulChildren};
@@ -19,8 +19,8 @@ use std::alloc::Global;
 use std::mem::{replace, swap};
 use tree_model::MAX_DEPTH;
 
-/// Puts a tree at a path of a stored tree, or removes what is there, in place. The keys of the path
-/// are put where nothing exists yet, and not copied. Memory is taken only for what is new, and before
+/// Puts a tree at a path of a stored tree, or removes what is there, in place. A key is copied where a new
+/// child is made, by a growth only where it has over 24 bytes. Memory is taken only for what is new, and before
 /// anything changes: at an `Err` nothing has changed, and to remove, or to replace what is there, takes
 /// none. It takes one step down for each key, log w of w children each, beside what is written, and where
 /// a child is new or goes, those behind it move: d · w at most. The children of a node are counted anew only
@@ -40,7 +40,8 @@ pub fn put(
 {
     match value {
         Some(node) => {
-            put_node(alloc, tree, path, node)?;
+            let mut reach = 0;
+            put_node(alloc, tree, &path, node, &mut reach)?;
             Ok(())
         }
         None => {
@@ -52,34 +53,40 @@ pub fn put(
 
 // ---- what is put
 
-// Puts a tree at a path of a stored tree, and gives what stood where that changes it.
+// Puts a tree at a path of a stored tree, and gives what stood where that changes it. The number is raised by how
+// many keys lead there; after an `Err` it is of no use.
 pub(crate) fn put_node(
     alloc: Global,
     tree: &mut Option<Node>,
-    path: Vec<Key>,
+    path: &[Key],
     value: Node,
+    reach: &mut usize,
 ) -> Result<Option<Node>, NoMemory>
-    requires { length path.items + depth value ≤ MAX_DEPTH }
+    requires room { length path.now + depth value ≤ MAX_DEPTH }
+    requires reach { reach.old + length path.now ≤ MAX_DEPTH }
     ensures ok { OnOk result (unwrap_or tree.new null
-        ≡ proposed (unwrap_or tree.old null) ((path.items, value) ∷ [])) }
+        ≡ proposed (unwrap_or tree.old null) ((path.now, value) ∷ [])) }
     ensures was { IfOk result (λ was. unwrap_or was null
-        ≡ sub (unwrap_or tree.old null) (changed_at (unwrap_or tree.old null) path.items)) }
+        ≡ sub (unwrap_or tree.old null) (changed_at (unwrap_or tree.old null) path.now)) }
+    ensures reach { OnOk result (reach.new
+        ≡ reach.old + length (changed_at (unwrap_or tree.old null) path.now)) }
     ensures err { OnErr result (tree.new ≡ tree.old) }
-    ensures existing { exists (unwrap_or tree.old null) path.items ≡ true → IsOk result }
+    ensures existing { exists (unwrap_or tree.old null) path.now ≡ true → IsOk result }
+    ensures lawful { IsLawful (unwrap_or tree.old null) }
 {
-    let mut keys = path;
-    keys.reverse();
     match tree {
         Some(node) => {
+            node.law();
             let mut held = value;
-            if insert(alloc, node, &mut keys, &mut held)? {
+            if insert(alloc, node, path, &mut held, reach)? {
                 Ok(Some(held))
             } else {
                 Ok(None)
             }
         }
         None => {
-            *tree = Some(chain(alloc, &mut keys, value)?);
+            *tree = Some(chain(alloc, path, value)?);
+            *reach += path.len().min(1);
             Ok(None)
         }
     }
@@ -87,34 +94,38 @@ pub(crate) fn put_node(
 
 // Puts a tree at a path of a node, and leaves in its stead what stood where that changes the node, or, where
 // nothing did, a tree of no use, and is then false. So trees are handed on by reference, down to where one is
-// moved. Of the keys of the path the first stands last, from where each is taken.
+// moved. The number is raised by one for each key on the way to where the node changes; after an `Err` it is
+// of no use.
 #[cycle(insert)]
 fn insert(
     alloc: Global,
     node: &mut Node,
-    keys: &mut Vec<Key>,
+    path: &[Key],
     value: &mut Node,
+    reach: &mut usize,
 ) -> Result<bool, NoMemory>
-    requires { length keys.old.items + depth value.old ≤ MAX_DEPTH }
-    ensures ok { OnOk result (node.new ≡ proposed node.old ((reverse keys.old.items, value.old) ∷ [])) }
+    requires room { length path.now + depth value.old ≤ MAX_DEPTH }
+    requires reach { reach.old + length path.now ≤ MAX_DEPTH }
+    ensures ok { OnOk result (node.new ≡ proposed node.old ((path.now, value.old) ∷ [])) }
     ensures was { IfOk result (λ stood. (if stood then value.new else null)
-        ≡ sub node.old (changed_at node.old (reverse keys.old.items))) }
+        ≡ sub node.old (changed_at node.old path.now)) }
+    ensures reach { OnOk result (reach.new ≡ reach.old + length (changed_at node.old path.now)) }
     ensures err { OnErr result (node.new ≡ node.old) }
-    ensures existing { exists node.old (reverse keys.old.items) ≡ true → IsOk result }
+    ensures existing { exists node.old path.now ≡ true → IsOk result }
 {
-    let Some(key) = keys.pop() else {
+    let [key, rest @ ..] = path else {
         swap(node, value);
         return Ok(true);
     };
     match &mut node.kind {
         Kind::Primitive(_) => {
             value.law();
-            let parent = only_child(alloc, key, chain(alloc, keys, taken(value))?)?;
+            let parent = only_child(alloc, key, chain(alloc, rest, taken(value))?)?;
             *value = replace(node, parent);
             Ok(true)
         }
         Kind::Parent(children) => {
-            let (exchange, stood) = insert_below(alloc, children, key, keys, value)?;
+            let (exchange, stood) = insert_below(alloc, children, key, rest, value, reach)?;
             let (depth, count) = sizes_after(children, node.depth, node.count, exchange);
             node.depth = depth;
             node.count = count;
@@ -123,37 +134,43 @@ fn insert(
     }
 }
 
-// Puts a tree at a path below the child of a key, and leaves in its stead what stood there.
+// Puts a tree at a path below the child of a key, and leaves in its stead what stood there. The number is raised
+// in the same way, the key of the child among the others.
 #[cycle(insert)]
 fn insert_below(
     alloc: Global,
     children: &mut Vec<Child>,
-    key: Key,
-    keys: &mut Vec<Key>,
+    key: &Key,
+    rest: &[Key],
     value: &mut Node,
+    reach: &mut usize,
 ) -> Result<(Exchange, bool), NoMemory>
     requires children { AreLawfulChildren children.old.items }
-    requires room { length keys.old.items + depth value.old < MAX_DEPTH }
+    requires room { length rest.now + depth value.old < MAX_DEPTH }
+    requires reach { reach.old + length rest.now < MAX_DEPTH }
     ensures children { AreLawfulChildren children.new.items }
     ensures exchange { IfOk result (λ made. Exchanges children.old.items children.new.items made.0) }
     ensures ok { OnOk result (graft children.new.items
-        ≡ proposed (graft children.old.items) ((key ∷ reverse keys.old.items, value.old) ∷ [])) }
+        ≡ proposed (graft children.old.items) ((key.now ∷ rest.now, value.old) ∷ [])) }
     ensures was { IfOk result (λ made. (if made.1 then value.new else null)
-        ≡ sub (graft children.old.items) (changed_at (graft children.old.items) (key ∷ reverse keys.old.items))) }
+        ≡ sub (graft children.old.items) (changed_at (graft children.old.items) (key.now ∷ rest.now))) }
+    ensures reach { OnOk result (reach.new
+        ≡ reach.old + length (changed_at (graft children.old.items) (key.now ∷ rest.now))) }
     ensures err { OnErr result (children.new.items ≡ children.old.items) }
-    ensures existing { exists (graft children.old.items) (key ∷ reverse keys.old.items) ≡ true → IsOk result }
+    ensures existing { exists (graft children.old.items) (key.now ∷ rest.now) ≡ true → IsOk result }
 {
+    *reach += 1;
     match index_of(children, key.text()) {
         Ok(index) => {
             let before = share_of(children[index].node());
-            let stood = insert(alloc, &mut children[index].held.1, keys, value)?;
+            let stood = insert(alloc, &mut children[index].held.1, rest, value, reach)?;
             let after = share_of(children[index].node());
             Ok((Exchange { before, after }, stood))
         }
         Err(index) => {
-            let below = chain(alloc, keys, taken(value))?;
+            let below = chain(alloc, rest, taken(value))?;
             let after = share_of(&below);
-            let child = Child::new(alloc, key, below)?;
+            let child = Child::new(alloc, key.copy(alloc)?, below)?;
             children.insert(index, child)?;
             Ok((
                 Exchange {
@@ -179,23 +196,23 @@ fn taken(value: &mut Node) -> Node
 }
 
 // The tree of a tree at a path: one child at each key.
-fn chain(alloc: Global, keys: &mut Vec<Key>, value: Node) -> Result<Node, NoMemory>
-    requires { length keys.old.items + depth value ≤ MAX_DEPTH }
-    ensures { IfOk result (λ node. node ≡ proposed null ((reverse keys.old.items, value) ∷ [])) }
+fn chain(alloc: Global, path: &[Key], value: Node) -> Result<Node, NoMemory>
+    requires { length path.now + depth value ≤ MAX_DEPTH }
+    ensures { IfOk result (λ node. node ≡ proposed null ((path.now, value) ∷ [])) }
 {
-    match keys.pop() {
-        Some(key) => only_child(alloc, key, chain(alloc, keys, value)?),
-        None => Ok(value),
+    match path {
+        [key, rest @ ..] => only_child(alloc, key, chain(alloc, rest, value)?),
+        [] => Ok(value),
     }
 }
 
 // The node with this one child.
-fn only_child(alloc: Global, key: Key, child: Node) -> Result<Node, NoMemory>
+fn only_child(alloc: Global, key: &Key, child: Node) -> Result<Node, NoMemory>
     requires { depth child < MAX_DEPTH }
-    ensures { IfOk result (λ node. node ≡ graft ((key, child) ∷ [])) }
+    ensures { IfOk result (λ node. node ≡ graft ((key.now, child) ∷ [])) }
 {
     let mut children = Vec::new(alloc);
-    children.push(Child::new(alloc, key, child)?)?;
+    children.push(Child::new(alloc, key.copy(alloc)?, child)?)?;
     Node::of_children(children)
 }
 

@@ -1,12 +1,11 @@
 //! Puts that can be undone: of several puts, those that were made are undone where a later one fails.
-ghost use Rattle.std.specs.Prelude.{◌≡◌, ◌+◌, ◌≤◌, ◌∷◌, [], true, length, take, unwrap_or, IfOk, OnOk, OnErr};
+ghost use Rattle.std.specs.Prelude.{◌≡◌, ◌+◌, ◌≤◌, ◌∷◌, [], true, length, unwrap_or, IfOk, OnOk, OnErr};
 ghost use Rattle.tree_model.specs.PathMap.{exists, depth};
-ghost use Rattle.tree_model.specs.Tree.{null, IsLawful};
+ghost use Rattle.tree_model.specs.Tree.{null};
 ghost use Rattle.tree_model.specs.Write.{location, proposed};
 ghost use Rattle.json_tree.specs.Undo.{Undoes};
-ghost use Rattle.json_tree.specs.Working.Changed.{changed_at};
 
-use crate::key::{Key, copy_keys};
+use crate::key::Key;
 use crate::memory::NoMemory;
 use crate::node::Node;
 use crate::puts::{put, put_node};
@@ -52,8 +51,8 @@ impl Undo {
 }
 
 /// Puts a tree at a path of a stored tree, as [`put`] does, and gives what undoes it: a replaced tree is
-/// kept, not dropped. The keys that lead to what changes are copied, by one growth at most each and one for
-/// their list, before anything changes; so it takes the way down twice.
+/// kept, not dropped. The keys of the path that lead to what changes are kept for it, and none is
+/// copied; the time is that of [`put`].
 pub fn put_with_undo(
     alloc: Global,
     tree: &mut Option<Node>,
@@ -67,42 +66,9 @@ pub fn put_with_undo(
     ensures err { OnErr result (tree.new ≡ tree.old) }
 {
     value.law();
-    let reach = reach_in(tree, &path);
-    let way = copy_keys(alloc, &path[..reach])?;
-    let was = put_node(alloc, tree, path, value)?;
+    let mut reach = 0;
+    let was = put_node(alloc, tree, &path, value, &mut reach)?;
+    let mut way = path;
+    way.truncate(reach);
     Ok(Undo { path: way, was })
-}
-
-// How many keys of a path lead to where a put there changes a stored tree.
-fn reach_in(tree: &Option<Node>, path: &[Key]) -> usize
-    ensures at { take result path.now ≡ changed_at (unwrap_or tree.now null) path.now }
-    ensures within { result ≤ length path.now }
-    ensures lawful { IsLawful (unwrap_or tree.now null) }
-{
-    match tree {
-        Some(node) => {
-            node.law();
-            reach(node, path)
-        }
-        None => path.len().min(1),
-    }
-}
-
-// The same of a node.
-fn reach(node: &Node, path: &[Key]) -> usize
-    ensures at { take result path.now ≡ changed_at node.now path.now }
-    ensures within { result ≤ length path.now }
-{
-    match path {
-        [] => 0,
-        [key, rest @ ..] => {
-            if node.leaf().is_some() {
-                return 0;
-            }
-            match node.child(key.text()) {
-                Some(child) => reach(child, rest) + 1,
-                None => 1,
-            }
-        }
-    }
 }

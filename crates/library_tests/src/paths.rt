@@ -7,7 +7,7 @@ use test_tables::{LongRow, Row, first_other, first_other_of_long};
 
 // ---- paths
 
-const PATHS: [Row; 14] = [
+const PATHS: [Row; 17] = [
     ("", "/"),
     ("/", "/"),
     ("///", "/"),
@@ -15,6 +15,9 @@ const PATHS: [Row; 14] = [
     ("/a//b", "/a/b"),
     ("a/b/", "/a/b"),
     ("/one two/été", "/one two/été"),
+    ("été//ü", "/été/ü"),
+    ("/a/é.", "BadPath"),
+    ("é\u{1f}", "BadPath"),
     ("/a.b", "BadPath"),
     ("$a", "BadPath"),
     ("/a/b#", "BadPath"),

@@ -4,7 +4,8 @@ ghost use Rattle.tree_model.specs.PathMap.{depth};
 ghost use Rattle.tree_model.specs.Tree.{null};
 
 use json_tree::{
-    Child, Key, Leaf, NoMemory, Node, Number, ValueFault, from_json, put, to_json, write_json,
+    Child, Key, Leaf, NoMemory, Node, Number, ValueFault, from_json, key_front, put, to_json,
+    write_json,
 };
 use serde_json::Value;
 use std::alloc::Global;
@@ -183,6 +184,31 @@ fn key_of(alloc: Global, text: &str) -> Result<String, Fail> {
 #[test]
 fn lawful_keys(rt: HostRuntime) -> Result<(), Fail> {
     let other = first_other(rt.alloc(), &KEYS, key_of)?;
+    assert_eq!(rt; other.as_str(), "");
+    Ok(())
+}
+
+const FRONTS: [Row; 6] = [
+    ("a/b", "a and /b"),
+    ("été.b", "été and .b"),
+    ("/a", "BadKey and /a"),
+    ("", "BadKey and "),
+    ("Zz09-_ :é", "Zz09-_ :é and "),
+    ("a\u{7f}", "a and \u{7f}"),
+];
+
+// The key of the longest front of a text that has only bytes of keys, or its fault, and what follows it.
+fn front_of(alloc: Global, text: &str) -> Result<String, Fail> {
+    let (front, rest) = key_front(text);
+    match Key::of_key_bytes(alloc, front) {
+        Ok(key) => Ok(format!(in alloc; "{} and {rest}", key.text())?),
+        Err(fault) => Ok(format!(in alloc; "{fault:?} and {rest}")?),
+    }
+}
+
+#[test]
+fn fronts_of_texts(rt: HostRuntime) -> Result<(), Fail> {
+    let other = first_other(rt.alloc(), &FRONTS, front_of)?;
     assert_eq!(rt; other.as_str(), "");
     Ok(())
 }

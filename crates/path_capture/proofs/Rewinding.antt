@@ -1,8 +1,9 @@
 -- Writes of one update that are made one after another, and undone again.
-use Rattle.std.proofs.Common.{◌≡◌, ◌≢◌, ◌<◌, ◌≤◌, ◌+◌, ℕ, zero, suc, true, false, cond, reverse, List, [], ◌∷◌, length, drop, get_or, Option, Some, None, option_map, is_some, unwrap_or, Result, Ok, Err, OnOk, refl, sym, ap, ◌∙◌, subst, arith}
+use Rattle.std.proofs.Common.{◌≡◌, ◌≢◌, ◌<◌, ◌≤◌, ◌+◌, ℕ, zero, suc, true, false, cond, reverse, List, [], ◌∷◌, ◌++◌, length, drop, get_or, Option, Some, None, option_map, is_some, unwrap_or, Result, Ok, Err, OnOk, refl, sym, ap, ◌∙◌, subst, arith}
 use Rattle.std.specs.List.{swap_remove}
 use Rattle.std.specs.Result.{IsOk}
 use Rattle.std.proofs.lemmas.Bool.{false≢true}
+use Rattle.std.proofs.lemmas.List.{reverse-append}
 use Rattle.std.proofs.lemmas.List.Sorted.{IsPermutation-swap_remove}
 use Rattle.tree_model.specs.Tree.{Tree, null, non_null}
 use Rattle.tree_model.specs.Write.{Write, overlaps, proposed}
@@ -11,10 +12,13 @@ use Rattle.tree_model.proofs.Existence.{by_null, non_null-null}
 use Rattle.tree_model.proofs.Order.{overlaps-permutation, proposed-permutation}
 use Rattle.tree_model.proofs.OneByOne.{proposed-cons}
 use Rattle.json_tree.specs.Undo.{Undoes}
-use Rattle.json_tree.proofs.Edits.{popped}
 use Rattle.json_tree.proofs.Lists.{drop_next}
 use Rattle.path_capture.specs.Write.{tree_or_null}
 use Rattle.path_capture.specs.Working.Rewind.{rewound, CanRewind, IsOneMore}
+
+-- what is taken from behind comes first in the other order
+pub popped : {X : Type 0} (old new : List X) (x : X) → old ≡ new ++ x ∷ [] → reverse old ≡ x ∷ reverse new
+popped old new x e = ap reverse e ∙ reverse-append new (x ∷ [])
 
 -- none is null, in either word
 pub same_or_null : (o : Option Tree) → unwrap_or o null ≡ tree_or_null o

@@ -1,21 +1,23 @@
 -- The segments of a text, piece by piece; and those of a printed path.
-use Rattle.std.proofs.Common.{◌≡◌, ℕ, ◌+◌, ◌≤◌, ◌<◌, ◌==◌, Bool, true, false, cond, not, ◌&&◌, ◌||◌, List, [], ◌∷◌, ◌++◌, length, take, get_or, Some, None, sym, ap, ◌∙◌, refl, arith}
+use Rattle.std.proofs.Common.{◌≡◌, ℕ, ◌+◌, ◌≤◌, ◌<◌, ◌==◌, Bool, true, false, cond, not, ◌&&◌, ◌||◌, List, [], ◌∷◌, ◌++◌, length, take, get_or, Some, None, inl, inr, sym, ap, ◌∙◌, refl, arith}
 use Rattle.std.specs.Prelude.{filter, codes, flat_map}
 use Rattle.std.specs.List.{list_all}
 use Rattle.std.specs.Cmp.{first_so, second_so}
 use Rattle.std.proofs.lemmas.Bool.{false≢true}
+use Rattle.std.proofs.lemmas.Bool.Decides.{nat_tests}
 use Rattle.std.proofs.lemmas.List.{take_more, take_all, append-nil, append_assoc, length-append, length-take-le}
 use Rattle.std.proofs.lemmas.List.Elements.{filter-append}
 use Rattle.std.proofs.lemmas.List.Folds.{list_all_at, list_all-append}
 use Rattle.std.proofs.lemmas.List.Splits.{length-slice_split, slice_split_none, slice_split_at}
 use Rattle.std.proofs.lemmas.List.Sums.{length-filter, count_by-le-length}
 use Rattle.tree_model.specs.declared.limits.TheConstants.{MAX_DEPTH}
-use Rattle.tree_model.specs.Key.{Key, is_key}
+use Rattle.tree_model.specs.Key.{Key, is_key, is_key_byte}
 use Rattle.tree_model.specs.Path.{Path, is_path}
 use Rattle.tree_model.proofs.Choices.{both_so}
-use Rattle.tree_model.proofs.Lawful.{path_keys, path_length}
+use Rattle.tree_model.proofs.Lawful.{is_path_from, path_keys}
 use Rattle.path_capture.specs.Path.{pieces, segments, printed}
-use Rattle.path_capture.proofs.Signs.{key_without_slash, key_is_not_empty}
+use Rattle.path_capture.specs.Working.Slashes.{ends_piece, IsPastSlash}
+use Rattle.path_capture.proofs.Signs.{bytes_without_slash, key_without_slash, key_is_not_empty}
 
 -- the pieces that are not empty
 abbrev pub named : List Key → List Key
@@ -67,31 +69,69 @@ Counted-with ps n piece count at h lawful so_far =
       is = ap (λ x. x + 1) so_far.is ∙ sym (length-append (named (take n ps)) (piece ∷ [])) ∙ ap length (sym more);
     }
 
--- the keys so far are those before and the segments among the first n pieces, all of them lawful, and not too many
-pub record Keyed (front ps : List Key) (n : ℕ) (keys : List Key) : Type 0 where
-  pub is : keys ≡ front ++ named (take n ps)
-  pub lawful : list_all is_key keys ≡ true
-  pub room : length keys ≤ MAX_DEPTH
+-- ---- a loop over the text
 
-pub Keyed-none : (front ps : List Key) → is_path front ≡ true → Keyed front ps 0 front
-Keyed-none front ps h = record { is = sym (append-nil front); lawful = path_keys front h; room = path_length front h }
+-- a piece without a slash is one segment, or none
+pub segments_of_piece : (piece : List ℕ) → list_all is_key_byte piece ≡ true → segments piece ≡ named (piece ∷ [])
+segments_of_piece piece bytes = ap named (slice_split_none (λ b. b == 47) piece (bytes_without_slash piece bytes))
 
-pub Keyed-past : (front ps : List Key) (n : ℕ) (piece : Key) (keys : List Key) → IsPieceAt ps n piece → (length piece == 0) ≡ true → Keyed front ps n keys → Keyed front ps (n + 1) keys
-Keyed-past front ps n piece keys at h so_far =
-    record { is = so_far.is ∙ ap (λ rest. front ++ rest) (sym (named_past ps n piece at h)); lawful = so_far.lawful; room = so_far.room }
+pub segments_of_nothing : (piece : List ℕ) → length piece ≡ 0 → segments piece ≡ []
+segments_of_nothing [] none = refl
+segments_of_nothing (b ∷ piece) none = absurd (omega arith)
 
-pub Keyed-with : (front ps : List Key) (n : ℕ) (piece : Key) (keys : List Key) → IsPieceAt ps n piece → (length piece == 0) ≡ false → is_key piece ≡ true → length keys < MAX_DEPTH → Keyed front ps n keys → Keyed front ps (n + 1) (keys ++ piece ∷ [])
-Keyed-with front ps n piece keys at h lawful less so_far =
-    let longer = length-append keys (piece ∷ []) in
+pub segments_of_key : (piece : List ℕ) → list_all is_key_byte piece ≡ true → is_key piece ≡ true → segments piece ≡ piece ∷ []
+segments_of_key piece bytes lawful = segments_of_piece piece bytes ∙ named_full piece [] (key_is_not_empty piece lawful)
+
+-- where a piece ends before something, that begins with an ASCII byte
+pub ascii_first : (text : List ℕ) → ends_piece text ≡ true → 0 < length text → get_or text 0 0 < 128
+ascii_first [] h some = absurd (omega arith)
+ascii_first (b ∷ rest) h some = grind (arith, nat_tests)
+
+-- a path with room for one key more
+pub path_with : (keys : List Key) (k : Key) → is_path keys ≡ true → is_key k ≡ true → length keys < MAX_DEPTH → is_path (keys ++ k ∷ []) ≡ true
+path_with keys k path lawful less =
+    let longer = length-append keys (k ∷ []) in
+    is_path_from _ (list_all-append is_key keys (k ∷ []) ∙ both_so _ _ (path_keys keys path) (both_so _ _ lawful refl)) (omega arith)
+
+-- what a piece and what follows the slash behind it add
+pub segments_past : (text piece behind rest : List ℕ) → text ≡ piece ++ behind → list_all is_key_byte piece ≡ true → IsPastSlash behind rest → segments text ≡ segments piece ++ segments rest
+segments_past text piece behind rest whole bytes (inl both) =
+    ap segments whole
+    ∙ ap (λ b. segments (piece ++ b)) both.0
+    ∙ ap segments (append-nil piece)
+    ∙ sym (append-nil (segments piece))
+    ∙ ap (λ r. segments piece ++ segments r) (sym both.1)
+segments_past text piece behind rest whole bytes (inr slash) =
+    ap segments whole
+    ∙ ap (λ b. segments (piece ++ b)) slash
+    ∙ ap named (slice_split_at (λ b. b == 47) piece 47 rest (bytes_without_slash piece bytes) refl)
+    ∙ filter-append (λ p. not (length p == 0)) (piece ∷ []) (pieces rest)
+    ∙ ap (λ s. s ++ segments rest) (sym (segments_of_piece piece bytes))
+
+-- what is left is shorter
+pub shorter_past : (text piece behind rest : List ℕ) → text ≡ piece ++ behind → IsPastSlash behind rest → 0 < length text → length rest < length text
+shorter_past text piece behind rest whole (inl both) some = let none = ap (λ (b : List ℕ). length b) both.1 in omega arith
+shorter_past text piece behind rest whole (inr slash) some =
+    let long = ap (λ (b : List ℕ). length b) whole ∙ length-append piece behind in
+    let behind_long = ap (λ (b : List ℕ). length b) slash in
+    omega arith
+
+-- the keys so far, a lawful path, and the segments of what is left of the text are those before and those of all of it
+pub record Keyed (front : List Key) (text : List ℕ) (keys : List Key) (rest : List ℕ) : Type 0 where
+  pub is : keys ++ segments rest ≡ front ++ segments text
+  pub path : is_path keys ≡ true
+
+-- one piece more
+pub Keyed-more : (front : List Key) (text : List ℕ) (keys more : List Key) (all piece behind rest : List ℕ) → Keyed front text keys all → all ≡ piece ++ behind → list_all is_key_byte piece ≡ true → IsPastSlash behind rest → more ≡ keys ++ segments piece → is_path more ≡ true → Keyed front text more rest
+Keyed-more front text keys more all piece behind rest so_far whole bytes past added path =
     record {
-      is = ap (λ all. all ++ piece ∷ []) so_far.is ∙ append_assoc front (named (take n ps)) (piece ∷ []) ∙ ap (λ rest. front ++ rest) (sym (named_with ps n piece at h));
-      lawful = list_all-append is_key keys (piece ∷ []) ∙ both_so _ _ so_far.lawful (both_so _ _ lawful refl);
-      room = omega arith;
+      is = ap (λ ks. ks ++ segments rest) added ∙ append_assoc keys (segments piece) (segments rest) ∙ ap (λ s. keys ++ s) (sym (segments_past all piece behind rest whole bytes past)) ∙ so_far.is;
+      path = path;
     }
 
--- after all pieces, the keys are those before and the segments, a lawful path
-pub keyed_all : (front ps : List Key) (n : ℕ) (keys : List Key) → n ≡ length ps → Keyed front ps n keys → keys ≡ front ++ named ps
-keyed_all front ps n keys h so_far = so_far.is ∙ ap (λ taken. front ++ named taken) (take_all n ps (omega arith))
+-- where nothing is left, the keys are those before and the segments
+pub keyed_all : (front : List Key) (text : List ℕ) (keys : List Key) (rest : List ℕ) → length rest ≡ 0 → Keyed front text keys rest → keys ≡ front ++ segments text
+keyed_all front text keys rest none so_far = sym (append-nil keys) ∙ ap (λ s. keys ++ s) (sym (segments_of_nothing rest none)) ∙ so_far.is
 
 -- there are no more segments than bytes, and one
 pub Counted-fits : (text : List ℕ) (n count : ℕ) → n < length (pieces text) → Counted (pieces text) n count → count ≤ length text

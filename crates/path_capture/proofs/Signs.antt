@@ -35,9 +35,13 @@ key_bytes : (k : Key) → is_key k ≡ true → list_all is_key_byte k ≡ true
 unfolding is_key
 key_bytes k h = second_so (nat_le 1 (length k) && nat_le (length k) MAX_KEY_BYTES) _ (first_so _ (is_utf8 k) h)
 
+-- no byte that may stand in a key is a slash
+pub bytes_without_slash : (bytes : List ℕ) → list_all is_key_byte bytes ≡ true → All (λ b. (b == 47) ≡ false) bytes
+bytes_without_slash bytes h = All-weaker (λ b. is_key_byte b ≡ true) (λ b. (b == 47) ≡ false) no_slash bytes (AllPass-from_list_all is_key_byte bytes h)
+
 -- no byte of a key is a slash
 pub key_without_slash : (k : Key) → is_key k ≡ true → All (λ b. (b == 47) ≡ false) k
-key_without_slash k h = All-weaker (λ b. is_key_byte b ≡ true) (λ b. (b == 47) ≡ false) no_slash k (AllPass-from_list_all is_key_byte k (key_bytes k h))
+key_without_slash k h = bytes_without_slash k (key_bytes k h)
 
 key_length : (k : Key) → is_key k ≡ true → 1 ≤ length k
 unfolding is_key

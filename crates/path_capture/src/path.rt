@@ -1,12 +1,13 @@
 //! A path: which location of a tree is meant.
-ghost use Rattle.std.specs.Prelude.{◌≡◌, ◌↔◌, ◌<◌, ◌≤◌, ◌+◌, ◌++◌, ℕ, List, [], true, false, length, Some, None, if◌then◌else◌, IfOk, IfSome, OnOk, OnErr, IsErrOf, string_bytes};
+ghost use Rattle.std.specs.Prelude.{◌≡◌, ◌↔◌, ◌<◌, ◌≤◌, ◌+◌, ◌++◌, ℕ, List, [], true, false, length, Some, None, if◌then◌else◌, IfOk, IfSome, OnSome, OnOk, OnErr, IsErrOf, string_bytes};
 ghost use Rattle.std.specs.List.{list_all};
-ghost use Rattle.tree_model.specs.Key.{is_key};
+ghost use Rattle.tree_model.specs.Key.{is_key, is_key_byte};
 ghost use Rattle.tree_model.specs.Path.{path_cmp, is_path, is_prefix};
 ghost use Rattle.path_capture.specs.Path.{segments, printed};
+ghost use Rattle.path_capture.specs.Working.Slashes.{ends_piece, IsPastSlash};
 ghost use Rattle.path_capture.specs.declared.path.PathFault.TheVariants.{NoMemory as no_memory};
 
-use json_tree::{Key, NoMemory, copy_keys, is_lawful_key};
+use json_tree::{Key, NoMemory, copy_keys, is_lawful_key, key_front};
 use std::alloc::Global;
 use std::cmp::Ordering;
 use std::marker::Model;
@@ -212,16 +213,52 @@ fn keys_below(alloc: Global, front: &[Key], text: &str) -> Option<Vec<Key>>
     ensures path { IfSome result (λ keys. is_path keys.items ≡ true) }
 {
     let mut keys = begun(alloc, front)?;
-    for piece in text.split('/') {
-        if piece.is_empty() {
-            continue;
-        }
-        if keys.len() == MAX_DEPTH {
+    let mut rest = text;
+    while !rest.is_empty() {
+        let (piece, behind) = key_front(rest);
+        keep_piece(alloc, &mut keys, piece)?;
+        if !ends_piece(behind) {
             return None;
         }
-        keys.push(Key::new(alloc, piece).ok()?).ok()?;
+        rest = past_slash(behind);
     }
     Some(keys)
+}
+
+// Whether a piece ends before this text: nothing comes, or a slash.
+fn ends_piece(text: &str) -> bool
+    ensures { result ≡ ends_piece text.now }
+{
+    matches!(text.as_bytes(), [] | [b'/', ..])
+}
+
+// What follows the slash that comes first, or nothing where nothing comes.
+fn past_slash(text: &str) -> &str
+    requires { ends_piece text.now ≡ true }
+    ensures { IsPastSlash text.now result.now }
+{
+    if text.is_empty() {
+        return text;
+    }
+    text.split_at(1).1
+}
+
+// Keeps a piece as one key more, unless it is empty. `None` where it is too long for a key, where there are 32
+// already, or where memory is wanted.
+fn keep_piece(alloc: Global, keys: &mut Vec<Key>, piece: &str) -> Option<()>
+    requires bytes { list_all is_key_byte piece.now ≡ true }
+    requires path { is_path keys.old.items ≡ true }
+    ensures keys { OnSome result (keys.new.items ≡ keys.old.items ++ segments piece.now) }
+    ensures path { OnSome result (is_path keys.new.items ≡ true) }
+{
+    if piece.is_empty() {
+        return Some(());
+    }
+    if keys.len() == MAX_DEPTH {
+        return None;
+    }
+    keys.push(Key::of_key_bytes(alloc, piece).ok()?).ok()?;
+    Some(())
 }
 
 // The same keys once more, with room for as many as are usual behind them, or `None` where memory is wanted.

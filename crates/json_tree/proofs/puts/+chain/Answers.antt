@@ -1,29 +1,28 @@
-use Rattle.std.proofs.Common.{◌∷◌, [], reverse, sym, ap, ◌∙◌, arith}
-use Rattle.std.proofs.lemmas.List.{nil_from_length, length-reverse}
+use Rattle.std.proofs.Common.{◌-◌, ◌∷◌, [], length, take, drop, sym, ap, ◌∙◌, arith}
+use Rattle.std.proofs.lemmas.List.{nil_from_length}
 use Rattle.std.proofs.lemmas.Result.{IfOk-weaker}
 use Rattle.tree_model.specs.Tree.{null}
 use Rattle.tree_model.specs.Write.{proposed}
-use Rattle.json_tree.proofs.Edits.{popped, popped_length}
+use Rattle.json_tree.proofs.Edits.{first_and_rest}
 use Rattle.json_tree.proofs.Proposing.{proposed-root, proposed-chain, depth-chain}
 use Rattle.json_tree.proofs.puts.+chain.Goals as goal
 
 pub only_child-requires : goal.only_child-requires
 only_child-requires t c =
-    let rest = c.pop.new.self.items in
-    let long = popped_length c.args.keys.now.items rest c.in-Some.key c.in-Some.ensures.items in
-    let back = length-reverse rest in
-    let deep = depth-chain c.in_ok-chain-in-Some.field-0 (reverse rest) c.args.value c.in_ok-chain-in-Some.ensures in
+    let rest = take (length c.args.path.now - 1) (drop 1 c.args.path.now) in
+    let long = ap length (first_and_rest c.args.path.now c.key-item.result (omega arith) c.key-item.is) in
+    let deep = depth-chain c.in_ok-chain-in-len1-up.field-0 rest c.args.value c.in_ok-chain-in-len1-up.ensures in
     let room = c.requires in
     omega arith
 
-pub returns-in_ok-chain-in-Some : goal.returns-in_ok-chain-in-Some
-returns-in_ok-chain-in-Some t c =
-    let rest = c.pop.new.self.items in
-    let tree = proposed-chain c.in-Some.key (reverse rest) c.in_ok-chain-in-Some.field-0 c.args.value c.in_ok-chain-in-Some.ensures in
-    let path = popped c.args.keys.now.items rest c.in-Some.key c.in-Some.ensures.items in
-    IfOk-weaker c.only_child-in-Some.result _ _ (λ node made. made ∙ tree ∙ ap (λ p. proposed null ((p, c.args.value) ∷ [])) (sym path)) c.only_child-in-Some.ensures
+pub returns-in_ok-chain-in-len1-up : goal.returns-in_ok-chain-in-len1-up
+returns-in_ok-chain-in-len1-up t c =
+    let rest = take (length c.args.path.now - 1) (drop 1 c.args.path.now) in
+    let tree = proposed-chain c.key-item.result rest c.in_ok-chain-in-len1-up.field-0 c.args.value c.in_ok-chain-in-len1-up.ensures in
+    let path = first_and_rest c.args.path.now c.key-item.result (omega arith) c.key-item.is in
+    IfOk-weaker c.only_child.result _ _ (λ node made. made ∙ tree ∙ ap (λ p. proposed null ((p, c.args.value) ∷ [])) (sym path)) c.only_child.ensures
 
-pub returns-in-None : goal.returns-in-None
-returns-in-None t c =
-    let none = nil_from_length c.args.keys.now.items (omega (arith, c.args.keys.now.ok.0, c.in-None.ensures.cases.0)) in
-    sym (ap (λ p. proposed null ((reverse p, c.args.value) ∷ [])) none ∙ proposed-root null c.args.value)
+pub returns-in-empty : goal.returns-in-empty
+returns-in-empty t c =
+    let none = nil_from_length c.args.path.now (omega arith) in
+    sym (ap (λ p. proposed null ((p, c.args.value) ∷ [])) none ∙ proposed-root null c.args.value)

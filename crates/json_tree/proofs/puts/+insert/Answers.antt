@@ -1,8 +1,8 @@
-use Rattle.std.proofs.Common.{◌≡◌, ◌≢◌, ◌<◌, true, ◌∷◌, [], reverse, sym, ap, ◌∙◌, subst, refl, arith}
+use Rattle.std.proofs.Common.{◌≡◌, ◌≢◌, ◌+◌, ◌-◌, ◌<◌, true, ◌∷◌, [], length, take, drop, sym, ap, ◌∙◌, subst, refl, arith}
 use Rattle.std.specs.List.{insert}
 use Rattle.std.specs.Result.{is_ok}
 use Rattle.std.proofs.lemmas.Bool.{false≢true}
-use Rattle.std.proofs.lemmas.List.{nil_from_length, length-reverse}
+use Rattle.std.proofs.lemmas.List.{nil_from_length}
 use Rattle.tree_model.specs.declared.limits.TheConstants.{MAX_DEPTH}
 use Rattle.tree_model.specs.Key.{Key, is_key}
 use Rattle.tree_model.specs.PathMap.{sub, exists, depth}
@@ -15,18 +15,18 @@ use Rattle.json_tree.specs.Leaf.{primitive_of}
 use Rattle.json_tree.specs.Node.{AreLawfulChildren}
 use Rattle.json_tree.specs.Working.Changed.{changed_at}
 use Rattle.json_tree.proofs.Nodes.{at_primitive, parts_at_parent}
-use Rattle.json_tree.proofs.Edits.{popped, popped_length}
+use Rattle.json_tree.proofs.Edits.{first_and_rest}
 use Rattle.json_tree.proofs.Proposing.{proposed-root, proposed-lone, proposed-chain, depth-chain, room_after}
 use Rattle.json_tree.proofs.ChildEdits.{StandsAt, depth_there, children-set, graft-set, missing_at, children-insert, graft-insert}
 use Rattle.json_tree.proofs.Shares.{IsShareOf, size_of_node, set_there, exchanges-set, exchanges-insert}
-use Rattle.json_tree.proofs.Undoing.{changed-lone, exists-lone, changed-there, exists-there, changed-missing, exists-missing}
+use Rattle.json_tree.proofs.Undoing.{place-lone, changed-lone, exists-lone, place-there, changed-there, exists-there, place-missing, changed-missing, exists-missing}
 use Rattle.json_tree.proofs.puts.+insert.Goals as goal
 
 -- ---- a node
 
 pub insert-insert_below-requires : goal.insert-insert_below-requires
 insert-insert_below-requires t c =
-    let long = popped_length c.args.keys.now.items c.pop.new.self.items c.in-Some.key c.in-Some.ensures.items in
+    let long = ap length (first_and_rest c.args.path.now c.key-item.result (omega arith) c.key-item.is) in
     (omega arith, (parts_at_parent c.node.invariant.parts c.in-Parent.is, omega arith))
 
 pub insert-sizes_after-depth-requires-clause-sizes : goal.insert-sizes_after-depth-requires-clause-sizes
@@ -40,58 +40,64 @@ insert-invariant_of-node-in-Parent t c =
 
 pub insert-returns-in_default-clause-ok : goal.insert-returns-in_default-clause-ok
 insert-returns-in_default-clause-ok t c =
-    let none = nil_from_length c.args.keys.now.items (omega (arith, c.args.keys.now.ok.0, c.in_default.ensures.cases.0)) in
-    c.swap.ensures.x_after ∙ sym (ap (λ p. proposed c.args.node.now ((reverse p, c.args.value.now) ∷ [])) none ∙ proposed-root c.args.node.now c.args.value.now)
+    let none = nil_from_length c.args.path.now (omega arith) in
+    c.swap.ensures.x_after ∙ sym (ap (λ p. proposed c.args.node.now ((p, c.args.value.now) ∷ [])) none ∙ proposed-root c.args.node.now c.args.value.now)
 
 pub insert-returns-in_default-clause-was : goal.insert-returns-in_default-clause-was
 insert-returns-in_default-clause-was t c =
-    let none = nil_from_length c.args.keys.now.items (omega (arith, c.args.keys.now.ok.0, c.in_default.ensures.cases.0)) in
-    c.swap.ensures.y_after ∙ sym (ap (λ p. sub c.args.node.now (changed_at c.args.node.now (reverse p))) none ∙ sub-root c.args.node.now)
+    let none = nil_from_length c.args.path.now (omega arith) in
+    c.swap.ensures.y_after ∙ sym (ap (λ p. sub c.args.node.now (changed_at c.args.node.now p)) none ∙ sub-root c.args.node.now)
 
 pub insert-only_child-requires : goal.insert-only_child-requires
 insert-only_child-requires t c =
-    let rest = c.pop.new.self.items in
-    let long = popped_length c.args.keys.now.items rest c.in-Some.key c.in-Some.ensures.items in
-    let back = length-reverse rest in
-    let made = c.in_ok-chain-in-Primitive.ensures ∙ ap (λ v. proposed null ((reverse rest, v) ∷ [])) c.taken.ensures in
-    let deep = depth-chain c.in_ok-chain-in-Primitive.field-0 (reverse rest) c.args.value.now made in
-    let room = c.requires in
+    let rest = take (length c.args.path.now - 1) (drop 1 c.args.path.now) in
+    let long = ap length (first_and_rest c.args.path.now c.key-item.result (omega arith) c.key-item.is) in
+    let made = c.in_ok-chain-in-Primitive.ensures ∙ ap (λ v. proposed null ((rest, v) ∷ [])) c.taken.ensures in
+    let deep = depth-chain c.in_ok-chain-in-Primitive.field-0 rest c.args.value.now made in
+    let room = c.requires.room in
     omega arith
 
 pub insert-returns-in_err-chain-in-Primitive-clause-existing : goal.insert-returns-in_err-chain-in-Primitive-clause-existing
 insert-returns-in_err-chain-in-Primitive-clause-existing t c there =
-    let path = popped c.args.keys.now.items c.pop.new.self.items c.in-Some.key c.in-Some.ensures.items in
+    let path = first_and_rest c.args.path.now c.key-item.result (omega arith) c.key-item.is in
     let node = at_primitive c.node.view_is c.in-Primitive.is in
-    absurd (false≢true (sym (exists-lone (primitive_of c.in-Primitive.field-0) c.in-Some.key (reverse c.pop.new.self.items)) ∙ sym (λ i. exists (node i) (path i)) ∙ there))
+    absurd (false≢true (sym (exists-lone (primitive_of c.in-Primitive.field-0) c.key-item.result _) ∙ sym (λ i. exists (node i) (path i)) ∙ there))
 
 pub insert-returns-in_err-parent-in-Primitive-clause-existing : goal.insert-returns-in_err-parent-in-Primitive-clause-existing
 insert-returns-in_err-parent-in-Primitive-clause-existing t c there =
-    let path = popped c.args.keys.now.items c.pop.new.self.items c.in-Some.key c.in-Some.ensures.items in
+    let path = first_and_rest c.args.path.now c.key-item.result (omega arith) c.key-item.is in
     let node = at_primitive c.node.view_is c.in-Primitive.is in
-    absurd (false≢true (sym (exists-lone (primitive_of c.in-Primitive.field-0) c.in-Some.key (reverse c.pop.new.self.items)) ∙ sym (λ i. exists (node i) (path i)) ∙ there))
+    absurd (false≢true (sym (exists-lone (primitive_of c.in-Primitive.field-0) c.key-item.result _) ∙ sym (λ i. exists (node i) (path i)) ∙ there))
 
 pub insert-returns-in_ok-parent-in-Primitive-clause-ok : goal.insert-returns-in_ok-parent-in-Primitive-clause-ok
 insert-returns-in_ok-parent-in-Primitive-clause-ok t c =
-    let rest = reverse c.pop.new.self.items in
-    let path = popped c.args.keys.now.items c.pop.new.self.items c.in-Some.key c.in-Some.ensures.items in
+    let rest = take (length c.args.path.now - 1) (drop 1 c.args.path.now) in
+    let path = first_and_rest c.args.path.now c.key-item.result (omega arith) c.key-item.is in
     let node = at_primitive c.node.view_is c.in-Primitive.is in
     let value = c.args.value.now in
     let made = c.in_ok-chain-in-Primitive.ensures ∙ ap (λ v. proposed null ((rest, v) ∷ [])) c.taken.ensures in
     c.replace.ensures.after
     ∙ c.in_ok-parent-in-Primitive.ensures
-    ∙ proposed-chain c.in-Some.key rest c.in_ok-chain-in-Primitive.field-0 value made
-    ∙ sym (proposed-lone (primitive_of c.in-Primitive.field-0) c.in-Some.key rest value c.law.ensures.some)
+    ∙ proposed-chain c.key-item.result rest c.in_ok-chain-in-Primitive.field-0 value made
+    ∙ sym (proposed-lone (primitive_of c.in-Primitive.field-0) c.key-item.result rest value c.law.ensures.some)
     ∙ sym (λ i. proposed (node i) ((path i, value) ∷ []))
 
 pub insert-returns-in_ok-parent-in-Primitive-clause-was : goal.insert-returns-in_ok-parent-in-Primitive-clause-was
 insert-returns-in_ok-parent-in-Primitive-clause-was t c =
-    let path = popped c.args.keys.now.items c.pop.new.self.items c.in-Some.key c.in-Some.ensures.items in
+    let path = first_and_rest c.args.path.now c.key-item.result (omega arith) c.key-item.is in
     let node = at_primitive c.node.view_is c.in-Primitive.is in
     c.replace.ensures.value
     ∙ c.node.view_is
     ∙ node
-    ∙ sym (changed-lone (primitive_of c.in-Primitive.field-0) c.in-Some.key (reverse c.pop.new.self.items))
+    ∙ sym (changed-lone (primitive_of c.in-Primitive.field-0) c.key-item.result _)
     ∙ sym (λ i. sub (node i) (changed_at (node i) (path i)))
+
+pub insert-returns-in_ok-parent-in-Primitive-clause-reach : goal.insert-returns-in_ok-parent-in-Primitive-clause-reach
+insert-returns-in_ok-parent-in-Primitive-clause-reach t c =
+    let path = first_and_rest c.args.path.now c.key-item.result (omega arith) c.key-item.is in
+    let node = at_primitive c.node.view_is c.in-Primitive.is in
+    let none = ap length (sym (place-lone (primitive_of c.in-Primitive.field-0) c.key-item.result _) ∙ sym (λ i. changed_at (node i) (path i))) in
+    omega arith
 
 -- ---- its children
 
@@ -102,9 +108,8 @@ insert_below-returns-in_ok-stood-in-Ok-clause-children t c =
     let d : Key × Tree = c.deref_mut.result.now in
     let opened : was ≡ d = sym (c.deref_mut.ensures.value ∙ c.behind-children.view_is) in
     let found : StandsAt cs c.in-Ok.index d c.text.result.now = subst (λ (x : Key × Tree). StandsAt cs c.in-Ok.index x c.text.result.now) opened (record { children = c.requires.children; within = c.in-Ok.ensures.bound; at = c.index_mut.ensures.value; tied = c.in-Ok.ensures.position was }) in
-    let back = length-reverse c.args.keys.now.items in
     let within = c.requires.room in
-    let room = room_after c.insert.result d.1 c.insert.new.node (reverse c.args.keys.now.items) c.args.value.now c.insert.ensures.ok c.insert.ensures.err (depth_there found) (omega arith) in
+    let room = room_after c.insert.result d.1 c.insert.new.node c.args.rest.now c.args.value.now c.insert.ensures.ok c.insert.ensures.err (depth_there found) (omega arith) in
     let after = set_there cs c.in-Ok.index (d.0, c.insert.new.node) c.index-in-Ok.result.now c.in-Ok.ensures.bound c.index-in-Ok.ensures in
     let there : c.node-in-Ok.result.now ≡ c.insert.new.node = c.node-in-Ok.ensures ∙ ap (λ (x : Key × Tree). x.1) after in
     children-set found c.insert.new.node (subst (λ (x : Tree). x ≢ null) there c.share_of-after.ensures.some) (subst IsLawful there c.share_of-after.ensures.lawful) room
@@ -130,18 +135,17 @@ insert_below-returns-in_ok-stood-in-Ok-clause-ok t c =
     let d : Key × Tree = c.deref_mut.result.now in
     let opened : was ≡ d = sym (c.deref_mut.ensures.value ∙ c.behind-children.view_is) in
     let found : StandsAt cs c.in-Ok.index d c.text.result.now = subst (λ (x : Key × Tree). StandsAt cs c.in-Ok.index x c.text.result.now) opened (record { children = c.requires.children; within = c.in-Ok.ensures.bound; at = c.index_mut.ensures.value; tied = c.in-Ok.ensures.position was }) in
-    graft-set found (reverse c.args.keys.now.items) c.insert.new.node c.args.value.now c.in_ok-stood-in-Ok.ensures.ok ∙ ap (λ k. proposed (graft cs) ((k ∷ (reverse c.args.keys.now.items), c.args.value.now) ∷ [])) c.text.ensures.bytes
+    graft-set found c.args.rest.now c.insert.new.node c.args.value.now c.in_ok-stood-in-Ok.ensures.ok ∙ ap (λ k. proposed (graft cs) ((k ∷ c.args.rest.now, c.args.value.now) ∷ [])) c.text.ensures.bytes
 
 pub insert_below-returns-in_ok-insert-in-Err-clause-children : goal.insert_below-returns-in_ok-insert-in-Err-clause-children
 insert_below-returns-in_ok-insert-in-Err-clause-children t c =
     let cs = c.args.children.now.items in
     let below : Tree = c.in_ok-below-in-Err.below in
     let missing = missing_at cs c.in-Err.index c.text.result.now c.requires.children c.in-Err.ensures.bound c.in-Err.ensures.position in
-    let items = c.in_ok-insert-in-Err.ensures.items ∙ ap (insert cs c.in-Err.index) c.in_ok-child-in-Err.ensures ∙ ap (λ k. insert cs c.in-Err.index (k, below)) (sym c.text.ensures.bytes) in
-    let made = c.in_ok-below-in-Err.ensures ∙ ap (λ v. proposed null ((reverse c.args.keys.now.items, v) ∷ [])) c.taken.ensures in
-    let deep = depth-chain below (reverse c.args.keys.now.items) c.args.value.now made in
+    let items = c.in_ok-insert-in-Err.ensures.items ∙ ap (insert cs c.in-Err.index) c.in_ok-child-in-Err.ensures ∙ ap (λ k. insert cs c.in-Err.index (k, below)) (c.in_ok-copy-in-Err.ensures ∙ sym c.text.ensures.bytes) in
+    let made = c.in_ok-below-in-Err.ensures ∙ ap (λ v. proposed null ((c.args.rest.now, v) ∷ [])) c.taken.ensures in
+    let deep = depth-chain below c.args.rest.now c.args.value.now made in
     let within = c.requires.room in
-    let back = length-reverse c.args.keys.now.items in
     let room : depth below < MAX_DEPTH = omega arith in
     let share = c.share_of-after-in-Err.ensures in
     subst AreLawfulChildren (sym items) (children-insert missing below (ap is_key c.text.ensures.bytes ∙ c.text.ensures.lawful) share.some share.lawful room)
@@ -150,18 +154,18 @@ pub insert_below-returns-in_ok-insert-in-Err-clause-exchange : goal.insert_below
 insert_below-returns-in_ok-insert-in-Err-clause-exchange t c =
     let cs = c.args.children.now.items in
     let share = c.share_of-after-in-Err.ensures in
-    rw (c.in_ok-insert-in-Err.ensures.items, c.in_ok-child-in-Err.ensures) (exchanges-insert cs c.in-Err.index _ c.args.key c.in_ok-below-in-Err.below refl refl (record { depth = share.depth; count = share.count }))
+    rw (c.in_ok-insert-in-Err.ensures.items, c.in_ok-child-in-Err.ensures) (exchanges-insert cs c.in-Err.index _ c.in_ok-copy-in-Err.field-0 c.in_ok-below-in-Err.below refl refl (record { depth = share.depth; count = share.count }))
 
 pub insert_below-returns-in_ok-insert-in-Err-clause-ok : goal.insert_below-returns-in_ok-insert-in-Err-clause-ok
 insert_below-returns-in_ok-insert-in-Err-clause-ok t c =
     let cs = c.args.children.now.items in
     let below : Tree = c.in_ok-below-in-Err.below in
     let missing = missing_at cs c.in-Err.index c.text.result.now c.requires.children c.in-Err.ensures.bound c.in-Err.ensures.position in
-    let items = c.in_ok-insert-in-Err.ensures.items ∙ ap (insert cs c.in-Err.index) c.in_ok-child-in-Err.ensures ∙ ap (λ k. insert cs c.in-Err.index (k, below)) (sym c.text.ensures.bytes) in
-    let made = c.in_ok-below-in-Err.ensures ∙ ap (λ v. proposed null ((reverse c.args.keys.now.items, v) ∷ [])) c.taken.ensures in
+    let items = c.in_ok-insert-in-Err.ensures.items ∙ ap (insert cs c.in-Err.index) c.in_ok-child-in-Err.ensures ∙ ap (λ k. insert cs c.in-Err.index (k, below)) (c.in_ok-copy-in-Err.ensures ∙ sym c.text.ensures.bytes) in
+    let made = c.in_ok-below-in-Err.ensures ∙ ap (λ v. proposed null ((c.args.rest.now, v) ∷ [])) c.taken.ensures in
     ap graft items
-    ∙ graft-insert missing (reverse c.args.keys.now.items) below c.args.value.now made
-    ∙ ap (λ k. proposed (graft cs) ((k ∷ (reverse c.args.keys.now.items), c.args.value.now) ∷ [])) c.text.ensures.bytes
+    ∙ graft-insert missing c.args.rest.now below c.args.value.now made
+    ∙ ap (λ k. proposed (graft cs) ((k ∷ c.args.rest.now, c.args.value.now) ∷ [])) c.text.ensures.bytes
 
 -- what stood there
 
@@ -172,13 +176,32 @@ insert_below-returns-in_ok-stood-in-Ok-clause-was t c =
     let d : Key × Tree = c.deref_mut.result.now in
     let opened : was ≡ d = sym (c.deref_mut.ensures.value ∙ c.behind-children.view_is) in
     let found : StandsAt cs c.in-Ok.index d c.text.result.now = subst (λ (x : Key × Tree). StandsAt cs c.in-Ok.index x c.text.result.now) opened (record { children = c.requires.children; within = c.in-Ok.ensures.bound; at = c.index_mut.ensures.value; tied = c.in-Ok.ensures.position was }) in
-    c.in_ok-stood-in-Ok.ensures.was ∙ sym (changed-there found (reverse c.args.keys.now.items)) ∙ ap (λ k. sub (graft cs) (changed_at (graft cs) (k ∷ reverse c.args.keys.now.items))) c.text.ensures.bytes
+    c.in_ok-stood-in-Ok.ensures.was ∙ sym (changed-there found c.args.rest.now) ∙ ap (λ k. sub (graft cs) (changed_at (graft cs) (k ∷ c.args.rest.now))) c.text.ensures.bytes
 
 pub insert_below-returns-in_ok-insert-in-Err-clause-was : goal.insert_below-returns-in_ok-insert-in-Err-clause-was
 insert_below-returns-in_ok-insert-in-Err-clause-was t c =
     let cs = c.args.children.now.items in
     let missing = missing_at cs c.in-Err.index c.text.result.now c.requires.children c.in-Err.ensures.bound c.in-Err.ensures.position in
-    sym (changed-missing missing (reverse c.args.keys.now.items)) ∙ ap (λ k. sub (graft cs) (changed_at (graft cs) (k ∷ reverse c.args.keys.now.items))) c.text.ensures.bytes
+    sym (changed-missing missing c.args.rest.now) ∙ ap (λ k. sub (graft cs) (changed_at (graft cs) (k ∷ c.args.rest.now))) c.text.ensures.bytes
+
+-- how many keys lead there
+
+pub insert_below-returns-in_ok-stood-in-Ok-clause-reach : goal.insert_below-returns-in_ok-stood-in-Ok-clause-reach
+insert_below-returns-in_ok-stood-in-Ok-clause-reach t c =
+    let cs = c.args.children.now.items in
+    let was : Key × Tree = c.index_mut.result.now in
+    let d : Key × Tree = c.deref_mut.result.now in
+    let opened : was ≡ d = sym (c.deref_mut.ensures.value ∙ c.behind-children.view_is) in
+    let found : StandsAt cs c.in-Ok.index d c.text.result.now = subst (λ (x : Key × Tree). StandsAt cs c.in-Ok.index x c.text.result.now) opened (record { children = c.requires.children; within = c.in-Ok.ensures.bound; at = c.index_mut.ensures.value; tied = c.in-Ok.ensures.position was }) in
+    let below = c.in_ok-stood-in-Ok.ensures.reach in
+    let one_more = ap length (sym (place-there found c.args.rest.now) ∙ ap (λ k. changed_at (graft cs) (k ∷ c.args.rest.now)) c.text.ensures.bytes) in
+    omega arith
+
+pub insert_below-returns-in_ok-insert-in-Err-clause-reach : goal.insert_below-returns-in_ok-insert-in-Err-clause-reach
+insert_below-returns-in_ok-insert-in-Err-clause-reach t c =
+    let cs = c.args.children.now.items in
+    let missing = missing_at cs c.in-Err.index c.text.result.now c.requires.children c.in-Err.ensures.bound c.in-Err.ensures.position in
+    ap (λ p. c.args.reach.now + length p) (sym (place-missing missing c.args.rest.now) ∙ ap (λ k. changed_at (graft cs) (k ∷ c.args.rest.now)) c.text.ensures.bytes)
 
 -- what exists is replaced without memory
 
@@ -189,23 +212,29 @@ insert_below-returns-in_err-stood-in-Ok-clause-existing t c there =
     let d : Key × Tree = c.deref_mut.result.now in
     let opened : was ≡ d = sym (c.deref_mut.ensures.value ∙ c.behind-children.view_is) in
     let found : StandsAt cs c.in-Ok.index d c.text.result.now = subst (λ (x : Key × Tree). StandsAt cs c.in-Ok.index x c.text.result.now) opened (record { children = c.requires.children; within = c.in-Ok.ensures.bound; at = c.index_mut.ensures.value; tied = c.in-Ok.ensures.position was }) in
-    let below : exists d.1 (reverse c.args.keys.now.items) ≡ true = sym (exists-there found (reverse c.args.keys.now.items)) ∙ ap (λ k. exists (graft cs) (k ∷ reverse c.args.keys.now.items)) c.text.ensures.bytes ∙ there in
+    let below : exists d.1 c.args.rest.now ≡ true = sym (exists-there found c.args.rest.now) ∙ ap (λ k. exists (graft cs) (k ∷ c.args.rest.now)) c.text.ensures.bytes ∙ there in
     absurd (false≢true (sym (ap is_ok c.in_err-stood-in-Ok.was) ∙ c.insert.ensures.existing below))
 
 pub insert_below-returns-in_err-below-in-Err-clause-existing : goal.insert_below-returns-in_err-below-in-Err-clause-existing
 insert_below-returns-in_err-below-in-Err-clause-existing t c there =
     let cs = c.args.children.now.items in
     let missing = missing_at cs c.in-Err.index c.text.result.now c.requires.children c.in-Err.ensures.bound c.in-Err.ensures.position in
-    absurd (false≢true (sym (exists-missing missing (reverse c.args.keys.now.items)) ∙ ap (λ k. exists (graft cs) (k ∷ reverse c.args.keys.now.items)) c.text.ensures.bytes ∙ there))
+    absurd (false≢true (sym (exists-missing missing c.args.rest.now) ∙ ap (λ k. exists (graft cs) (k ∷ c.args.rest.now)) c.text.ensures.bytes ∙ there))
 
 pub insert_below-returns-in_err-insert-in-Err-clause-existing : goal.insert_below-returns-in_err-insert-in-Err-clause-existing
 insert_below-returns-in_err-insert-in-Err-clause-existing t c there =
     let cs = c.args.children.now.items in
     let missing = missing_at cs c.in-Err.index c.text.result.now c.requires.children c.in-Err.ensures.bound c.in-Err.ensures.position in
-    absurd (false≢true (sym (exists-missing missing (reverse c.args.keys.now.items)) ∙ ap (λ k. exists (graft cs) (k ∷ reverse c.args.keys.now.items)) c.text.ensures.bytes ∙ there))
+    absurd (false≢true (sym (exists-missing missing c.args.rest.now) ∙ ap (λ k. exists (graft cs) (k ∷ c.args.rest.now)) c.text.ensures.bytes ∙ there))
 
 pub insert_below-returns-in_err-child-in-Err-clause-existing : goal.insert_below-returns-in_err-child-in-Err-clause-existing
 insert_below-returns-in_err-child-in-Err-clause-existing t c there =
     let cs = c.args.children.now.items in
     let missing = missing_at cs c.in-Err.index c.text.result.now c.requires.children c.in-Err.ensures.bound c.in-Err.ensures.position in
-    absurd (false≢true (sym (exists-missing missing (reverse c.args.keys.now.items)) ∙ ap (λ k. exists (graft cs) (k ∷ reverse c.args.keys.now.items)) c.text.ensures.bytes ∙ there))
+    absurd (false≢true (sym (exists-missing missing c.args.rest.now) ∙ ap (λ k. exists (graft cs) (k ∷ c.args.rest.now)) c.text.ensures.bytes ∙ there))
+
+pub insert_below-returns-in_err-copy-in-Err-clause-existing : goal.insert_below-returns-in_err-copy-in-Err-clause-existing
+insert_below-returns-in_err-copy-in-Err-clause-existing t c there =
+    let cs = c.args.children.now.items in
+    let missing = missing_at cs c.in-Err.index c.text.result.now c.requires.children c.in-Err.ensures.bound c.in-Err.ensures.position in
+    absurd (false≢true (sym (exists-missing missing c.args.rest.now) ∙ ap (λ k. exists (graft cs) (k ∷ c.args.rest.now)) c.text.ensures.bytes ∙ there))

@@ -3,10 +3,9 @@ use Rattle.std.proofs.lemmas.List.{nil_from_length}
 use Rattle.tree_model.specs.PathMap.{exists}
 use Rattle.tree_model.specs.Tree.{non_null}
 use Rattle.tree_model.specs.Write.{location, proposed}
-use Rattle.json_tree.proofs.Edits.{popped}
 use Rattle.path_capture.specs.Write.{tree_or_null}
 use Rattle.path_capture.specs.Working.Rewind.{rewound, CanRewind}
-use Rattle.path_capture.proofs.Rewinding.{same_or_null}
+use Rattle.path_capture.proofs.Rewinding.{popped, same_or_null}
 use Rattle.path_capture.proofs.update.rewind.Goals as goal
 
 pub undo-requires : goal.undo-requires
