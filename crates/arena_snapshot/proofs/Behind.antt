@@ -24,6 +24,7 @@ use Rattle.arena_snapshot.specs.Working.Changing.{child_found}
 use Rattle.arena_snapshot.specs.Working.Patches.{change_of, is_behind, IsPlaced, ArePatches}
 use Rattle.arena_snapshot.specs.declared.view.Patch.{Patch}
 use Rattle.arena_snapshot.proofs.Sums.{entries_sorted, find-entries, width-total}
+use Rattle.arena_snapshot.proofs.Entries.{entry_is}
 use Rattle.arena_snapshot.proofs.Ranks.{rank_low, rank_high, before_at, at_index, key_at, width-entries, before_trans, not_before_itself, stored_index}
 
 from_behind : (a i : ℕ) (o : Option Tree) → (nat_lt a i || (nat_eq a i && not (is_some o))) ≡ true → (a < i) ⊎ ((a ≡ i) × (o ≡ None))
@@ -38,6 +39,13 @@ to_behind a i (Some u) (inr h) = let none = h.1 in cc
 not_behind : (a i : ℕ) (o : Option Tree) → (nat_lt a i || (nat_eq a i && not (is_some o))) ≡ false → (i ≤ a) × (a ≡ i → o ≢ None)
 not_behind a i None h = grind (arith, nat_tests)
 not_behind a i (Some u) h = (grind (arith, nat_tests), λ _ e. cc)
+
+-- a child that a patch puts at an index is not behind it
+ahead_of : (i : ℕ) (p : Patch) (u : Tree) → p.before ≡ i → p.child ≡ Some u → is_behind i p ≡ false
+ahead_of i p u same is = ap (λ (o : Option Tree). nat_lt p.before i || (nat_eq p.before i && not (is_some o))) is ∙ at_itself p.before i same
+  where
+    at_itself : (a i : ℕ) → a ≡ i → (nat_lt a i || (nat_eq a i && false)) ≡ false
+    at_itself a i e = grind (arith, nat_tests)
 
 equal_or_less : (a b : ℕ) → a ≤ b → (a ≡ b) ⊎ (a < b)
 equal_or_less a b g = grind arith
@@ -157,6 +165,13 @@ module _ (t : Tree) (ps : List Patch) (wide : ℕ) (h : ArePatches t ps wide) wh
               let at = at_index p.key.now u (entries_of (changed t (map change_of ps))) ([], null) (entries_sorted (changed t (map change_of ps))) (find-entries (changed t (map change_of ps)) p.key.now ∙ child_is m d inside ∙ is) in
               sym (key_is ∙ ap Some (ap (λ j. (get_or (entries_of (changed t (map change_of ps))) j ([], null)).0) (sym (sym here ∙ same)) ∙ at.1))
         ] refl
+
+    -- and its child with it, where all before it are children of patches
+    pub entry_at_patch : (p : Patch) (u : Tree) → i < length ps → p ≡ get_or ps i p → p.before ≡ i → p.child ≡ Some u → Some (p.key.now, u) ≡ slice_get (entries_of (changed t (map change_of ps))) i
+    entry_at_patch p u inside at same is =
+        let key_found = at_patch i p inside (ap (is_behind i) (sym at) ∙ ahead_of i p u same is) (ap (λ (q : Patch). q.before) (sym at) ∙ same) in
+        entry_is (changed t (map change_of ps)) i p.key.now (ap (λ (q : Patch). Some q.key.now) at ∙ key_found) u
+        (sym (ap (λ (q : Patch). non_null (sub (changed t (map change_of ps)) (q.key.now ∷ []))) at ∙ child_is i p inside ∙ ap (λ (q : Patch). q.child) (sym at) ∙ is))
 
     -- a stored child, between the patches before the index and the next one
     pub at_stored : (m : ℕ) (d : Patch) → m < length ps → ((n : ℕ) → n < m → is_behind i (get_or ps n d) ≡ true) → is_behind i (get_or ps m d) ≡ false → (get_or ps m d).before ≢ i

@@ -6,3 +6,4 @@ pub mod Layer
 pub mod Leaving
 pub mod Left
 pub mod ViewFalls
+pub mod Standing

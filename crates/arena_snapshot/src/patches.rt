@@ -1,11 +1,11 @@
 //! Patches in the order of their keys: which child stands at a key, and which key at an index.
-ghost use Rattle.std.specs.Prelude.{◌≡◌, ◌≤◌, ◌∷◌, [], true, false, length, map, option_map, slice_get};
+ghost use Rattle.std.specs.Prelude.{◌≡◌, ◌≤◌, ◌∷◌, [], true, false, length, map, option_map, slice_get, IfSome, Some};
 ghost use Rattle.std.specs.List.Sorted.{IsSearchInRange, IsBinarySearchResult, IsPartitionedBy, IsPartitionPoint};
 ghost use Rattle.tree_model.specs.Key.{key_cmp};
 ghost use Rattle.tree_model.specs.PathMap.{sub};
 ghost use Rattle.tree_model.specs.Tree.{non_null, child_keys};
 ghost use Rattle.arena_snapshot.specs.View.{node_or_null};
-ghost use Rattle.arena_snapshot.specs.Working.Change.{changed, AreChanges, before};
+ghost use Rattle.arena_snapshot.specs.Working.Change.{changed, entries_of, AreChanges, before};
 ghost use Rattle.arena_snapshot.specs.Working.Patches.{change_of, ArePatches, is_behind};
 
 use crate::view::{Patch, View};
@@ -119,6 +119,28 @@ pub(crate) fn key_of<'a>(
         return Some(patch.key);
     }
     stored_key(base, patch.stored_before - (patch.before - i))
+}
+
+// The child at an index with its key, where it and all before it are children of patches, as all are that a query
+// selects.
+pub(crate) fn patched_entry<'a>(
+    base: Option<&'a Node>,
+    patches: &'a [Patch<'a>],
+    width: usize,
+    i: usize,
+) -> Option<(&'a Key, View<'a>)>
+    requires { ArePatches (node_or_null base) patches.now width }
+    ensures { IfSome result (λ entry. Some (entry.0.now, entry.1) ≡ slice_get
+        (entries_of (changed (node_or_null base.entry) (map change_of patches.now))) i) }
+{
+    if i >= width {
+        return None;
+    }
+    let patch = patches.get(i)?;
+    match &patch.child {
+        Some(child) if patch.before == i => Some((patch.key, child.share())),
+        _ => None,
+    }
 }
 
 // How many patches stand before an index, and none of them at it.

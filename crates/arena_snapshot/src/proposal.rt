@@ -36,6 +36,33 @@ pub fn overlay<'a>(
     requires { overlaps writes.now ≡ false }
     ensures { IfOk result (λ view. view ≡ non_null (proposed (node_or_null base.entry) writes.now)) }
 {
+    match writes {
+        [write] => lay_one(arena, base, write),
+        _ => lay_all(arena, base, writes),
+    }
+}
+
+// The same of one write, which makes no list.
+fn lay_one<'a>(
+    arena: &'a Bump,
+    base: Option<&'a Node>,
+    write: &'a Write,
+) -> Result<Option<View<'a>>, NoMemory>
+    ensures { IfOk result (λ view. view ≡ non_null (proposed (node_or_null base.entry) (write.now ∷ []))) }
+{
+    write.at();
+    lay(arena, base, &[write], 0)
+}
+
+// The same of writes in the order of their locations.
+fn lay_all<'a>(
+    arena: &'a Bump,
+    base: Option<&'a Node>,
+    writes: &'a [Write],
+) -> Result<Option<View<'a>>, NoMemory>
+    requires { overlaps writes.now ≡ false }
+    ensures { IfOk result (λ view. view ≡ non_null (proposed (node_or_null base.entry) writes.now)) }
+{
     let mut sorted = borrowed(arena, writes)?;
     sort(&mut sorted);
     lay(arena, base, &sorted, 0)

@@ -5,8 +5,9 @@ ghost use Rattle.tree_model.specs.PathMap.{get, sub, depth};
 ghost use Rattle.tree_model.specs.Tree.{null, non_null, count, children, child_keys, IsLawful};
 ghost use Rattle.json_tree.specs.Leaf.{primitive_of};
 ghost use Rattle.arena_snapshot.specs.Working.Change.{entries_of};
+ghost use Rattle.arena_snapshot.specs.Working.Standing.{standing_of, IsStanding};
 
-use crate::patches::{child_of, key_of, stored_view};
+use crate::patches::{child_of, key_of, patched_entry, stored_view};
 use json_tree::{Key, Leaf, Node};
 use path_capture::Path;
 use std::marker::Model;
@@ -49,6 +50,14 @@ pub(crate) struct Patch<'a> {
     pub(crate) stored_before: usize,
     // How many children of the patched node stand before it.
     pub(crate) before: usize,
+}
+
+// What stands at a key. A call hands it back in two registers, while it writes an `Option` of a view to memory.
+#[derive(Clone, Copy)]
+enum Standing<'a> {
+    Nothing,
+    Stored(&'a Node),
+    Patched(&'a Patched<'a>),
 }
 
 impl<'a> Model for View<'a> {
@@ -106,12 +115,22 @@ impl<'a> View<'a> {
 
     /// The child of this key, by a binary search among the changed children and one among the
     /// stored ones: log w of w children. It takes no memory.
+    #[inline(always)]
     pub fn child(&self, name: &str) -> Option<View<'a>>
         ensures { result ≡ non_null (sub self.now (name.now ∷ [])) }
     {
+        self.standing(name).view()
+    }
+
+    // What stands at this key.
+    #[inline(never)]
+    fn standing(&self, name: &str) -> Standing<'a>
+        ensures is { standing_of result ≡ non_null (sub self.now (name.now ∷ [])) }
+        ensures lawful { IsStanding result }
+    {
         match &self.kind {
-            Kind::Stored(node) => stored_view(Some(node), name),
-            Kind::Patched(node) => child_of(node.base, node.patches, name),
+            Kind::Stored(node) => Standing::of(stored_view(Some(node), name)),
+            Kind::Patched(node) => Standing::of(child_of(node.base, node.patches, name)),
         }
     }
 
@@ -184,15 +203,19 @@ impl<'a> View<'a> {
         }
     }
 
-    /// The child at an index with its key, in the order of the keys: of a stored tree in constant time, and
-    /// of one with changed children by a search for the key. It takes no memory.
+    /// The child at an index with its key, in the order of the keys: of a stored tree in constant time, as is a
+    /// changed child before which no other stands, and of one with changed children else by a search for the key.
+    /// It takes no memory.
     pub fn entry_at(&self, i: usize) -> Option<(&'a Key, View<'a>)>
         ensures { option_map (λ entry. (entry.0.now, entry.1)) result
             ≡ slice_get (map_of.entries (children self.now)) i }
     {
         match &self.kind {
             Kind::Stored(node) => stored_entry(node, i),
-            Kind::Patched(_) => self.searched_entry(i),
+            Kind::Patched(node) => match patched_entry(node.base, node.patches, node.width, i) {
+                Some(entry) => Some(entry),
+                None => self.searched_entry(i),
+            },
         }
     }
 
@@ -212,6 +235,38 @@ impl<'a> View<'a> {
         ensures depth { depth self.now ≤ MAX_DEPTH }
     {
         let _kind = &self.kind;
+    }
+}
+
+impl<'a> Standing<'a> {
+    // What a view is, if there is one.
+    fn of(view: Option<View<'a>>) -> Standing<'a>
+        ensures is { standing_of result ≡ view.entry }
+        ensures lawful { IsStanding result }
+    {
+        match view {
+            None => Standing::Nothing,
+            Some(view) => match view.kind {
+                Kind::Stored(node) => Standing::Stored(node),
+                Kind::Patched(node) => Standing::Patched(node),
+            },
+        }
+    }
+
+    // The same as a view.
+    fn view(self) -> Option<View<'a>>
+        requires { IsStanding self }
+        ensures { result ≡ standing_of self.entry }
+    {
+        match self {
+            Standing::Nothing => None,
+            Standing::Stored(node) => Some(View {
+                kind: Kind::Stored(node),
+            }),
+            Standing::Patched(node) => Some(View {
+                kind: Kind::Patched(node),
+            }),
+        }
     }
 }
 

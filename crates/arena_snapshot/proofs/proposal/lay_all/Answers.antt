@@ -9,7 +9,7 @@ use Rattle.arena_snapshot.specs.View.{node_or_null}
 use Rattle.arena_snapshot.specs.Working.Left.{left, Ascend}
 use Rattle.arena_snapshot.proofs.Ascending.{ascend}
 use Rattle.arena_snapshot.proofs.Lefts.{lawful_permutation}
-use Rattle.arena_snapshot.proofs.proposal.overlay.Goals as goal
+use Rattle.arena_snapshot.proofs.proposal.lay_all.Goals as goal
 
 pub lay-requires-clause-apart : goal.lay-requires-clause-apart
 lay-requires-clause-apart c =
