@@ -2,7 +2,7 @@
 ghost use Rattle.std.specs.Prelude.{◌≡◌, Some, None, IfOk, IsErrOf, true, option_map, pos};
 ghost use Rattle.std.specs.Option.{option_and_then};
 ghost use Rattle.expr_parser.specs.View.{view, view_argument, views, arguments};
-ghost use Rattle.expr_parser.specs.Tree.{argument, no_argument};
+ghost use Rattle.expr_parser.specs.Tree.{Null, argument, no_argument};
 ghost use Rattle.expr_types.specs.HasSort.{is_value};
 ghost use Rattle.evaluator.specs.Value as meanings;
 ghost use Rattle.evaluator.specs.Value.{as_value, sort_of_part, value, truth, in_range};
@@ -19,7 +19,7 @@ use crate::calls::{
 };
 use crate::env::Env;
 use crate::members::{capture, member, variable};
-use crate::operators::{in_truth, literal, minus_of, of_both};
+use crate::operators::{in_truth, is_something, literal, minus_of, of_both};
 use crate::snapshot::{Found, Snapshot, child_at};
 use crate::value::{Part, Stop, Value, in_place, in_value, wanted};
 use bumpalo::Bump;
@@ -316,7 +316,7 @@ fn value_of_part<'a>(arena: &'a Bump, expr: &'a Expr, env: &Env<'a, '_>) -> Resu
     wanted(in_value(part))
 }
 
-// Whether it is true, where a boolean is wanted.
+// Whether it is true, where a boolean is wanted. Most rules ask first whether something is not null.
 #[cycle(evaluation)]
 fn truth<'a>(arena: &'a Bump, expr: &'a Expr, env: &Env<'a, '_>) -> Result<bool, Stop>
     ensures value { IfOk result (λ b. as_truth (as_value (mean (view expr.now) (env_of env.now))) ≡ Some b) }
@@ -332,11 +332,22 @@ fn truth<'a>(arena: &'a Bump, expr: &'a Expr, env: &Env<'a, '_>) -> Result<bool,
             either(arena, left, right, env)
         }
         Expr::Not(inner) => Ok(!truth(arena, inner, env)?),
+        Expr::Operation(Operator::NotEqual, left, right) if is_null(right) => {
+            let left = value(arena, left, env)?;
+            Ok(is_something(left))
+        }
         _ => {
             let value = value(arena, expr, env)?;
             wanted(in_truth(value))
         }
     }
+}
+
+// Whether it is the literal null.
+fn is_null(expr: &Expr) -> bool
+    ensures { result ≡ true → view expr.now ≡ Null }
+{
+    matches!(expr, Expr::Null)
 }
 
 // Whether both are true, behind the left one. Where that is false, the right one is not evaluated.

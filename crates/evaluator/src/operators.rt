@@ -1,6 +1,6 @@
 //! What operators make of values.
 ghost use Rattle.std.specs.Prelude.{◌≡◌, ◌++◌, ◌+ℤ◌, ◌-ℤ◌, ◌*ℤ◌, neg_ℤ, Some, None, IfOk, IsErrOf, option_map, pos};
-ghost use Rattle.evaluator.specs.Value.{in_range};
+ghost use Rattle.evaluator.specs.Value.{null, truth, in_range};
 ghost use Rattle.evaluator.specs.Operators.{in_truth, is_opaque, same, equal, compared, minus, times, remainder, minus_of, plus, text_within, of_both};
 ghost use Rattle.evaluator.specs.Working.Parts.{value_of, numbers_in};
 
@@ -50,6 +50,17 @@ fn equal(left: Value, right: Value) -> Option<bool>
         None
     } else {
         Some(same(left, right))
+    }
+}
+
+// Whether a value is another than null.
+pub(crate) fn is_something(value: Value) -> bool
+    ensures { of_both Operator.NotEqual (value_of value.entry) null ≡ Some (truth result) }
+{
+    match value {
+        Value::Null => false,
+        Value::Truth(_) | Value::Whole(_) | Value::Words(_) | Value::Sentinel | Value::Record =>
+            true,
     }
 }
 
