@@ -13,6 +13,7 @@ pub mod Named
 pub mod Firsts
 pub mod Fronts
 pub mod Cuts
+pub mod Unchanged
 pub mod RulesBelow
 pub mod Built
 pub mod Unreads

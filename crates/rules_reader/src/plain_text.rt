@@ -1,6 +1,7 @@
 //! The plain text of a rules file: a rules file may have comments, and strings over several lines,
 //! which JSON has not.
-ghost use Rattle.std.specs.Prelude.{◌≡◌, ℕ, List, ◌<◌, ◌++◌, map, length, IfOk, OnOk, IfSome, ◌+◌};
+ghost use Rattle.std.specs.Prelude.{◌≡◌, ℕ, List, ◌<◌, ◌++◌, true, nat_le, map, length, IfOk, OnOk, IfSome, ◌+◌};
+ghost use Rattle.std.specs.List.{list_all};
 ghost use Rattle.rules_reader.specs.Plain.{Piece, IsCut, IsPlain};
 ghost use Rattle.rules_reader.specs.Working.Front.{first, closes_string, closes_line, closes_comment, becomes_in, kind_of, front, slash_front};
 
@@ -25,6 +26,24 @@ impl Kind {
             _ => byte,
         }
     }
+
+    // Whether it leaves each byte of a piece as it is.
+    fn leaves(self, piece: &[u8]) -> bool
+        ensures { result ≡ true → map (becomes_in self) piece.now ≡ piece.now }
+    {
+        match self {
+            Kind::Quoted => has_no_control(piece),
+            Kind::Comment => false,
+            Kind::AsItIs => true,
+        }
+    }
+}
+
+// Whether none of the bytes is an ASCII control character below a space.
+fn has_no_control(piece: &[u8]) -> bool
+    ensures { result ≡ list_all (nat_le 32) piece.now }
+{
+    piece.iter().all(|byte| b' ' <= *byte)
 }
 
 /// The plain text of a file: its comments become spaces, and so do raw line feeds, carriage returns
@@ -47,6 +66,10 @@ pub fn plain(alloc: Global, file: &[u8]) -> Result<Vec<u8>, NoMemory>
 fn push_plain(text: &mut Vec<u8>, kind: Kind, piece: &[u8]) -> Result<(), NoMemory>
     ensures { OnOk result (text.new.items ≡ text.old.items ++ map (becomes_in kind) piece.now) }
 {
+    if kind.leaves(piece) {
+        text.extend_from_slice(piece)?;
+        return Ok(());
+    }
     for byte in piece {
         text.push(kind.plain(*byte))?;
     }
