@@ -40,8 +40,7 @@ pub fn judge_read<'a>(
 ) -> Result<Verdict, NoMemory>
     ensures { IfOk result (IsReadVerdict (scene_of scene.now) (asked_of asked.now) path.now) }
 {
-    let locations = alone(arena, path)?;
-    judge_alone(alloc, arena, scene, path, asked, locations.as_slice())
+    judge_alone(alloc, arena, scene, path, asked, &[path])
 }
 
 // The same, of the path as the only one in a list.
@@ -96,8 +95,8 @@ pub fn may_read<'a>(
 /// first location that is not granted; a `.validate` is evaluated only at places that exist in the
 /// proposed tree, above a location or in what is written, and none behind the first that fails. Nothing
 /// grows with what is stored beside the locations: of n locations of d keys, n · log n comparisons, d ·
-/// log w steps for each, and what is written. The arena takes the list of locations, two places for each
-/// step, the captures on the way, one list for both kinds of rules, what expressions make and the list of the
+/// log w steps for each, and what is written. The arena takes the list of locations, of more than one, two places
+/// for each step, the captures on the way, one list for both kinds of rules, what expressions make and the list of the
 /// rules that denied; other memory the names of a denial. (Guide "Core syntax", `.read` and `.write` rules
 /// cascade, `.validate` rules do not.)
 pub fn judge_write<'a>(
@@ -110,9 +109,38 @@ pub fn judge_write<'a>(
     requires { tree_or_null coming ≡ proposed (tree_or_null scene.now.old) writes.now }
     ensures { IfOk result (IsWriteVerdict (scene_of scene.now) (proposed (tree_or_null scene.now.old) writes.now) (map location writes.now)) }
 {
+    match writes {
+        [write] => judge_one(alloc, arena, scene, &coming, write),
+        _ => judge_all(alloc, arena, scene, &coming, writes),
+    }
+}
+
+// The same of one write, whose location makes no list.
+fn judge_one<'a>(
+    alloc: Global,
+    arena: &'a Bump,
+    scene: &'a Scene<'a>,
+    coming: &'a Option<View<'a>>,
+    write: &'a Write,
+) -> Result<Verdict, NoMemory>
+    ensures { IfOk result (IsWriteVerdict (scene_of scene.now) (tree_or_null coming.now) (location write.now ∷ [])) }
+{
+    judge_ordered(alloc, arena, scene, coming, &[write.at()])
+}
+
+// The same of writes in any order.
+fn judge_all<'a>(
+    alloc: Global,
+    arena: &'a Bump,
+    scene: &'a Scene<'a>,
+    coming: &'a Option<View<'a>>,
+    writes: &'a [Write],
+) -> Result<Verdict, NoMemory>
+    ensures { IfOk result (IsWriteVerdict (scene_of scene.now) (tree_or_null coming.now) (map location writes.now)) }
+{
     let mut locations = locations_of(arena, writes)?;
     sort(&mut locations);
-    judge_ordered(alloc, arena, scene, &coming, locations.as_slice())
+    judge_ordered(alloc, arena, scene, coming, locations.as_slice())
 }
 
 // The same, of locations in their order.
@@ -259,15 +287,6 @@ fn root_of<'a>(arena: &'a Bump, view: &Option<View<'a>>) -> Result<&'a Snapshot<
         None => None,
     };
     Ok(arena.try_alloc(Snapshot::root(view))?)
-}
-
-// One location, as a list of locations.
-fn alone<'a>(arena: &'a Bump, path: &'a Path) -> Result<Vec<&'a Path, &'a Bump>, NoMemory>
-    ensures { IfOk result (λ locations. paths locations.items ≡ path.now ∷ []) }
-{
-    let mut locations = Vec::with_capacity(arena, 1)?;
-    locations.push(path)?;
-    Ok(locations)
 }
 
 // The location of each write.

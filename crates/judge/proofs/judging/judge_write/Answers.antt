@@ -1,25 +1,30 @@
-use Rattle.std.proofs.Common.{List, map, subst, sym, ap}
-use Rattle.std.specs.Borrow.{Bor}
+use Rattle.std.proofs.Common.{◌≡◌, [], ◌∷◌, List, length, map, subst, sym, ap, get_or, arith}
 use Rattle.std.proofs.lemmas.Result.{IfOk-weaker}
-use Rattle.std.proofs.lemmas.List.Sorted.{IsPermutation-map}
-use Rattle.std.specs.List.Sorted.{IsPermutation}
 use Rattle.path_capture.specs.Write.{tree_or_null}
-use Rattle.tree_model.specs.Path.{Path}
 use Rattle.tree_model.specs.Tree.{Tree}
-use Rattle.tree_model.specs.Write.{location}
+use Rattle.tree_model.specs.Write.{Write, location, proposed}
 use Rattle.judge.specs.Question.{scene_of}
-use Rattle.judge.specs.Working.Locations.{paths}
 use Rattle.judge.specs.Judging.{IsWriteVerdict}
-use Rattle.judge.proofs.Tops.{verdict_in_any_order}
 use Rattle.judge.proofs.judging.judge_write.Goals as goal
 
-pub returns : goal.returns
-returns c =
+one_write : (ws : List Write) (w : Write) → length ws ≡ 1 → w ≡ get_or ws 0 w → w ∷ [] ≡ ws
+one_write [] w long at = absurd (omega arith)
+one_write (v ∷ []) w long at = ap (λ (x : Write). x ∷ []) at
+one_write (v ∷ u ∷ ws) w long at = absurd (omega arith)
+
+pub returns-in-len1 : goal.returns-in-len1
+returns-in-len1 c =
     let scene = scene_of c.args.scene.now in
-    let written = map location c.args.writes.now in
-    let sorted = IsPermutation-map (λ (l : Bor Path). l.now) c.in_ok-locations.locations.items c.sort.new.locations.items c.sort.ensures.permutation in
-    let order : IsPermutation written (paths c.as_slice.result.now) =
-    subst (IsPermutation written) (ap paths (sym c.as_slice.ensures.value)) (subst (λ (xs : List Path). IsPermutation xs (paths c.sort.new.locations.items)) c.in_ok-locations.ensures sorted) in
-    IfOk-weaker c.judge_ordered.result _ _
-    (λ v h. subst (λ (t : Tree). IsWriteVerdict scene t written v) c.requires (verdict_in_any_order scene (tree_or_null c.args.coming) written (paths c.as_slice.result.now) v order h))
-    c.judge_ordered.ensures
+    let low = c.in-len1.len_at_least in
+    let high = c.in-len1.len_below in
+    let one = one_write c.args.writes.now c.write-item.result (omega arith) c.write-item.is in
+    IfOk-weaker c.judge_one.result _ _
+    (λ v h. subst (λ (t : Tree). IsWriteVerdict scene t (map location c.args.writes.now) v) c.requires (subst (λ (ws : List Write). IsWriteVerdict scene (tree_or_null c.args.coming) (map location ws) v) one h))
+    c.judge_one.ensures
+
+pub returns-in_default : goal.returns-in_default
+returns-in_default c =
+    let scene = scene_of c.args.scene.now in
+    IfOk-weaker c.judge_all.result _ _
+    (λ v h. subst (λ (t : Tree). IsWriteVerdict scene t (map location c.args.writes.now) v) c.requires h)
+    c.judge_all.ensures
