@@ -65,7 +65,31 @@ pub(crate) fn decide_own<'a, 'p>(
     Ok(decisions)
 }
 
+// What becomes of the listeners of a session. Most sessions have none, so this is made one with what goes through
+// them.
+#[inline(always)]
 fn decide_each<'s>(
+    arena: &Bump,
+    passage: &Passage<'_>,
+    who: Option<&Identity>,
+    listeners: &'s Table,
+    moved: &mut Moved<'_, '_, 's>,
+    decisions: &mut Decisions<'_>,
+) -> Result<(), NoMemory>
+    requires passage { IsPassage passage.now }
+    requires moved { moved.old ≡ (tree_before passage.now, tree_after passage.now) }
+    requires heard { passage.now.was_heard ≡ true → AreHeard passage.now.rules.now (tree_before passage.now) (who_of who) listeners.now }
+    ensures place { OnOk result (decisions.new.place ≡ decisions.old.place + length listeners.now) }
+    ensures moved { moved.new ≡ moved.old }
+    ensures made { OnOk result (decisions.new.made.items ≡ decisions.old.made.items ++ sparse decisions.old.place (map (fate_of (tree_before passage.now) passage.now.rules.now (tree_after passage.now) passage.now.moment (who_of who.entry)) listeners.now)) }
+{
+    if listeners.len() == 0 {
+        return Ok(());
+    }
+    decide_some(arena, passage, who, listeners, moved, decisions)
+}
+
+fn decide_some<'s>(
     arena: &Bump,
     passage: &Passage<'_>,
     who: Option<&Identity>,

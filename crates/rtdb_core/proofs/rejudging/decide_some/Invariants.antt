@@ -1,7 +1,7 @@
 use Rattle.std.proofs.Common.{◌≡◌, ◌+◌, ◌++◌, map, take}
 use Rattle.rtdb_core.specs.Working.Fates.{fate_of, sparse}
 use Rattle.rtdb_core.specs.Working.Passages.{tree_before, tree_after, who_of}
-use Rattle.rtdb_core.proofs.rejudging.decide_each.Given as goal
+use Rattle.rtdb_core.proofs.rejudging.decide_some.Given as goal
 
 abbrev pub invariant-loop-index : goal.invariant-loop-index
 invariant-loop-index l =

@@ -5,7 +5,7 @@ use Rattle.rtdb_core.specs.Working.Fates.{fate_of, sparse}
 use Rattle.rtdb_core.specs.Working.Passages.{tree_before, tree_after, who_of}
 use Rattle.rtdb_core.proofs.Collecting.{one_more, all_of}
 use Rattle.rtdb_core.proofs.Staying.{heard_at}
-use Rattle.rtdb_core.proofs.rejudging.decide_each.Goals as goal
+use Rattle.rtdb_core.proofs.rejudging.decide_some.Goals as goal
 
 pub loop-index-init : goal.loop-index-init
 loop-index-init c = ((omega arith, sym (append-nil c.args.decisions.now.made.items)), refl)
