@@ -7,4 +7,5 @@ pub mod Plain
 pub mod Reading
 pub mod Naming
 pub mod Notices
+pub mod MemberNames
 pub mod Outlines

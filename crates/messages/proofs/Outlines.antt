@@ -1,5 +1,5 @@
 -- The members of an outline as those of an object.
-use Rattle.std.proofs.Common.{◌≡◌, ℕ, ◌+◌, ◌<◌, List, [], ◌∷◌, ◌++◌, length, take, get_or, Bool, true, false, ◌&&◌, Some, Ordering, Less, Equal, Greater, nat_cmp, is_eq, bytes_eq, true≢false, refl, sym, ap, subst, ◌∙◌}
+use Rattle.std.proofs.Common.{◌≡◌, ℕ, ◌+◌, ◌<◌, List, [], ◌∷◌, ◌++◌, length, take, get_or, Bool, true, false, ◌&&◌, Some, Ordering, Less, Equal, Greater, nat_cmp, is_eq, refl, sym, ap, subst, ◌∙◌}
 use Rattle.std.specs.List.{list_all}
 use Rattle.std.specs.Cmp.Lexicographic.{slice_cmp}
 use Rattle.std.specs.Ordering.{match_ordering}
@@ -10,8 +10,11 @@ use Rattle.serde_json.specs.Data.{Data, Members, no_members, member, put}
 use Rattle.serde_json.specs.Find.{get_member}
 use Rattle.serde_json.proofs.Views.{get_member-put, get_member-put_other}
 use Rattle.tokens.specs.Tokens.{names_of}
+use Rattle.messages.specs.declared.member_name.MemberName.{MemberName}
 use Rattle.messages.specs.declared.outline.Member.{Member}
+use Rattle.messages.specs.Working.MemberName.{name_text}
 use Rattle.messages.specs.Working.Outline.{said_data, put_all}
+use Rattle.messages.proofs.MemberNames.{one_name}
 
 -- ---- tests
 
@@ -32,35 +35,35 @@ regrouped false false c = refl
 
 -- ---- members that are put
 
-pub put_one_more : (ms : List Member) (m : Member) (there : Members) → put_all (ms ++ m ∷ []) there ≡ put m.name.now (said_data m.said) (put_all ms there)
+pub put_one_more : (ms : List Member) (m : Member) (there : Members) → put_all (ms ++ m ∷ []) there ≡ put (name_text m.name) (said_data m.said) (put_all ms there)
 put_one_more [] m there = refl
-put_one_more (x ∷ ms) m there = put_one_more ms m (put x.name.now (said_data x.said) there)
+put_one_more (x ∷ ms) m there = put_one_more ms m (put (name_text x.name) (said_data x.said) there)
 
 -- the member at the end counts for its name
-pub last_here : (ms : List Member) (m : Member) (name : List ℕ) → bytes_eq m.name.now name ≡ true → get_member name (put_all (ms ++ m ∷ []) no_members) ≡ Some (said_data m.said)
+pub last_here : (ms : List Member) (m : Member) (name : MemberName) → m.name ≡ name → get_member (name_text name) (put_all (ms ++ m ∷ []) no_members) ≡ Some (said_data m.said)
 last_here ms m name same =
     let before = put_all ms no_members in
-    ap (get_member name) (put_one_more ms m no_members)
-    ∙ subst (λ n. get_member n (put m.name.now (said_data m.said) before) ≡ Some (said_data m.said)) ((bytes_eq-Decides m.name.now name).0 same) (get_member-put m.name.now (said_data m.said) before)
+    ap (get_member (name_text name)) (put_one_more ms m no_members)
+    ∙ subst (λ n. get_member (name_text n) (put (name_text m.name) (said_data m.said) before) ≡ Some (said_data m.said)) same (get_member-put (name_text m.name) (said_data m.said) before)
 
 -- and changes nothing for another name
-pub last_other : (ms : List Member) (m : Member) (name : List ℕ) → bytes_eq m.name.now name ≡ false → get_member name (put_all (ms ++ m ∷ []) no_members) ≡ get_member name (put_all ms no_members)
+pub last_other : (ms : List Member) (m : Member) (name : MemberName) → ¬ (m.name ≡ name) → get_member (name_text name) (put_all (ms ++ m ∷ []) no_members) ≡ get_member (name_text name) (put_all ms no_members)
 last_other ms m name differs =
-    let other : ¬ (name ≡ m.name.now) = (λ same. true≢false (sym ((bytes_eq-Decides m.name.now name).1 (sym same)) ∙ differs)) in
-    ap (get_member name) (put_one_more ms m no_members) ∙ get_member-put_other name m.name.now (said_data m.said) (put_all ms no_members) other
+    let other : ¬ (name_text name ≡ name_text m.name) = (λ same. differs (one_name m.name name (sym same))) in
+    ap (get_member (name_text name)) (put_one_more ms m no_members) ∙ get_member-put_other (name_text name) (name_text m.name) (said_data m.said) (put_all ms no_members) other
 
 -- those before an index, with the member there
 up_to : (ms : List Member) (i : ℕ) (m : Member) → i < length ms → m ≡ get_or ms i m → take (i + 1) ms ≡ take i ms ++ m ∷ []
 up_to ms i m within is = take_more ms i m within ∙ ap (λ x. take i ms ++ x ∷ []) (sym is)
 
 -- the member at i counts for its name, whatever stands before it
-pub said_here : (ms : List Member) (i : ℕ) (m : Member) (name : List ℕ) → i < length ms → m ≡ get_or ms i m → bytes_eq m.name.now name ≡ true → get_member name (put_all (take (i + 1) ms) no_members) ≡ Some (said_data m.said)
-said_here ms i m name within is same = ap (λ xs. get_member name (put_all xs no_members)) (up_to ms i m within is) ∙ last_here (take i ms) m name same
+pub said_here : (ms : List Member) (i : ℕ) (m : Member) (name : MemberName) → i < length ms → m ≡ get_or ms i m → m.name ≡ name → get_member (name_text name) (put_all (take (i + 1) ms) no_members) ≡ Some (said_data m.said)
+said_here ms i m name within is same = ap (λ xs. get_member (name_text name) (put_all xs no_members)) (up_to ms i m within is) ∙ last_here (take i ms) m name same
 
 -- and changes nothing for another name
-pub said_before : (ms : List Member) (i : ℕ) (m : Member) (name : List ℕ) → i < length ms → m ≡ get_or ms i m → bytes_eq m.name.now name ≡ false
-    → get_member name (put_all (take (i + 1) ms) no_members) ≡ get_member name (put_all (take i ms) no_members)
-said_before ms i m name within is differs = ap (λ xs. get_member name (put_all xs no_members)) (up_to ms i m within is) ∙ last_other (take i ms) m name differs
+pub said_before : (ms : List Member) (i : ℕ) (m : Member) (name : MemberName) → i < length ms → m ≡ get_or ms i m → ¬ (m.name ≡ name)
+    → get_member (name_text name) (put_all (take (i + 1) ms) no_members) ≡ get_member (name_text name) (put_all (take i ms) no_members)
+said_before ms i m name within is differs = ap (λ xs. get_member (name_text name) (put_all xs no_members)) (up_to ms i m within is) ∙ last_other (take i ms) m name differs
 
 -- all names pass a test that those of the list pass
 -- one more name stands among the others, or is one of them
@@ -76,17 +79,17 @@ names_put : (test : List ℕ → Bool) (k : List ℕ) (d : Data) (ms : Members) 
 names_put test k d no_members = refl
 names_put test k d (member l e ms) = names_at (slice_cmp nat_cmp k l) test k l d e ms refl (names_put test k d ms)
 
-names_all : (test : List ℕ → Bool) (ms : List Member) (there : Members) → list_all test (names_of (put_all ms there)) ≡ (list_all (λ m. test m.name.now) ms && list_all test (names_of there))
+names_all : (test : List ℕ → Bool) (ms : List Member) (there : Members) → list_all test (names_of (put_all ms there)) ≡ (list_all (λ m. test (name_text m.name)) ms && list_all test (names_of there))
 names_all test [] there = refl
 names_all test (m ∷ ms) there =
-    names_all test ms (put m.name.now (said_data m.said) there)
-    ∙ ap (λ b. list_all (λ x. test x.name.now) ms && b) (names_put test m.name.now (said_data m.said) there)
-    ∙ regrouped (list_all (λ x. test x.name.now) ms) (test m.name.now) (list_all test (names_of there))
+    names_all test ms (put (name_text m.name) (said_data m.said) there)
+    ∙ ap (λ b. list_all (λ x. test (name_text x.name)) ms && b) (names_put test (name_text m.name) (said_data m.said) there)
+    ∙ regrouped (list_all (λ x. test (name_text x.name)) ms) (test (name_text m.name)) (list_all test (names_of there))
 
 and_true : (b : Bool) → (b && true) ≡ b
 and_true true = refl
 and_true false = refl
 
 -- so of an outline, whose object has nothing else
-pub names_outlined : (test : List ℕ → Bool) (ms : List Member) → list_all test (names_of (put_all ms no_members)) ≡ list_all (λ m. test m.name.now) ms
-names_outlined test ms = names_all test ms no_members ∙ and_true (list_all (λ m. test m.name.now) ms)
+pub names_outlined : (test : List ℕ → Bool) (ms : List Member) → list_all test (names_of (put_all ms no_members)) ≡ list_all (λ m. test (name_text m.name)) ms
+names_outlined test ms = names_all test ms no_members ∙ and_true (list_all (λ m. test (name_text m.name)) ms)

@@ -3,5 +3,6 @@ pub mod Faults
 pub mod Opening
 pub mod Asking
 pub mod TreeMembers
+pub mod MemberName
 pub mod Outline
 pub mod Writing

@@ -12,6 +12,7 @@ ghost use Rattle.messages.specs.Working.Opening.{OpensBy, header_seen};
 ghost use Rattle.serde_json.specs.Data.{Data as AnyData};
 ghost use Rattle.messages.specs.declared.header.HeaderFault.TheVariants.{Line as of_line, Rules as of_rules};
 
+use crate::member_name::MemberName;
 use crate::message::{MessageFault, read_value};
 use crate::source::Source;
 use crate::writes::tree_of_value;
@@ -155,7 +156,7 @@ fn header_of(value: &Value) -> Option<Header<'_>>
     if !has_header_alone(value) {
         return None;
     }
-    let rules = Source::Held(value).text_at("rules")?;
+    let rules = Source::Held(value).text_at(MemberName::Rules)?;
     Some(Header {
         rules,
         opening: value.get("data"),

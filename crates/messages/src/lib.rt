@@ -11,6 +11,7 @@ mod ask;
 mod code;
 mod header;
 mod limits;
+mod member_name;
 mod message;
 mod news;
 mod outline;

@@ -5,8 +5,10 @@ ghost use Rattle.json.specs.Reads.{token_of};
 ghost use Rattle.serde_json.specs.Data.{no_members, object};
 ghost use Rattle.serde_json.specs.Find.{get_member};
 ghost use Rattle.serde_json.specs.Read.{read};
+ghost use Rattle.messages.specs.Working.MemberName.{name_text};
 ghost use Rattle.messages.specs.Working.Outline.{said_data, part_data, put_all, IsRead, Gives};
 
+use crate::member_name::MemberName;
 use crate::tree_members::TreeMembers;
 use crate::trees::{named_from, negative_of, whole_of};
 use bumpalo::Bump;
@@ -69,7 +71,7 @@ impl Said<'_> {
 /// A member of an outline.
 #[derive(Drop)]
 pub(crate) struct Member<'a> {
-    pub name: &'a str,
+    pub name: MemberName,
     said: Said<'a>,
 }
 
@@ -81,8 +83,8 @@ pub(crate) struct Outline<'a> {
 
 impl<'a> Outline<'a> {
     /// The outline of a text, whose list of members takes a place in the arena. None where it is no object,
-    /// and where one of its members is no value, is an array, a number that is not whole or an object that
-    /// [`named_from`] leaves, or wants memory.
+    /// and where one of its members has a name that is no [`MemberName`], is no value, is an array, a number
+    /// that is not whole or an object that [`named_from`] leaves, or wants memory.
     pub fn read(
         alloc: Global,
         arena: &'a Bump,
@@ -110,8 +112,8 @@ impl<'a> Outline<'a> {
     }
 
     /// Takes out what the last member of this name is: a look at each. Those behind it go too.
-    pub fn take(&mut self, name: &str) -> Option<Said<'a>>
-        ensures { option_map said_data result ≡ get_member name.now (put_all self.old.members.items no_members) }
+    pub fn take(&mut self, name: MemberName) -> Option<Said<'a>>
+        ensures { option_map said_data result ≡ get_member (name_text name) (put_all self.old.members.items no_members) }
     {
         'members: while let Some(member) = self.members.pop() {
             if member.name == name {
@@ -130,7 +132,8 @@ fn read_members<'a>(
     ensures { IfSome result (λ members. Gives MAX_MEMBER_LEVELS reader.old (put_all members.items no_members) reader.new) }
 {
     let mut members = Vec::with_capacity(arena, FIRST_MEMBERS).ok()?;
-    'members: while let Some(name) = reader.next_key().ok()? {
+    'members: while let Some(text) = reader.next_key().ok()? {
+        let name = MemberName::of(text)?;
         let token = reader.next()?;
         let said = said_from(alloc, reader, token)?;
         members.push(Member { name, said }).ok()?;
@@ -160,8 +163,8 @@ fn said_from<'a>(alloc: Global, reader: &mut Reader<'a>, token: Token<'a>) -> Op
 }
 
 /// What the last member of this name is: a look at each from the last one on, up to it.
-pub(crate) fn part_at<'a>(members: &'a [Member<'a>], name: &str) -> Option<Part<'a>>
-    ensures { option_map part_data result ≡ get_member name.now (put_all members.now no_members) }
+pub(crate) fn part_at<'a>(members: &'a [Member<'a>], name: MemberName) -> Option<Part<'a>>
+    ensures { option_map part_data result ≡ get_member (name_text name) (put_all members.now no_members) }
 {
     let mut left = members.len();
     'members: while left > 0 {

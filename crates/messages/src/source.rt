@@ -8,8 +8,10 @@ ghost use Rattle.serde_json.specs.Find.{get, as_str, as_number, as_u64, as_objec
 ghost use Rattle.path_capture.specs.Write.{tree_or_null};
 ghost use Rattle.tokens.specs.Tokens.{text_at};
 ghost use Rattle.messages.specs.Message.{Tells, tree_of_value, writes_below};
+ghost use Rattle.messages.specs.Working.MemberName.{name_text};
 ghost use Rattle.messages.specs.Working.Outline.{part_data, object_data, source_data, message_data};
 
+use crate::member_name::MemberName;
 use crate::message::MessageFault;
 use crate::outline::{Member, Outline, Part, Said, part_at};
 use crate::tree_members::TreeMembers;
@@ -38,12 +40,16 @@ impl<'a> Message<'a> {
     }
 
     /// The tree of a member, which is taken out of an outline; null where none has the name.
-    pub fn take_tree(&mut self, alloc: Global, name: &str) -> Result<Option<Node>, MessageFault>
-        ensures { Tells tree_or_null result (tree_of_value (unwrap_or (get name.now (message_data self.old)) null)) }
+    pub fn take_tree(
+        &mut self,
+        alloc: Global,
+        name: MemberName,
+    ) -> Result<Option<Node>, MessageFault>
+        ensures { Tells tree_or_null result (tree_of_value (unwrap_or (get (name_text name) (message_data self.old)) null)) }
     {
         match self {
             Message::Outlined(outline) => tree_of(alloc, outline.take(name).unwrap_or_default()),
-            Message::Held(value) => match value.get(name) {
+            Message::Held(value) => match value.get(name.text()) {
                 Some(member) => tree_of_value(alloc, member),
                 None => tree_of_value(alloc, &Value::Null),
             },
@@ -55,18 +61,18 @@ impl<'a> Message<'a> {
     pub fn take_writes(
         &mut self,
         alloc: Global,
-        name: &str,
+        name: MemberName,
         path: &Path,
     ) -> Result<Vec<Write>, MessageFault>
         ensures { Tells (λ writes. writes.items) result
-            (writes_below path.now (unwrap_or (option_and_then as_object (get name.now (message_data self.old))) no_members)) }
+            (writes_below path.now (unwrap_or (option_and_then as_object (get (name_text name) (message_data self.old))) no_members)) }
     {
         match self {
             Message::Outlined(outline) => match outline.take(name) {
                 Some(Said::Trees(named)) => named.into_writes(alloc, path),
                 _ => Ok(Vec::new(alloc)),
             },
-            Message::Held(value) => match value.get(name).and_then(Value::as_object) {
+            Message::Held(value) => match value.get(name.text()).and_then(Value::as_object) {
                 Some(members) => writes_below(alloc, path, members),
                 None => Ok(Vec::new(alloc)),
             },
@@ -90,18 +96,18 @@ pub(crate) enum Object<'a> {
 
 impl<'a> Source<'a> {
     /// The member of this name, the last one where several have it.
-    pub fn get(self, name: &str) -> Option<Part<'a>>
-        ensures { option_map part_data result ≡ get name.now (source_data self.entry) }
+    pub fn get(self, name: MemberName) -> Option<Part<'a>>
+        ensures { option_map part_data result ≡ get (name_text name) (source_data self.entry) }
     {
         match self {
             Source::Outline(members) => part_at(members, name),
-            Source::Held(value) => Some(Part::Held(value.get(name)?)),
+            Source::Held(value) => Some(Part::Held(value.get(name.text())?)),
         }
     }
 
     /// The member of this name, if it is a text.
-    pub fn text_at(self, name: &str) -> Option<&'a str>
-        ensures { option_map (λ text. text.now) result ≡ text_at name.now (source_data self.entry) }
+    pub fn text_at(self, name: MemberName) -> Option<&'a str>
+        ensures { option_map (λ text. text.now) result ≡ text_at (name_text name) (source_data self.entry) }
     {
         self.get(name)?.as_str()
     }

@@ -5,8 +5,10 @@ ghost use Rattle.std.specs.Str.{bytes_eq};
 ghost use Rattle.serde_json.specs.View.{members_view};
 ghost use Rattle.tokens.specs.Tokens.{names_of, has_only};
 ghost use Rattle.messages.specs.Message.{whole_at, verb_named, verb_of, verb_in, form_members, verb_members, stamp_of, IsWithin};
+ghost use Rattle.messages.specs.Working.MemberName.{name_text};
 ghost use Rattle.messages.specs.Working.Outline.{source_data};
 
+use crate::member_name::MemberName;
 use crate::message::{Form, Stamp, Verb};
 use crate::outline::Member;
 use crate::source::Source;
@@ -17,7 +19,7 @@ use serde_json::{Map, Value};
 pub(crate) fn verb_in(form: Form, source: Source<'_>) -> Option<Verb>
     ensures { result ≡ verb_in form (source_data source.entry) }
 {
-    verb_of(form, source.text_at("do")?)
+    verb_of(form, source.text_at(MemberName::Do)?)
 }
 
 fn verb_of(form: Form, name: &str) -> Option<Verb>
@@ -78,7 +80,7 @@ pub(crate) fn has_only_members(form: Form, verb: Verb, source: Source<'_>) -> bo
 }
 
 fn are_outlined(form: Form, verb: Verb, members: &[Member<'_>]) -> bool
-    ensures { result ≡ list_all (λ member. list_any (bytes_eq member.name.now) (form_members form ++ verb_members verb)) members.now }
+    ensures { result ≡ list_all (λ member. list_any (bytes_eq (name_text member.name)) (form_members form ++ verb_members verb)) members.now }
 {
     members
         .iter()
@@ -89,31 +91,36 @@ fn are_members(form: Form, verb: Verb, members: &Map<String, Value>) -> bool
     ensures { result ≡ list_all (λ name. list_any (bytes_eq name) (form_members form ++ verb_members verb)) (names_of (members_view members.now.entries)) }
 {
     for (name, _) in members.iter() {
-        if !is_member(form, verb, name.as_str()) {
-            return false;
+        match MemberName::of(name.as_str()) {
+            Some(name) => if !is_member(form, verb, name) {
+                return false;
+            },
+            None => return false,
         }
     }
     true
 }
 
-fn is_member(form: Form, verb: Verb, name: &str) -> bool
-    ensures { result ≡ list_any (bytes_eq name.now) (form_members form ++ verb_members verb) }
+fn is_member(form: Form, verb: Verb, name: MemberName) -> bool
+    ensures { result ≡ list_any (bytes_eq (name_text name)) (form_members form ++ verb_members verb) }
 {
     let of_form = match form {
-        Form::Script => name == "do" || name == "now" || name == "s",
-        Form::Socket(_) => name == "do",
+        Form::Script => matches!(name, MemberName::Do | MemberName::Now | MemberName::Session),
+        Form::Socket(_) => name == MemberName::Do,
     };
     of_form
         || match verb {
             Verb::Open | Verb::Close | Verb::SignOut | Verb::Poll | Verb::Tick => false,
-            Verb::SignIn => name == "token",
-            Verb::Get => name == "path" || name == "query",
-            Verb::Remove => name == "path",
-            Verb::Set => name == "path" || name == "value",
-            Verb::Update => name == "path" || name == "values",
-            Verb::Listen => name == "id" || name == "path" || name == "query",
-            Verb::Unlisten => name == "id",
-            Verb::Deploy => name == "rules",
+            Verb::SignIn => name == MemberName::Token,
+            Verb::Get => name == MemberName::Path || name == MemberName::Query,
+            Verb::Remove => name == MemberName::Path,
+            Verb::Set => name == MemberName::Path || name == MemberName::Value,
+            Verb::Update => name == MemberName::Path || name == MemberName::Values,
+            Verb::Listen => name == MemberName::Id
+                || name == MemberName::Path
+                || name == MemberName::Query,
+            Verb::Unlisten => name == MemberName::Id,
+            Verb::Deploy => name == MemberName::Rules,
         }
 }
 
@@ -124,8 +131,8 @@ pub(crate) fn stamp_of(form: Form, source: Source<'_>) -> Option<Stamp>
 {
     match form {
         Form::Script => {
-            let now = whole_at(source, "now")?;
-            let session = whole_at(source, "s")?;
+            let now = whole_at(source, MemberName::Now)?;
+            let session = whole_at(source, MemberName::Session)?;
             Some(Stamp { now, session })
         }
         Form::Socket(stamp) => Some(stamp),
@@ -133,8 +140,8 @@ pub(crate) fn stamp_of(form: Form, source: Source<'_>) -> Option<Stamp>
 }
 
 // A member that is a whole number from 0 to 2^53 - 1.
-fn whole_at(source: Source<'_>, name: &str) -> Option<u64>
-    ensures number { result ≡ whole_at name.now (source_data source.entry) }
+fn whole_at(source: Source<'_>, name: MemberName) -> Option<u64>
+    ensures number { result ≡ whole_at (name_text name) (source_data source.entry) }
     ensures within { IfSome result (λ number. number ≤ MAX_MOMENT) }
 {
     let number = source.get(name)?.as_u64()?;

@@ -4,8 +4,10 @@ ghost use Rattle.serde_json.specs.View.{view};
 ghost use Rattle.tokens.specs.Tokens.{text_at};
 ghost use Rattle.messages.specs.Message.{Tells, path_in, query_at, query_said, id_at, wanted_by, or_fault};
 ghost use Rattle.messages.specs.declared.message.MessageFault.TheVariants.{BadRequest};
+ghost use Rattle.messages.specs.Working.MemberName.{name_text};
 ghost use Rattle.messages.specs.Working.Outline.{object_data, source_data, message_data};
 
+use crate::member_name::MemberName;
 use crate::message::{MessageFault, Text, Verb, Wanted};
 use crate::outline::Part;
 use crate::source::{Message, Object, Source};
@@ -29,7 +31,7 @@ pub(crate) fn wanted_by(
         Verb::Open => Ok(Wanted::Step(Event::Open)),
         Verb::Close => Ok(Wanted::Step(Event::Close)),
         Verb::SignIn => {
-            let secret = text_in(alloc, source, "token")?;
+            let secret = text_in(alloc, source, MemberName::Token)?;
             Ok(Wanted::SignIn(secret))
         }
         Verb::SignOut => Ok(Wanted::Step(Event::SignOut)),
@@ -50,14 +52,14 @@ pub(crate) fn wanted_by(
         Verb::Poll => Ok(Wanted::Step(Event::Poll)),
         Verb::Tick => Ok(Wanted::Step(Event::Tick)),
         Verb::Deploy => {
-            let rules = text_in(alloc, source, "rules")?;
+            let rules = text_in(alloc, source, MemberName::Rules)?;
             Ok(Wanted::Deploy(rules))
         }
     }
 }
 
-fn text_in(alloc: Global, source: Source<'_>, name: &str) -> Result<Text, MessageFault>
-    ensures { Tells (λ text. text) result (or_fault BadRequest (text_at name.now (source_data source.entry))) }
+fn text_in(alloc: Global, source: Source<'_>, name: MemberName) -> Result<Text, MessageFault>
+    ensures { Tells (λ text. text) result (or_fault BadRequest (text_at (name_text name) (source_data source.entry))) }
 {
     let Some(text) = source.text_at(name) else {
         return Err(MessageFault::BadRequest);
@@ -69,7 +71,7 @@ fn text_in(alloc: Global, source: Source<'_>, name: &str) -> Result<Text, Messag
 fn path_in(alloc: Global, source: Source<'_>) -> Result<Path, MessageFault>
     ensures { Tells (λ path. path) result (path_in (source_data source.entry)) }
 {
-    let Some(text) = source.text_at("path") else {
+    let Some(text) = source.text_at(MemberName::Path) else {
         return Err(MessageFault::BadRequest);
     };
     path_of(alloc, text)
@@ -78,7 +80,7 @@ fn path_in(alloc: Global, source: Source<'_>) -> Result<Path, MessageFault>
 fn get_of(alloc: Global, source: Source<'_>) -> Result<Wanted, MessageFault>
     ensures { Tells (λ wanted. wanted) result (wanted_by Verb.Get (source_data source.entry)) }
 {
-    let Some(text) = source.text_at("path") else {
+    let Some(text) = source.text_at(MemberName::Path) else {
         return Err(MessageFault::BadRequest);
     };
     let Some(said) = query_at(source) else {
@@ -95,7 +97,7 @@ fn listen_of(alloc: Global, source: Source<'_>) -> Result<Wanted, MessageFault>
     let Some(id) = id_at(source) else {
         return Err(MessageFault::BadRequest);
     };
-    let Some(text) = source.text_at("path") else {
+    let Some(text) = source.text_at(MemberName::Path) else {
         return Err(MessageFault::BadRequest);
     };
     let Some(said) = query_at(source) else {
@@ -110,14 +112,14 @@ fn listen_of(alloc: Global, source: Source<'_>) -> Result<Wanted, MessageFault>
 fn id_at(source: Source<'_>) -> Option<ListenerId>
     ensures { result ≡ id_at (source_data source.entry) }
 {
-    ListenerId::new(source.text_at("id")?)
+    ListenerId::new(source.text_at(MemberName::Id)?)
 }
 
 // The member `query`, None inside where it is left out.
 fn query_at(source: Source<'_>) -> Option<Option<Object<'_>>>
     ensures { option_map (λ said. option_map object_data said) result ≡ query_at (source_data source.entry) }
 {
-    match source.get("query") {
+    match source.get(MemberName::Query) {
         Some(said) => Some(Some(said.object()?)),
         None => Some(None),
     }
@@ -150,14 +152,14 @@ fn set_of(alloc: Global, message: &mut Message<'_>) -> Result<Wanted, MessageFau
     ensures { Tells (λ wanted. wanted) result (wanted_by Verb.Set (message_data message.old)) }
 {
     let source = message.source();
-    let Some(text) = source.text_at("path") else {
+    let Some(text) = source.text_at(MemberName::Path) else {
         return Err(MessageFault::BadRequest);
     };
-    if source.get("value").is_none() {
+    if source.get(MemberName::Value).is_none() {
         return Err(MessageFault::BadRequest);
     }
     let path = path_of(alloc, text)?;
-    let tree = message.take_tree(alloc, "value")?;
+    let tree = message.take_tree(alloc, MemberName::Value)?;
     let write = write_at(path, tree)?;
     Ok(Wanted::Step(Event::Set(write)))
 }
@@ -166,13 +168,17 @@ fn update_of(alloc: Global, message: &mut Message<'_>) -> Result<Wanted, Message
     ensures { Tells (λ wanted. wanted) result (wanted_by Verb.Update (message_data message.old)) }
 {
     let source = message.source();
-    let Some(text) = source.text_at("path") else {
+    let Some(text) = source.text_at(MemberName::Path) else {
         return Err(MessageFault::BadRequest);
     };
-    if source.get("values").and_then(Part::object).is_none() {
+    if source
+        .get(MemberName::Values)
+        .and_then(Part::object)
+        .is_none()
+    {
         return Err(MessageFault::BadRequest);
     }
     let path = path_of(alloc, text)?;
-    let writes = message.take_writes(alloc, "values", &path)?;
+    let writes = message.take_writes(alloc, MemberName::Values, &path)?;
     Ok(Wanted::Step(Event::Update(Writes::of_vec(writes))))
 }

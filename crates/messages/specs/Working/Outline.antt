@@ -18,6 +18,7 @@ use Rattle.messages.specs.declared.source.Object.TheVariants as objects
 use Rattle.messages.specs.declared.source.Source.{Source}
 use Rattle.messages.specs.declared.source.Source.TheVariants as sources
 use Rattle.messages.specs.Working.TreeMembers.{members_named}
+use Rattle.messages.specs.Working.MemberName.{name_text}
 
 -- ---- what is read
 
@@ -46,7 +47,7 @@ object_data (objects.Held value) = view value.now
 -- these members put one after another, the later in the place of the earlier, among those that are there
 abbrev pub put_all : List Member → Members → Members
 put_all [] there = there
-put_all (m ∷ ms) there = put_all ms (put m.name.now (said_data m.said) there)
+put_all (m ∷ ms) there = put_all ms (put (name_text m.name) (said_data m.said) there)
 
 -- the value that the members of a message are read from
 abbrev pub source_data : Source → Data

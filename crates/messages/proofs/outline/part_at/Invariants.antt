@@ -1,6 +1,7 @@
 use Rattle.std.proofs.Common.{◌≡◌, ◌≤◌, length, take}
 use Rattle.serde_json.specs.Data.{no_members}
 use Rattle.serde_json.specs.Find.{get_member}
+use Rattle.messages.specs.Working.MemberName.{name_text}
 use Rattle.messages.specs.Working.Outline.{put_all}
 use Rattle.messages.proofs.outline.part_at.Given as goal
 
@@ -8,7 +9,7 @@ use Rattle.messages.proofs.outline.part_at.Given as goal
 abbrev pub invariant-members : goal.invariant-members
 invariant-members l =
     (l.left ≤ length l.members)
-    × (get_member l.name (put_all (take l.left l.members) no_members) ≡ get_member l.name (put_all l.members no_members))
+    × (get_member (name_text l.name) (put_all (take l.left l.members) no_members) ≡ get_member (name_text l.name) (put_all l.members no_members))
 
 abbrev pub decreases-members : goal.decreases-members
 decreases-members l = l.left
