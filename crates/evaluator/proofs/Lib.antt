@@ -4,6 +4,7 @@ pub mod Pieces
 pub mod Inside
 pub mod Replacing
 pub mod Names
+pub mod Knowing
 pub mod Lists
 pub mod Placed
 pub mod Sorted

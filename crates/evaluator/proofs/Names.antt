@@ -10,7 +10,7 @@ use Rattle.evaluator.specs.Members.{query_limit}
 pub unlike : (a f : List ℕ) → (f ≡ a → ⊥) → bytes_eq a f ≡ false
 unlike a f n = not_true (bytes_eq a f) (λ h. n (sym (same_key a f h)))
 
-cond_false : {X : Type 0} (b : Bool) (x y : X) → b ≡ false → cond b x y ≡ y
+pub cond_false : {X : Type 0} (b : Bool) (x y : X) → b ≡ false → cond b x y ≡ y
 cond_false true x y h = cc
 cond_false false x y h = refl
 

@@ -1,50 +1,88 @@
 //! What calls give.
-ghost use Rattle.std.specs.Prelude.{◌≡◌, Some, None, IfOk, IsErrOf, option_map};
+ghost use Rattle.std.specs.Prelude.{◌≡◌, Some, None, IfOk, OnOk, IsErrOf, option_map};
 ghost use Rattle.json_tree.specs.Leaf.{primitive_of};
-ghost use Rattle.evaluator.specs.Calls.{type_test, snapshot_test, snapshot_call, child_of, has_child, snapshot_call_with, called_with_nothing, called_with, called_with_two};
+ghost use Rattle.evaluator.specs.Snapshot.{is_number, is_string, is_boolean};
+ghost use Rattle.evaluator.specs.Calls.{snapshot_test, snapshot_call, child_of, has_child, snapshot_call_with, called_with_nothing, called_with, called_with_two};
+ghost use Rattle.evaluator.specs.Working.Known.{test_known, call_known};
 ghost use Rattle.evaluator.specs.Working.Parts.{value_of, part_of, holder, result_of};
 
 use crate::snapshot::{
     Found, Snapshot, child_at, exists_at, exists_below, has_children_at, primitive_at, val_at,
 };
 use crate::texts::{text_change, text_test};
-use crate::value::{Part, Stop, Value, wanted};
+use crate::value::{Part, Stop, Value, put_part, put_value, wanted};
 use bumpalo::Bump;
+use expr_tokens::{KnownName, Name};
 use json_tree::Leaf;
 
 // ---- snapshots
 
-#[tactic(auto, unfolding(crate::specs::Calls::type_test))]
-fn type_test<'a>(name: &str, leaf: Option<&Leaf>) -> Option<Value<'a>>
-    ensures { option_map value_of result ≡ type_test name.now (option_map (λ l. primitive_of l.now) leaf.entry) }
+// What a method that takes nothing gives, put where a value is wanted.
+#[inline(always)]
+pub(crate) fn snapshot_test<'a>(
+    name: &Name,
+    place: &Snapshot<'a>,
+    found: &mut Value<'a>,
+) -> Result<(), Stop>
+    ensures value { OnOk result (snapshot_test name.now place.now ≡ Some (value_of found.new)) }
+    ensures erred { IsErrOf result Stop.Erred → snapshot_test name.now place.now ≡ None }
 {
-    match name {
-        "isNumber" => Some(Value::Truth(matches!(leaf, Some(Leaf::Whole(_))))),
-        "isString" => Some(Value::Truth(matches!(leaf, Some(Leaf::Words(_))))),
-        "isBoolean" => Some(Value::Truth(matches!(leaf, Some(Leaf::Truth(_))))),
+    put_value(test_known(name.known(), place), found)
+}
+
+// What the method of a known name gives.
+#[inline(always)]
+fn test_known<'a>(known: Option<KnownName>, place: &Snapshot<'a>) -> Option<Value<'a>>
+    ensures { option_map value_of result ≡ test_known known place.now }
+{
+    match known {
+        Some(KnownName::Val) => Some(val_at(place)),
+        Some(KnownName::Exists) => Some(Value::Truth(exists_at(place))),
+        Some(KnownName::HasChildren) => Some(Value::Truth(has_children_at(place))),
+        Some(KnownName::IsNumber) => Some(Value::Truth(is_number(primitive_at(place)))),
+        Some(KnownName::IsString) => Some(Value::Truth(is_string(primitive_at(place)))),
+        Some(KnownName::IsBoolean) => Some(Value::Truth(is_boolean(primitive_at(place)))),
         _ => None,
     }
 }
 
-#[tactic(auto, unfolding(crate::specs::Calls::snapshot_test))]
-pub(crate) fn snapshot_test<'a>(name: &str, place: &Snapshot<'a>) -> Option<Value<'a>>
-    ensures { option_map value_of result ≡ snapshot_test name.now place.now }
+fn is_number(leaf: Option<&Leaf>) -> bool
+    ensures { result ≡ is_number (option_map (λ l. primitive_of l.now) leaf.entry) }
 {
-    match name {
-        "val" => Some(val_at(place)),
-        "exists" => Some(Value::Truth(exists_at(place))),
-        "hasChildren" => Some(Value::Truth(has_children_at(place))),
-        _ => type_test(name, primitive_at(place)),
-    }
+    matches!(leaf, Some(Leaf::Whole(_)))
 }
 
-#[tactic(auto, unfolding(crate::specs::Calls::snapshot_call))]
-fn snapshot_call<'a>(name: &str, place: &Snapshot<'a>) -> Option<Part<'a>>
-    ensures { option_map part_of result ≡ snapshot_call name.now place.now }
+fn is_string(leaf: Option<&Leaf>) -> bool
+    ensures { result ≡ is_string (option_map (λ l. primitive_of l.now) leaf.entry) }
 {
-    match name {
-        "parent" => Some(Part::Snapshot(place.parent()?)),
-        _ => Some(Part::Value(snapshot_test(name, place)?)),
+    matches!(leaf, Some(Leaf::Words(_)))
+}
+
+fn is_boolean(leaf: Option<&Leaf>) -> bool
+    ensures { result ≡ is_boolean (option_map (λ l. primitive_of l.now) leaf.entry) }
+{
+    matches!(leaf, Some(Leaf::Truth(_)))
+}
+
+// What a method that takes nothing gives, put where a part is wanted.
+pub(crate) fn snapshot_call<'a>(
+    name: &Name,
+    place: &Snapshot<'a>,
+    found: &mut Part<'a>,
+) -> Result<(), Stop>
+    ensures value { OnOk result (snapshot_call name.now place.now ≡ Some (part_of found.new)) }
+    ensures erred { IsErrOf result Stop.Erred → snapshot_call name.now place.now ≡ None }
+{
+    put_part(call_known(name.known(), place), found)
+}
+
+#[inline(always)]
+fn call_known<'a>(known: Option<KnownName>, place: &Snapshot<'a>) -> Option<Part<'a>>
+    ensures { option_map part_of result ≡ call_known known place.now }
+{
+    match known {
+        Some(KnownName::Parent) => Some(Part::Snapshot(place.parent()?)),
+        _ => Some(Part::Value(test_known(known, place)?)),
     }
 }
 
@@ -93,12 +131,14 @@ fn snapshot_call_with<'a>(
 
 // ---- all receivers
 
-pub(crate) fn called_with_nothing<'a>(name: &str, receiver: Part<'a>) -> Option<Part<'a>>
-    ensures { option_map part_of result ≡ called_with_nothing name.now (part_of receiver.entry) }
+// What a call with nothing gives, put where its receiver was.
+pub(crate) fn called_with_nothing<'a>(name: &Name, found: &mut Part<'a>) -> Result<(), Stop>
+    ensures value { OnOk result (called_with_nothing name.now (part_of found.old) ≡ Some (part_of found.new)) }
+    ensures erred { IsErrOf result Stop.Erred → called_with_nothing name.now (part_of found.old) ≡ None }
 {
-    match receiver {
-        Part::Snapshot(place) => snapshot_call(name, place),
-        _ => None,
+    match *found {
+        Part::Snapshot(place) => snapshot_call(name, place, found),
+        _ => Err(Stop::Erred),
     }
 }
 

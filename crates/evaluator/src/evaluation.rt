@@ -1,6 +1,7 @@
 //! The evaluator: what an expression means, and whether a rule holds.
-ghost use Rattle.std.specs.Prelude.{◌≡◌, Some, None, IfOk, IsErrOf, true, option_map, pos};
+ghost use Rattle.std.specs.Prelude.{◌≡◌, Some, None, IfOk, OnOk, IsErrOf, true, option_map, pos};
 ghost use Rattle.std.specs.Option.{option_and_then};
+ghost use Rattle.expr_tokens.specs.Known.{text_of};
 ghost use Rattle.expr_parser.specs.View.{view, view_argument, views, arguments};
 ghost use Rattle.expr_parser.specs.Tree.{Null, argument, no_argument};
 ghost use Rattle.expr_types.specs.HasSort.{is_value};
@@ -15,15 +16,17 @@ ghost use Rattle.evaluator.specs.Holds.{outcome};
 ghost use Rattle.evaluator.specs.Working.Parts.{value_of, part_of, argument_value, as_place, result_of};
 
 use crate::calls::{
-    called_with, called_with_nothing, called_with_two, child_of, has_child, holder, snapshot_test,
+    called_with, called_with_nothing, called_with_two, child_of, has_child, holder, snapshot_call,
+    snapshot_test,
 };
 use crate::env::Env;
-use crate::members::{capture, member, variable};
+use crate::members::{capture, member, member_value as member_value_of, variable};
 use crate::operators::{in_truth, is_something, literal, minus_of, of_both};
 use crate::snapshot::{Found, Snapshot, child_at};
-use crate::value::{Part, Stop, Value, in_place, in_value, wanted};
+use crate::value::{Part, Stop, Value, in_place, in_value, put_part, put_truth, put_value, wanted};
 use bumpalo::Bump;
 use expr_parser::{Argument, Expr, Operator};
+use expr_tokens::{KnownName, Name};
 use expr_types::Checked;
 use json_tree::NoMemory;
 
@@ -32,59 +35,50 @@ use json_tree::NoMemory;
 
 // What a part of an expression means.
 #[cycle(evaluation)]
-fn part<'a>(arena: &'a Bump, expr: &'a Expr, env: &Env<'a, '_>) -> Result<Part<'a>, Stop>
-    ensures value { IfOk result (λ p. mean (view expr.now) (env_of env.now) ≡ Some (part_of p)) }
+fn part<'a>(
+    arena: &'a Bump,
+    expr: &'a Expr,
+    env: &Env<'a, '_>,
+    found: &mut Part<'a>,
+) -> Result<(), Stop>
+    ensures value { OnOk result (mean (view expr.now) (env_of env.now) ≡ Some (part_of found.new)) }
     ensures erred { IsErrOf result Stop.Erred → mean (view expr.now) (env_of env.now) ≡ None }
 {
     match expr {
-        Expr::Number(number) => number_part(*number),
-        Expr::Text(text) => Ok(Part::Value(Value::Words(text.as_str()))),
-        Expr::True => Ok(Part::Value(Value::Truth(true))),
-        Expr::False => Ok(Part::Value(Value::Truth(false))),
-        Expr::Null => Ok(Part::Value(Value::Null)),
-        Expr::Variable(name) => variable_part(name.as_str(), env),
-        Expr::Capture(name) => capture_part(name.as_str(), env),
-        Expr::Group(inner) => part(arena, inner, env),
-        Expr::Member(receiver, name) => member_part(arena, receiver, name.as_str(), env),
+        Expr::Number(number) => number_part(*number, found),
+        Expr::Text(text) => put_part(Some(Part::Value(Value::Words(text.as_str()))), found),
+        Expr::True => put_part(Some(Part::Value(Value::Truth(true))), found),
+        Expr::False => put_part(Some(Part::Value(Value::Truth(false))), found),
+        Expr::Null => put_part(Some(Part::Value(Value::Null)), found),
+        Expr::Variable(name) => put_part(variable(name, env), found),
+        Expr::Capture(name) => put_part(capture(name.as_str(), env), found),
+        Expr::Group(inner) => part(arena, inner, env, found),
+        Expr::Member(receiver, name) => member_part(arena, receiver, name, env, found),
         Expr::Call(receiver, name, given) => {
-            let receiver = receiver_of(arena, receiver, env)?;
-            call(arena, receiver, name.as_str(), given.as_slice(), env)
+            receiver_of(arena, receiver, env, found)?;
+            call(arena, name, given.as_slice(), env, found)
         }
-        Expr::Not(inner) => other_truth(arena, inner, env),
-        Expr::Negate(inner) => opposite(arena, inner, env),
+        Expr::Not(inner) => other_truth(arena, inner, env, found),
+        Expr::Negate(inner) => opposite(arena, inner, env, found),
         Expr::Operation(operator, left, right) => {
-            let left = value(arena, left, env)?;
-            operation(arena, *operator, left, right, env)
+            let mut first = Value::Null;
+            value(arena, left, env, &mut first)?;
+            operation(arena, *operator, first, right, env, found)
         }
         Expr::Choice(condition, yes, no) => {
             let b = truth(arena, condition, env)?;
-            value_part(arena, if b { yes } else { no }, env)
+            value_part(arena, if b { yes } else { no }, env, found)
         }
     }
 }
 
 #[inline(never)]
-fn number_part<'a>(number: u64) -> Result<Part<'a>, Stop>
-    ensures value { IfOk result (λ p. option_map value (in_range (pos number)) ≡ Some (part_of p)) }
+fn number_part<'a>(number: u64, found: &mut Part<'a>) -> Result<(), Stop>
+    ensures value { OnOk result (option_map value (in_range (pos number)) ≡ Some (part_of found.new)) }
     ensures erred { IsErrOf result Stop.Erred → option_map value (in_range (pos number)) ≡ None }
 {
-    Ok(Part::Value(wanted(literal(number))?))
-}
-
-#[inline(never)]
-fn variable_part<'a>(name: &str, env: &Env<'a, '_>) -> Result<Part<'a>, Stop>
-    ensures value { IfOk result (λ p. variable name.now (env_of env.now) ≡ Some (part_of p)) }
-    ensures erred { IsErrOf result Stop.Erred → variable name.now (env_of env.now) ≡ None }
-{
-    wanted(variable(name, env))
-}
-
-#[inline(never)]
-fn capture_part<'a>(name: &str, env: &Env<'a, '_>) -> Result<Part<'a>, Stop>
-    ensures value { IfOk result (λ p. capture name.now (env_of env.now) ≡ Some (part_of p)) }
-    ensures erred { IsErrOf result Stop.Erred → capture name.now (env_of env.now) ≡ None }
-{
-    wanted(capture(name, env))
+    *found = Part::Value(wanted(literal(number))?);
+    Ok(())
 }
 
 // What a name behind a dot means.
@@ -93,29 +87,35 @@ fn capture_part<'a>(name: &str, env: &Env<'a, '_>) -> Result<Part<'a>, Stop>
 fn member_part<'a>(
     arena: &'a Bump,
     receiver: &'a Expr,
-    name: &str,
+    name: &Name,
     env: &Env<'a, '_>,
-) -> Result<Part<'a>, Stop>
-    ensures value { IfOk result (λ p. option_and_then (member name.now) (mean (view receiver.now) (env_of env.now)) ≡ Some (part_of p)) }
+    found: &mut Part<'a>,
+) -> Result<(), Stop>
+    ensures value { OnOk result (option_and_then (member name.now) (mean (view receiver.now) (env_of env.now)) ≡ Some (part_of found.new)) }
     ensures erred { IsErrOf result Stop.Erred → option_and_then (member name.now) (mean (view receiver.now) (env_of env.now)) ≡ None }
 {
-    let receiver = receiver_of(arena, receiver, env)?;
-    wanted(member(name, receiver))
+    receiver_of(arena, receiver, env, found)?;
+    put_part(member(name, *found), found)
 }
 
 // What stands before a dot. A variable, and what a call with nothing gives, as most are, is no part that has to be
 // looked into.
 #[cycle(evaluation)]
-fn receiver_of<'a>(arena: &'a Bump, expr: &'a Expr, env: &Env<'a, '_>) -> Result<Part<'a>, Stop>
-    ensures value { IfOk result (λ p. mean (view expr.now) (env_of env.now) ≡ Some (part_of p)) }
+fn receiver_of<'a>(
+    arena: &'a Bump,
+    expr: &'a Expr,
+    env: &Env<'a, '_>,
+    found: &mut Part<'a>,
+) -> Result<(), Stop>
+    ensures value { OnOk result (mean (view expr.now) (env_of env.now) ≡ Some (part_of found.new)) }
     ensures erred { IsErrOf result Stop.Erred → mean (view expr.now) (env_of env.now) ≡ None }
 {
     match expr {
-        Expr::Variable(name) => variable_part(name.as_str(), env),
+        Expr::Variable(name) => put_part(variable(name, env), found),
         Expr::Call(receiver, name, given) if given.is_empty() => {
-            call_with_nothing(arena, receiver, name.as_str(), env)
+            call_with_nothing(arena, receiver, name, env, found)
         }
-        _ => part(arena, expr, env),
+        _ => part(arena, expr, env, found),
     }
 }
 
@@ -125,68 +125,82 @@ fn receiver_of<'a>(arena: &'a Bump, expr: &'a Expr, env: &Env<'a, '_>) -> Result
 fn call_with_nothing<'a>(
     arena: &'a Bump,
     receiver: &'a Expr,
-    name: &str,
+    name: &Name,
     env: &Env<'a, '_>,
-) -> Result<Part<'a>, Stop>
-    ensures value { IfOk result (λ p. called name.now (mean (view receiver.now) (env_of env.now)) nothing ≡ Some (part_of p)) }
+    found: &mut Part<'a>,
+) -> Result<(), Stop>
+    ensures value { OnOk result (called name.now (mean (view receiver.now) (env_of env.now)) nothing ≡ Some (part_of found.new)) }
     ensures erred { IsErrOf result Stop.Erred → called name.now (mean (view receiver.now) (env_of env.now)) nothing ≡ None }
 {
     let at = place(arena, receiver, env).get()?;
-    wanted(called_with_nothing(name, Part::Snapshot(at)))
+    snapshot_call(name, at, found)
 }
 
 // Its value as a part, where one is wanted.
 #[cycle(evaluation)]
 #[inline(never)]
-fn value_part<'a>(arena: &'a Bump, expr: &'a Expr, env: &Env<'a, '_>) -> Result<Part<'a>, Stop>
-    ensures value { IfOk result (λ p. option_map value (as_value (mean (view expr.now) (env_of env.now))) ≡ Some (part_of p)) }
+fn value_part<'a>(
+    arena: &'a Bump,
+    expr: &'a Expr,
+    env: &Env<'a, '_>,
+    found: &mut Part<'a>,
+) -> Result<(), Stop>
+    ensures value { OnOk result (option_map value (as_value (mean (view expr.now) (env_of env.now))) ≡ Some (part_of found.new)) }
     ensures erred { IsErrOf result Stop.Erred → option_map value (as_value (mean (view expr.now) (env_of env.now))) ≡ None }
 {
-    Ok(Part::Value(value(arena, expr, env)?))
+    let mut only = Value::Null;
+    value(arena, expr, env, &mut only)?;
+    *found = Part::Value(only);
+    Ok(())
 }
 
 // Its value, where one is wanted. What is seldom asked for one is looked into as a part.
 #[cycle(evaluation)]
 #[inline(never)]
-fn value<'a>(arena: &'a Bump, expr: &'a Expr, env: &Env<'a, '_>) -> Result<Value<'a>, Stop>
-    ensures value { IfOk result (λ v. as_value (mean (view expr.now) (env_of env.now)) ≡ Some (value_of v)) }
+fn value<'a>(
+    arena: &'a Bump,
+    expr: &'a Expr,
+    env: &Env<'a, '_>,
+    found: &mut Value<'a>,
+) -> Result<(), Stop>
+    ensures value { OnOk result (as_value (mean (view expr.now) (env_of env.now)) ≡ Some (value_of found.new)) }
     ensures erred { IsErrOf result Stop.Erred → as_value (mean (view expr.now) (env_of env.now)) ≡ None }
 {
     match expr {
-        Expr::Text(text) => Ok(Value::Words(text.as_str())),
-        Expr::Number(number) => wanted(literal(*number)),
-        Expr::True => Ok(Value::Truth(true)),
-        Expr::False => Ok(Value::Truth(false)),
-        Expr::Null => Ok(Value::Null),
+        Expr::Text(text) => put_value(Some(Value::Words(text.as_str())), found),
+        Expr::Number(number) => put_value(literal(*number), found),
+        Expr::True => put_truth(true, found),
+        Expr::False => put_truth(false, found),
+        Expr::Null => put_value(Some(Value::Null), found),
         Expr::Operation(operator, left, right) => {
-            let left = value(arena, left, env)?;
-            operated(arena, *operator, left, right, env)
+            value(arena, left, env, found)?;
+            operated(arena, *operator, right, env, found)
         }
-        Expr::Variable(name) => variable_value(name.as_str(), env),
-        Expr::Capture(name) => capture_value(name.as_str(), env),
-        Expr::Member(receiver, name) => member_value(arena, receiver, name.as_str(), env),
-        _ => call_value(arena, expr, env),
+        Expr::Variable(name) => variable_value(name, env, found),
+        Expr::Capture(name) => capture_value(name.as_str(), env, found),
+        Expr::Member(receiver, name) => member_value(arena, receiver, name, env, found),
+        _ => call_value(arena, expr, env, found),
     }
 }
 
 // The value of a variable.
 #[inline(never)]
-fn variable_value<'a>(name: &str, env: &Env<'a, '_>) -> Result<Value<'a>, Stop>
-    ensures value { IfOk result (λ v. as_value (variable name.now (env_of env.now)) ≡ Some (value_of v)) }
+fn variable_value<'a>(name: &Name, env: &Env<'a, '_>, found: &mut Value<'a>) -> Result<(), Stop>
+    ensures value { OnOk result (as_value (variable name.now (env_of env.now)) ≡ Some (value_of found.new)) }
     ensures erred { IsErrOf result Stop.Erred → as_value (variable name.now (env_of env.now)) ≡ None }
 {
-    let part = variable_part(name, env)?;
-    wanted(in_value(part))
+    let part = wanted(variable(name, env))?;
+    put_value(in_value(part), found)
 }
 
 // The value of a capture.
 #[inline(never)]
-fn capture_value<'a>(name: &str, env: &Env<'a, '_>) -> Result<Value<'a>, Stop>
-    ensures value { IfOk result (λ v. as_value (capture name.now (env_of env.now)) ≡ Some (value_of v)) }
+fn capture_value<'a>(name: &str, env: &Env<'a, '_>, found: &mut Value<'a>) -> Result<(), Stop>
+    ensures value { OnOk result (as_value (capture name.now (env_of env.now)) ≡ Some (value_of found.new)) }
     ensures erred { IsErrOf result Stop.Erred → as_value (capture name.now (env_of env.now)) ≡ None }
 {
-    let part = capture_part(name, env)?;
-    wanted(in_value(part))
+    let part = wanted(capture(name, env))?;
+    put_value(in_value(part), found)
 }
 
 // The value of what a name behind a dot means.
@@ -195,46 +209,62 @@ fn capture_value<'a>(name: &str, env: &Env<'a, '_>) -> Result<Value<'a>, Stop>
 fn member_value<'a>(
     arena: &'a Bump,
     receiver: &'a Expr,
-    name: &str,
+    name: &Name,
     env: &Env<'a, '_>,
-) -> Result<Value<'a>, Stop>
-    ensures value { IfOk result (λ v. as_value (option_and_then (member name.now) (mean (view receiver.now) (env_of env.now))) ≡ Some (value_of v)) }
+    found: &mut Value<'a>,
+) -> Result<(), Stop>
+    ensures value { OnOk result (as_value (option_and_then (member name.now) (mean (view receiver.now) (env_of env.now))) ≡ Some (value_of found.new)) }
     ensures erred { IsErrOf result Stop.Erred → as_value (option_and_then (member name.now) (mean (view receiver.now) (env_of env.now))) ≡ None }
 {
-    let receiver = receiver_of(arena, receiver, env)?;
-    let part = wanted(member(name, receiver))?;
-    wanted(in_value(part))
+    let mut before = Part::Value(Value::Null);
+    receiver_of(arena, receiver, env, &mut before)?;
+    put_value(member_value_of(name, before), found)
 }
 
 // The value of what a call gives. Most calls are about a location, which is then no part that has to be looked into.
 #[cycle(evaluation)]
 #[inline(never)]
-fn call_value<'a>(arena: &'a Bump, expr: &'a Expr, env: &Env<'a, '_>) -> Result<Value<'a>, Stop>
-    ensures value { IfOk result (λ v. as_value (mean (view expr.now) (env_of env.now)) ≡ Some (value_of v)) }
+fn call_value<'a>(
+    arena: &'a Bump,
+    expr: &'a Expr,
+    env: &Env<'a, '_>,
+    found: &mut Value<'a>,
+) -> Result<(), Stop>
+    ensures value { OnOk result (as_value (mean (view expr.now) (env_of env.now)) ≡ Some (value_of found.new)) }
     ensures erred { IsErrOf result Stop.Erred → as_value (mean (view expr.now) (env_of env.now)) ≡ None }
 {
     let Expr::Call(receiver, name, given) = expr else {
-        return value_of_part(arena, expr, env);
+        return value_of_part(arena, expr, env, found);
     };
     match given.as_slice() {
         [] => {
             let at = place(arena, receiver, env).get()?;
-            wanted(snapshot_test(name.as_str(), at))
+            snapshot_test(name, at, found)
         }
         [only] => match only {
-            Argument::One(key) if name.as_str() == "hasChild" => {
+            Argument::One(key) if is_named(name, KnownName::HasChild) => {
                 let at = place(arena, receiver, env).get()?;
-                let key = value(arena, key, env)?;
-                Ok(Value::Truth(has_child(arena, at, key)?))
+                value(arena, key, env, found)?;
+                put_truth(has_child(arena, at, *found)?, found)
             }
-            Argument::List(items) if name.as_str() == "hasChildren" => {
+            Argument::List(items) if is_named(name, KnownName::HasChildren) => {
                 let at = place(arena, receiver, env).get()?;
                 let all = have_children(arena, at, items.as_slice(), env)?;
-                Ok(Value::Truth(all))
+                put_truth(all, found)
             }
-            _ => value_of_part(arena, expr, env),
+            _ => value_of_part(arena, expr, env, found),
         },
-        _ => value_of_part(arena, expr, env),
+        _ => value_of_part(arena, expr, env, found),
+    }
+}
+
+// Whether it is this known name.
+fn is_named(name: &Name, known: KnownName) -> bool
+    ensures { result ≡ true → name.now ≡ text_of known }
+{
+    match name.known() {
+        Some(own) => own == known,
+        None => false,
     }
 }
 
@@ -245,12 +275,12 @@ fn place<'a>(arena: &'a Bump, expr: &'a Expr, env: &Env<'a, '_>) -> Found<'a>
     ensures erred { IsErrOf (result_of result) Stop.Erred → as_place (mean (view expr.now) (env_of env.now)) ≡ None }
 {
     if let Expr::Variable(name) = expr {
-        return variable_place(name.as_str(), env);
+        return variable_place(name, env);
     }
     if let Expr::Call(receiver, name, given) = expr
         && let [only] = given.as_slice()
         && let Argument::One(key) = only
-        && name.as_str() == "child"
+        && is_named(name, KnownName::Child)
     {
         return match place(arena, receiver, env) {
             Found::At(at) => key_place(arena, at, key, env),
@@ -262,7 +292,7 @@ fn place<'a>(arena: &'a Bump, expr: &'a Expr, env: &Env<'a, '_>) -> Found<'a>
 }
 
 // The location that a variable is.
-fn variable_place<'a>(name: &str, env: &Env<'a, '_>) -> Found<'a>
+fn variable_place<'a>(name: &Name, env: &Env<'a, '_>) -> Found<'a>
     ensures value { IfOk (result_of result) (λ at. as_place (variable name.now (env_of env.now)) ≡ Some at.now) }
     ensures erred { IsErrOf (result_of result) Stop.Erred → as_place (variable name.now (env_of env.now)) ≡ None }
 {
@@ -286,8 +316,9 @@ fn key_place<'a>(
     if let Expr::Text(text) = key {
         return child_at(arena, at, text.as_str());
     }
-    match value(arena, key, env) {
-        Ok(key) => child_of(arena, at, key),
+    let mut found = Value::Null;
+    match value(arena, key, env, &mut found) {
+        Ok(()) => child_of(arena, at, found),
         Err(stop) => Found::stopped(stop),
     }
 }
@@ -299,8 +330,9 @@ fn place_of_part<'a>(arena: &'a Bump, expr: &'a Expr, env: &Env<'a, '_>) -> Foun
     ensures value { IfOk (result_of result) (λ at. as_place (mean (view expr.now) (env_of env.now)) ≡ Some at.now) }
     ensures erred { IsErrOf (result_of result) Stop.Erred → as_place (mean (view expr.now) (env_of env.now)) ≡ None }
 {
-    match part(arena, expr, env) {
-        Ok(part) => Found::of(wanted(in_place(part))),
+    let mut found = Part::Value(Value::Null);
+    match part(arena, expr, env, &mut found) {
+        Ok(()) => Found::of(wanted(in_place(found))),
         Err(stop) => Found::stopped(stop),
     }
 }
@@ -308,12 +340,18 @@ fn place_of_part<'a>(arena: &'a Bump, expr: &'a Expr, env: &Env<'a, '_>) -> Foun
 // The value of what may be another part.
 #[cycle(evaluation)]
 #[inline(never)]
-fn value_of_part<'a>(arena: &'a Bump, expr: &'a Expr, env: &Env<'a, '_>) -> Result<Value<'a>, Stop>
-    ensures value { IfOk result (λ v. as_value (mean (view expr.now) (env_of env.now)) ≡ Some (value_of v)) }
+fn value_of_part<'a>(
+    arena: &'a Bump,
+    expr: &'a Expr,
+    env: &Env<'a, '_>,
+    found: &mut Value<'a>,
+) -> Result<(), Stop>
+    ensures value { OnOk result (as_value (mean (view expr.now) (env_of env.now)) ≡ Some (value_of found.new)) }
     ensures erred { IsErrOf result Stop.Erred → as_value (mean (view expr.now) (env_of env.now)) ≡ None }
 {
-    let part = part(arena, expr, env)?;
-    wanted(in_value(part))
+    let mut whole = Part::Value(Value::Null);
+    part(arena, expr, env, &mut whole)?;
+    put_value(in_value(whole), found)
 }
 
 // Whether it is true, where a boolean is wanted. Most rules ask first whether something is not null.
@@ -333,12 +371,14 @@ fn truth<'a>(arena: &'a Bump, expr: &'a Expr, env: &Env<'a, '_>) -> Result<bool,
         }
         Expr::Not(inner) => Ok(!truth(arena, inner, env)?),
         Expr::Operation(Operator::NotEqual, left, right) if is_null(right) => {
-            let left = value(arena, left, env)?;
-            Ok(is_something(left))
+            let mut found = Value::Null;
+            value(arena, left, env, &mut found)?;
+            Ok(is_something(found))
         }
         _ => {
-            let value = value(arena, expr, env)?;
-            wanted(in_truth(value))
+            let mut found = Value::Null;
+            value(arena, expr, env, &mut found)?;
+            wanted(in_truth(found))
         }
     }
 }
@@ -377,24 +417,36 @@ fn either<'a>(arena: &'a Bump, left: bool, right: &'a Expr, env: &Env<'a, '_>) -
 // The other boolean.
 #[cycle(evaluation)]
 #[inline(never)]
-fn other_truth<'a>(arena: &'a Bump, expr: &'a Expr, env: &Env<'a, '_>) -> Result<Part<'a>, Stop>
-    ensures value { IfOk result (λ p. option_map value (other_truth (as_value (mean (view expr.now) (env_of env.now)))) ≡ Some (part_of p)) }
+fn other_truth<'a>(
+    arena: &'a Bump,
+    expr: &'a Expr,
+    env: &Env<'a, '_>,
+    found: &mut Part<'a>,
+) -> Result<(), Stop>
+    ensures value { OnOk result (option_map value (other_truth (as_value (mean (view expr.now) (env_of env.now)))) ≡ Some (part_of found.new)) }
     ensures erred { IsErrOf result Stop.Erred → option_map value (other_truth (as_value (mean (view expr.now) (env_of env.now)))) ≡ None }
 {
     let b = truth(arena, expr, env)?;
-    Ok(Part::Value(Value::Truth(!b)))
+    *found = Part::Value(Value::Truth(!b));
+    Ok(())
 }
 
 // The number with the other sign.
 #[cycle(evaluation)]
 #[inline(never)]
-fn opposite<'a>(arena: &'a Bump, expr: &'a Expr, env: &Env<'a, '_>) -> Result<Part<'a>, Stop>
-    ensures value { IfOk result (λ p. option_map value (option_and_then minus_of (as_value (mean (view expr.now) (env_of env.now)))) ≡ Some (part_of p)) }
+fn opposite<'a>(
+    arena: &'a Bump,
+    expr: &'a Expr,
+    env: &Env<'a, '_>,
+    found: &mut Part<'a>,
+) -> Result<(), Stop>
+    ensures value { OnOk result (option_map value (option_and_then minus_of (as_value (mean (view expr.now) (env_of env.now)))) ≡ Some (part_of found.new)) }
     ensures erred { IsErrOf result Stop.Erred → option_map value (option_and_then minus_of (as_value (mean (view expr.now) (env_of env.now)))) ≡ None }
 {
-    let number = value(arena, expr, env)?;
-    let other = wanted(minus_of(number))?;
-    Ok(Part::Value(other))
+    let mut number = Value::Null;
+    value(arena, expr, env, &mut number)?;
+    *found = Part::Value(wanted(minus_of(number))?);
+    Ok(())
 }
 
 // What an operator gives behind its left value, as a part.
@@ -406,61 +458,67 @@ fn operation<'a>(
     left: Value<'a>,
     right: &'a Expr,
     env: &Env<'a, '_>,
-) -> Result<Part<'a>, Stop>
-    ensures value { IfOk result (λ p. option_map value (operated operator (Some (value_of left.entry)) (as_value (mean (view right.now) (env_of env.now)))) ≡ Some (part_of p)) }
+    found: &mut Part<'a>,
+) -> Result<(), Stop>
+    ensures value { OnOk result (option_map value (operated operator (Some (value_of left.entry)) (as_value (mean (view right.now) (env_of env.now)))) ≡ Some (part_of found.new)) }
     ensures erred { IsErrOf result Stop.Erred → option_map value (operated operator (Some (value_of left.entry)) (as_value (mean (view right.now) (env_of env.now)))) ≡ None }
 {
-    Ok(Part::Value(operated(arena, operator, left, right, env)?))
+    let mut made = left;
+    operated(arena, operator, right, env, &mut made)?;
+    *found = Part::Value(made);
+    Ok(())
 }
 
-// What an operator gives behind its left value. Where that decides, the right operand is not evaluated.
+// What an operator gives behind its left value, which is there. Where that decides, the right operand is not evaluated.
 #[cycle(evaluation)]
 #[inline(never)]
 fn operated<'a>(
     arena: &'a Bump,
     operator: Operator,
-    left: Value<'a>,
     right: &'a Expr,
     env: &Env<'a, '_>,
-) -> Result<Value<'a>, Stop>
-    ensures value { IfOk result (λ v. operated operator (Some (value_of left.entry)) (as_value (mean (view right.now) (env_of env.now))) ≡ Some (value_of v)) }
-    ensures erred { IsErrOf result Stop.Erred → operated operator (Some (value_of left.entry)) (as_value (mean (view right.now) (env_of env.now))) ≡ None }
+    found: &mut Value<'a>,
+) -> Result<(), Stop>
+    ensures value { OnOk result (operated operator (Some (value_of found.old)) (as_value (mean (view right.now) (env_of env.now))) ≡ Some (value_of found.new)) }
+    ensures erred { IsErrOf result Stop.Erred → operated operator (Some (value_of found.old)) (as_value (mean (view right.now) (env_of env.now))) ≡ None }
 {
     match operator {
         Operator::And => {
-            let left = wanted(in_truth(left))?;
-            Ok(Value::Truth(both(arena, left, right, env)?))
+            let left = wanted(in_truth(*found))?;
+            put_truth(both(arena, left, right, env)?, found)
         }
         Operator::Or => {
-            let left = wanted(in_truth(left))?;
-            Ok(Value::Truth(either(arena, left, right, env)?))
+            let left = wanted(in_truth(*found))?;
+            put_truth(either(arena, left, right, env)?, found)
         }
         _ => {
-            let second = value(arena, right, env)?;
-            of_both(arena, operator, left, second)
+            let mut second = Value::Null;
+            value(arena, right, env, &mut second)?;
+            of_both(arena, operator, second, found)
         }
     }
 }
 
-// What a call gives.
+// What a call gives, of the receiver that is there.
 #[cycle(evaluation)]
 #[inline(never)]
 fn call<'a>(
     arena: &'a Bump,
-    receiver: Part<'a>,
-    name: &str,
+    name: &Name,
     list: &'a [Argument],
     env: &Env<'a, '_>,
-) -> Result<Part<'a>, Stop>
-    ensures value { IfOk result (λ p. call_of name.now (part_of receiver.entry) (meant (arguments list.now) (env_of env.now)) ≡ Some (part_of p)) }
-    ensures erred { IsErrOf result Stop.Erred → call_of name.now (part_of receiver.entry) (meant (arguments list.now) (env_of env.now)) ≡ None }
+    found: &mut Part<'a>,
+) -> Result<(), Stop>
+    ensures value { OnOk result (call_of name.now (part_of found.old) (meant (arguments list.now) (env_of env.now)) ≡ Some (part_of found.new)) }
+    ensures erred { IsErrOf result Stop.Erred → call_of name.now (part_of found.old) (meant (arguments list.now) (env_of env.now)) ≡ None }
 {
     match list {
-        [] => wanted(called_with_nothing(name, receiver)),
-        [only] => call_with(arena, receiver, name, only, env),
+        [] => called_with_nothing(name, found),
+        [only] => call_with(arena, name.as_str(), only, env, found),
         [first, second] => {
-            let first = argument_of(arena, first, env)?;
-            call_with_second(arena, receiver, name, first, second, env)
+            let mut given = Value::Null;
+            argument_of(arena, first, env, &mut given)?;
+            call_with_second(arena, name.as_str(), given, second, env, found)
         }
         _ => Err(Stop::Erred),
     }
@@ -470,37 +528,41 @@ fn call<'a>(
 #[cycle(evaluation)]
 fn call_with_second<'a>(
     arena: &'a Bump,
-    receiver: Part<'a>,
     name: &str,
     first: Value<'a>,
-    second: &'a Argument,
+    given: &'a Argument,
     env: &Env<'a, '_>,
-) -> Result<Part<'a>, Stop>
-    ensures value { IfOk result (λ p. option_and_then (called_with_two name.now (part_of receiver.entry) (value_of first.entry)) (argument_value (view_argument second.now) (env_of env.now)) ≡ Some (part_of p)) }
-    ensures erred { IsErrOf result Stop.Erred → option_and_then (called_with_two name.now (part_of receiver.entry) (value_of first.entry)) (argument_value (view_argument second.now) (env_of env.now)) ≡ None }
+    found: &mut Part<'a>,
+) -> Result<(), Stop>
+    ensures value { OnOk result (option_and_then (called_with_two name.now (part_of found.old) (value_of first.entry)) (argument_value (view_argument given.now) (env_of env.now)) ≡ Some (part_of found.new)) }
+    ensures erred { IsErrOf result Stop.Erred → option_and_then (called_with_two name.now (part_of found.old) (value_of first.entry)) (argument_value (view_argument given.now) (env_of env.now)) ≡ None }
 {
-    let second = argument_of(arena, second, env)?;
-    called_with_two(arena, name, receiver, first, second)
+    let mut second = Value::Null;
+    argument_of(arena, given, env, &mut second)?;
+    *found = called_with_two(arena, name, *found, first, second)?;
+    Ok(())
 }
 
 // What a call with one argument gives, a value or a list.
 #[cycle(evaluation)]
 fn call_with<'a>(
     arena: &'a Bump,
-    receiver: Part<'a>,
     name: &str,
     given: &'a Argument,
     env: &Env<'a, '_>,
-) -> Result<Part<'a>, Stop>
-    ensures value { IfOk result (λ p. call_of name.now (part_of receiver.entry) (meant (argument (view_argument given.now) no_argument) (env_of env.now)) ≡ Some (part_of p)) }
-    ensures erred { IsErrOf result Stop.Erred → call_of name.now (part_of receiver.entry) (meant (argument (view_argument given.now) no_argument) (env_of env.now)) ≡ None }
+    found: &mut Part<'a>,
+) -> Result<(), Stop>
+    ensures value { OnOk result (call_of name.now (part_of found.old) (meant (argument (view_argument given.now) no_argument) (env_of env.now)) ≡ Some (part_of found.new)) }
+    ensures erred { IsErrOf result Stop.Erred → call_of name.now (part_of found.old) (meant (argument (view_argument given.now) no_argument) (env_of env.now)) ≡ None }
 {
     match given {
         Argument::One(only) => {
-            let only = value(arena, only, env)?;
-            called_with(arena, name, receiver, only)
+            let mut first = Value::Null;
+            value(arena, only, env, &mut first)?;
+            *found = called_with(arena, name, *found, first)?;
+            Ok(())
         }
-        Argument::List(items) => call_listed(arena, receiver, name, items.as_slice(), env),
+        Argument::List(items) => call_listed(arena, name, items.as_slice(), env, found),
     }
 }
 
@@ -508,17 +570,18 @@ fn call_with<'a>(
 #[cycle(evaluation)]
 fn call_listed<'a>(
     arena: &'a Bump,
-    receiver: Part<'a>,
     name: &str,
     items: &'a [Expr],
     env: &Env<'a, '_>,
-) -> Result<Part<'a>, Stop>
-    ensures value { IfOk result (λ p. option_and_then (called_with_list name.now (part_of receiver.entry)) (values (views items.now) (env_of env.now)) ≡ Some (part_of p)) }
-    ensures erred { IsErrOf result Stop.Erred → option_and_then (called_with_list name.now (part_of receiver.entry)) (values (views items.now) (env_of env.now)) ≡ None }
+    found: &mut Part<'a>,
+) -> Result<(), Stop>
+    ensures value { OnOk result (option_and_then (called_with_list name.now (part_of found.old)) (values (views items.now) (env_of env.now)) ≡ Some (part_of found.new)) }
+    ensures erred { IsErrOf result Stop.Erred → option_and_then (called_with_list name.now (part_of found.old)) (values (views items.now) (env_of env.now)) ≡ None }
 {
-    let place = wanted(holder(name, receiver))?;
+    let place = wanted(holder(name, *found))?;
     let all = have_children(arena, place, items, env)?;
-    Ok(Part::Value(Value::Truth(all)))
+    *found = Part::Value(Value::Truth(all));
+    Ok(())
 }
 
 // Whether all the children exist that are listed; each element is evaluated.
@@ -534,7 +597,8 @@ fn have_children<'a>(
 {
     let mut all = true;
     for item in items {
-        let child = value(arena, item, env)?;
+        let mut child = Value::Null;
+        value(arena, item, env, &mut child)?;
         let there = has_child(arena, place, child)?;
         all = all && there;
     }
@@ -547,12 +611,13 @@ fn argument_of<'a>(
     arena: &'a Bump,
     given: &'a Argument,
     env: &Env<'a, '_>,
-) -> Result<Value<'a>, Stop>
-    ensures value { IfOk result (λ v. argument_value (view_argument given.now) (env_of env.now) ≡ Some (value_of v)) }
+    found: &mut Value<'a>,
+) -> Result<(), Stop>
+    ensures value { OnOk result (argument_value (view_argument given.now) (env_of env.now) ≡ Some (value_of found.new)) }
     ensures erred { IsErrOf result Stop.Erred → argument_value (view_argument given.now) (env_of env.now) ≡ None }
 {
     match given {
-        Argument::One(only) => value(arena, only, env),
+        Argument::One(only) => value(arena, only, env, found),
         Argument::List(_) => Err(Stop::Erred),
     }
 }

@@ -1,16 +1,18 @@
 //! What variables, captures and names behind a dot mean.
 ghost use Rattle.std.specs.Prelude.{◌≡◌, option_map};
 ghost use Rattle.evaluator.specs.Asked.{asked_of};
-ghost use Rattle.evaluator.specs.Value.{value};
+ghost use Rattle.evaluator.specs.Value.{value, as_value};
 ghost use Rattle.evaluator.specs.Members.{text_or_null, auth_part, claim, query_limit, query_bound, query_field, value_part, member};
 ghost use Rattle.evaluator.specs.Env.{env_of, access_of, variable, capture, asked_in, coming_in};
+ghost use Rattle.evaluator.specs.Working.Known.{variable_known, auth_part_known};
 ghost use Rattle.evaluator.specs.Working.Parts.{value_of, part_of};
 
 use crate::asked::Asked;
 use crate::env::{Access, Env};
 use crate::identity::{Claims, Identity};
 use crate::texts::length_of;
-use crate::value::{Part, Value, leaf_or_null, limit_or_null, text_or_null};
+use crate::value::{Part, Value, in_value, leaf_or_null, limit_or_null, text_or_null};
+use expr_tokens::{KnownName, Name};
 
 // ---- variables and captures
 
@@ -32,17 +34,25 @@ fn asked<'a>(access: Access<'a>) -> Option<Part<'a>>
     }
 }
 
-#[tactic(auto, unfolding(crate::specs::Env::variable))]
-pub(crate) fn variable<'a>(name: &str, env: &Env<'a, '_>) -> Option<Part<'a>>
+#[inline(always)]
+pub(crate) fn variable<'a>(name: &Name, env: &Env<'a, '_>) -> Option<Part<'a>>
     ensures { option_map part_of result ≡ variable name.now (env_of env.now) }
 {
-    match name {
-        "auth" => Some(Part::Auth(env.auth)),
-        "now" => Some(Part::Value(Value::Whole(env.moment.milliseconds() as i64))),
-        "root" => Some(Part::Snapshot(env.here.top())),
-        "data" => Some(Part::Snapshot(env.here)),
-        "newData" => coming(env.access),
-        "query" => asked(env.access),
+    variable_known(name.known(), env)
+}
+
+// The variable of a known name.
+#[inline(always)]
+fn variable_known<'a>(known: Option<KnownName>, env: &Env<'a, '_>) -> Option<Part<'a>>
+    ensures { option_map part_of result ≡ variable_known known (env_of env.now) }
+{
+    match known {
+        Some(KnownName::Auth) => Some(Part::Auth(env.auth)),
+        Some(KnownName::Now) => Some(Part::Value(Value::Whole(env.moment.milliseconds() as i64))),
+        Some(KnownName::Root) => Some(Part::Snapshot(env.here.top())),
+        Some(KnownName::Data) => Some(Part::Snapshot(env.here)),
+        Some(KnownName::NewData) => coming(env.access),
+        Some(KnownName::Query) => asked(env.access),
         _ => None,
     }
 }
@@ -58,14 +68,40 @@ pub(crate) fn capture<'a>(name: &str, env: &Env<'a, '_>) -> Option<Part<'a>>
 
 // ---- behind a dot
 
-#[tactic(auto, unfolding(crate::specs::Members::auth_part))]
-fn auth_part<'a>(name: &str, who: Option<&'a Identity>) -> Option<Part<'a>>
+fn auth_part<'a>(name: &Name, who: Option<&'a Identity>) -> Option<Part<'a>>
     ensures { option_map part_of result ≡ auth_part name.now (option_map (λ a. a.now) who.entry) }
 {
-    match name {
-        "uid" => Some(Part::Value(uid_of(who))),
-        "provider" => Some(Part::Value(provider_of(who))),
-        "token" => Some(Part::Token(claims_of(who))),
+    auth_part_known(name.known(), who)
+}
+
+// The part of `auth` that has a known name.
+fn auth_part_known<'a>(known: Option<KnownName>, who: Option<&'a Identity>) -> Option<Part<'a>>
+    ensures { option_map part_of result ≡ auth_part_known known (option_map (λ a. a.now) who.entry) }
+{
+    match known {
+        Some(KnownName::Uid) => Some(Part::Value(uid_of(who))),
+        Some(KnownName::Provider) => Some(Part::Value(provider_of(who))),
+        Some(KnownName::Token) => Some(Part::Token(claims_of(who))),
+        _ => None,
+    }
+}
+
+// The same, where a value is wanted.
+#[inline(always)]
+fn auth_value<'a>(name: &Name, who: Option<&'a Identity>) -> Option<Value<'a>>
+    ensures { option_map value_of result ≡ as_value (auth_part name.now (option_map (λ a. a.now) who.entry)) }
+{
+    auth_value_known(name.known(), who)
+}
+
+#[inline(always)]
+fn auth_value_known<'a>(known: Option<KnownName>, who: Option<&'a Identity>) -> Option<Value<'a>>
+    ensures { option_map value_of result ≡ as_value (auth_part_known known (option_map (λ a. a.now) who.entry)) }
+{
+    match known {
+        Some(KnownName::Uid) => Some(uid_of(who)),
+        Some(KnownName::Provider) => Some(provider_of(who)),
+        Some(KnownName::Token) => in_value(Part::Token(claims_of(who))),
         _ => None,
     }
 }
@@ -161,14 +197,28 @@ fn as_part<'a>(found: Option<Value<'a>>) -> Option<Part<'a>>
     }
 }
 
-pub(crate) fn member<'a>(name: &str, receiver: Part<'a>) -> Option<Part<'a>>
+pub(crate) fn member<'a>(name: &Name, receiver: Part<'a>) -> Option<Part<'a>>
     ensures { option_map part_of result ≡ member name.now (part_of receiver.entry) }
 {
     match receiver {
-        Part::Value(value) => as_part(value_part(name, value)),
+        Part::Value(value) => as_part(value_part(name.as_str(), value)),
         Part::Snapshot(_) => None,
         Part::Auth(who) => auth_part(name, who),
-        Part::Token(claims) => Some(Part::Value(claim(name, claims))),
-        Part::Query(asked) => as_part(query_field(name, asked)),
+        Part::Token(claims) => Some(Part::Value(claim(name.as_str(), claims))),
+        Part::Query(asked) => as_part(query_field(name.as_str(), asked)),
+    }
+}
+
+// The same, where a value is wanted.
+#[inline(always)]
+pub(crate) fn member_value<'a>(name: &Name, receiver: Part<'a>) -> Option<Value<'a>>
+    ensures { option_map value_of result ≡ as_value (member name.now (part_of receiver.entry)) }
+{
+    match receiver {
+        Part::Value(value) => value_part(name.as_str(), value),
+        Part::Snapshot(_) => None,
+        Part::Auth(who) => auth_value(name, who),
+        Part::Token(claims) => Some(claim(name.as_str(), claims)),
+        Part::Query(asked) => query_field(name.as_str(), asked),
     }
 }

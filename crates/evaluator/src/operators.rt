@@ -1,10 +1,10 @@
 //! What operators make of values.
-ghost use Rattle.std.specs.Prelude.{◌≡◌, ◌++◌, ◌+ℤ◌, ◌-ℤ◌, ◌*ℤ◌, neg_ℤ, Some, None, IfOk, IsErrOf, option_map, pos};
+ghost use Rattle.std.specs.Prelude.{◌≡◌, ◌++◌, ◌+ℤ◌, ◌-ℤ◌, ◌*ℤ◌, neg_ℤ, Some, None, OnOk, IsErrOf, option_map, pos};
 ghost use Rattle.evaluator.specs.Value.{null, truth, in_range};
 ghost use Rattle.evaluator.specs.Operators.{in_truth, is_opaque, same, equal, compared, minus, times, remainder, minus_of, plus, text_within, of_both};
 ghost use Rattle.evaluator.specs.Working.Parts.{value_of, numbers_in};
 
-use crate::value::{Stop, Value, wanted};
+use crate::value::{Stop, Value, put_truth, put_value, wanted};
 use bumpalo::Bump;
 use bumpalo::collections::into_bump_str;
 use expr_parser::Operator;
@@ -194,8 +194,8 @@ pub(crate) fn minus_of<'a>(value: Value) -> Option<Value<'a>>
 // ---- texts
 
 // One text behind another, in one growth.
-fn joined<'a>(arena: &'a Bump, front: &str, back: &str) -> Result<Value<'a>, Stop>
-    ensures value { IfOk result (λ v. text_within (front.now ++ back.now) ≡ Some (value_of v)) }
+fn joined<'a>(arena: &'a Bump, front: &str, back: &str, found: &mut Value<'a>) -> Result<(), Stop>
+    ensures value { OnOk result (text_within (front.now ++ back.now) ≡ Some (value_of found.new)) }
     ensures erred { IsErrOf result Stop.Erred → text_within (front.now ++ back.now) ≡ None }
 {
     if front.len() > MAX_TEXT_BYTES || back.len() > MAX_TEXT_BYTES - front.len() {
@@ -204,28 +204,35 @@ fn joined<'a>(arena: &'a Bump, front: &str, back: &str) -> Result<Value<'a>, Sto
     let mut text = String::with_capacity(arena, front.len() + back.len())?;
     text.push_str(front)?;
     text.push_str(back)?;
-    Ok(Value::Words(into_bump_str(text)))
+    *found = Value::Words(into_bump_str(text));
+    Ok(())
 }
 
-fn plus<'a>(arena: &'a Bump, left: Value<'a>, right: Value<'a>) -> Result<Value<'a>, Stop>
-    ensures value { IfOk result (λ v. plus (value_of left.entry) (value_of right.entry) ≡ Some (value_of v)) }
+#[inline(never)]
+fn plus<'a>(
+    arena: &'a Bump,
+    left: Value<'a>,
+    right: Value<'a>,
+    found: &mut Value<'a>,
+) -> Result<(), Stop>
+    ensures value { OnOk result (plus (value_of left.entry) (value_of right.entry) ≡ Some (value_of found.new)) }
     ensures erred { IsErrOf result Stop.Erred → plus (value_of left.entry) (value_of right.entry) ≡ None }
 {
     match left {
         Value::Whole(a) => match right {
-            Value::Whole(b) => wanted(sum(a, b)),
+            Value::Whole(b) => put_value(sum(a, b), found),
             Value::Words(b) => {
                 let digits = a.to_string(arena)?;
-                joined(arena, digits.as_str(), b)
+                joined(arena, digits.as_str(), b, found)
             }
             _ => Err(Stop::Erred),
         },
         Value::Words(a) => match right {
             Value::Whole(b) => {
                 let digits = b.to_string(arena)?;
-                joined(arena, a, digits.as_str())
+                joined(arena, a, digits.as_str(), found)
             }
-            Value::Words(b) => joined(arena, a, b),
+            Value::Words(b) => joined(arena, a, b, found),
             _ => Err(Stop::Erred),
         },
         _ => Err(Stop::Erred),
@@ -234,26 +241,28 @@ fn plus<'a>(arena: &'a Bump, left: Value<'a>, right: Value<'a>) -> Result<Value<
 
 // ---- all operators that need both values
 
+// What an operator makes of the left value and the right one, put where the left one was.
 pub(crate) fn of_both<'a>(
     arena: &'a Bump,
     operator: Operator,
-    left: Value<'a>,
     right: Value<'a>,
-) -> Result<Value<'a>, Stop>
-    ensures value { IfOk result (λ v. of_both operator (value_of left.entry) (value_of right.entry) ≡ Some (value_of v)) }
-    ensures erred { IsErrOf result Stop.Erred → of_both operator (value_of left.entry) (value_of right.entry) ≡ None }
+    found: &mut Value<'a>,
+) -> Result<(), Stop>
+    ensures value { OnOk result (of_both operator (value_of found.old) (value_of right.entry) ≡ Some (value_of found.new)) }
+    ensures erred { IsErrOf result Stop.Erred → of_both operator (value_of found.old) (value_of right.entry) ≡ None }
 {
+    let left = *found;
     match operator {
-        Operator::Equal => Ok(Value::Truth(wanted(equal(left, right))?)),
-        Operator::NotEqual => Ok(Value::Truth(!wanted(equal(left, right))?)),
-        Operator::Less => Ok(Value::Truth(wanted(compared(left, right))?.is_lt())),
-        Operator::LessOrEqual => Ok(Value::Truth(wanted(compared(left, right))?.is_le())),
-        Operator::Greater => Ok(Value::Truth(wanted(compared(left, right))?.is_gt())),
-        Operator::GreaterOrEqual => Ok(Value::Truth(wanted(compared(left, right))?.is_ge())),
-        Operator::Add => plus(arena, left, right),
-        Operator::Subtract => wanted(minus(left, right)),
-        Operator::Multiply => wanted(times(left, right)),
-        Operator::Remainder => wanted(remainder(left, right)),
+        Operator::Equal => put_truth(wanted(equal(left, right))?, found),
+        Operator::NotEqual => put_truth(!wanted(equal(left, right))?, found),
+        Operator::Less => put_truth(wanted(compared(left, right))?.is_lt(), found),
+        Operator::LessOrEqual => put_truth(wanted(compared(left, right))?.is_le(), found),
+        Operator::Greater => put_truth(wanted(compared(left, right))?.is_gt(), found),
+        Operator::GreaterOrEqual => put_truth(wanted(compared(left, right))?.is_ge(), found),
+        Operator::Add => plus(arena, left, right, found),
+        Operator::Subtract => put_value(minus(left, right), found),
+        Operator::Multiply => put_value(times(left, right), found),
+        Operator::Remainder => put_value(remainder(left, right), found),
         Operator::Or | Operator::And => Err(Stop::Erred),
     }
 }

@@ -217,6 +217,7 @@ pub(crate) fn primitive_at<'a>(place: &Snapshot<'a>) -> Option<&'a Leaf>
     }
 }
 
+#[inline(always)]
 pub(crate) fn val_at<'a>(place: &Snapshot<'a>) -> Value<'a>
     ensures { value_of result ≡ val_at place.now }
 {

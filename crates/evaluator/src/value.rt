@@ -1,8 +1,8 @@
 //! Values, and the other parts of expressions.
-ghost use Rattle.std.specs.Prelude.{◌≡◌, Some, None, IfOk, IsErrOf, option_map};
+ghost use Rattle.std.specs.Prelude.{◌≡◌, Some, None, IsOk, IfOk, OnOk, IsErrOf, option_map};
 ghost use Rattle.json_tree.specs.Leaf.{primitive_of};
 ghost use Rattle.evaluator.specs.declared.value.Stop.TheVariants.{NoMemory as no_memory};
-ghost use Rattle.evaluator.specs.Value.{in_value, of_primitive};
+ghost use Rattle.evaluator.specs.Value.{in_value, of_primitive, truth as of_truth};
 ghost use Rattle.evaluator.specs.Members.{text_or_null, primitive_or_null, number_or_null};
 ghost use Rattle.evaluator.specs.Working.Parts.{value_of, part_of, in_place};
 
@@ -65,11 +65,43 @@ impl<T: Drop> From<AllocFailed<T>> for Stop {
 }
 
 // What was found, or an error.
+#[inline(always)]
 pub(crate) fn wanted<T>(found: Option<T>) -> Result<T, Stop>
     ensures value { IfOk result (λ x. found ≡ Some x) }
     ensures erred { IsErrOf result Stop.Erred → found ≡ None }
 {
     found.ok_or(Stop::Erred)
+}
+
+// Puts a value where it is wanted, or errs. A call hands `Ok(())` back in registers, while it writes a value to memory,
+// from where it would be copied.
+#[inline(always)]
+pub(crate) fn put_value<'a>(value: Option<Value<'a>>, found: &mut Value<'a>) -> Result<(), Stop>
+    ensures value { OnOk result (option_map value_of value.entry ≡ Some (value_of found.new)) }
+    ensures erred { IsErrOf result Stop.Erred → option_map value_of value.entry ≡ None }
+{
+    *found = wanted(value)?;
+    Ok(())
+}
+
+// Puts a boolean where a value is wanted.
+#[inline(always)]
+pub(crate) fn put_truth<'a>(truth: bool, found: &mut Value<'a>) -> Result<(), Stop>
+    ensures put { OnOk result (value_of found.new ≡ of_truth truth) }
+    ensures done { IsOk result }
+{
+    *found = Value::Truth(truth);
+    Ok(())
+}
+
+// Puts a part where it is wanted, or errs.
+#[inline(always)]
+pub(crate) fn put_part<'a>(part: Option<Part<'a>>, found: &mut Part<'a>) -> Result<(), Stop>
+    ensures value { OnOk result (option_map part_of part.entry ≡ Some (part_of found.new)) }
+    ensures erred { IsErrOf result Stop.Erred → option_map part_of part.entry ≡ None }
+{
+    *found = wanted(part)?;
+    Ok(())
 }
 
 // The part, where a value is wanted.
@@ -94,6 +126,7 @@ pub(crate) fn in_place<'a>(part: Part<'a>) -> Option<&'a Snapshot<'a>>
     }
 }
 
+#[inline(always)]
 pub(crate) fn of_leaf<'a>(leaf: &'a Leaf) -> Value<'a>
     ensures { value_of result ≡ of_primitive (primitive_of leaf.now) }
 {

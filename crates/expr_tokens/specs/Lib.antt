@@ -1,6 +1,7 @@
 pub mod Answers
 pub mod Excluded
 pub mod Faults
+pub mod Known
 pub mod Quoted
 pub mod Spelling
 pub mod Token

@@ -8,6 +8,7 @@
 mod escape;
 mod fault;
 mod front;
+mod known;
 mod limits;
 mod name;
 mod operator;
@@ -18,6 +19,7 @@ mod token;
 mod word;
 
 pub use fault::{Excluded, ExprFault};
+pub use known::KnownName;
 pub use limits::{MAX_EXPRESSION_BYTES, MAX_NUMBER, the_limits};
 pub use name::Name;
 pub use operator::Operator;

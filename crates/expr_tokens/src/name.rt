@@ -1,6 +1,8 @@
 //! A name that is kept.
 ghost use Rattle.std.specs.Prelude.{◌≡◌, IfOk};
+ghost use Rattle.expr_tokens.specs.Known.{Tells};
 
+use crate::known::KnownName;
 use arrayvec::ArrayString;
 use std::alloc::{AllocError, Global};
 use std::marker::Model;
@@ -9,10 +11,11 @@ use std::marker::Model;
 const SHORT_BYTES: usize = 16;
 
 /// A name of an expression, in memory of its own: of a variable, of what stands behind a dot, or of a
-/// capture, without its `$`. The bytes of a name of at most 16 lie in it, and take no growth. Contracts see
-/// its bytes.
+/// capture, without its `$`. The bytes of a name of at most 16 lie in it, and take no growth. Which known name
+/// it is is told once, when it is made. Contracts see its bytes.
 #[derive(Debug, Drop)]
 pub struct Name {
+    known: Option<KnownName>,
     held: HeldName,
 }
 
@@ -30,6 +33,10 @@ impl Model for Name {
     ghost Value = { List ℕ };
 
     ghost view = { λ name. bytes_of name.held };
+
+    ghost use Rattle.expr_tokens.specs.Known.{Tells};
+
+    ghost invariant = { λ name. Tells name.known (bytes_of name.held) };
 }
 
 impl Name {
@@ -43,6 +50,13 @@ impl Name {
         }
     }
 
+    /// The known name that it is, if it is one, in constant time.
+    pub fn known(&self) -> Option<KnownName>
+        ensures { Tells result self.now }
+    {
+        self.known
+    }
+
     // The name of this text, in one growth at most.
     pub(crate) fn of_text(alloc: Global, text: &str) -> Result<Name, AllocError>
         ensures { IfOk result (λ name. name ≡ text.now) }
@@ -51,6 +65,7 @@ impl Name {
             Ok(short) => HeldName::Short(short),
             Err(_) => HeldName::Long(String::from_str(alloc, text)?),
         };
-        Ok(Name { held })
+        let known = KnownName::of(text);
+        Ok(Name { known, held })
     }
 }

@@ -1,0 +1,8 @@
+use Rattle.std.proofs.Common.{◌∙◌, sym, ap}
+use Rattle.std.specs.Prelude.{option_map}
+use Rattle.evaluator.specs.Value.{as_value}
+use Rattle.evaluator.proofs.Knowing.{auth_part_is}
+use Rattle.evaluator.proofs.members.auth_value.Goals as goal
+
+pub returns : goal.returns
+returns c = c.auth_value_known.ensures ∙ ap as_value (sym (auth_part_is c.known.result c.args.name.now (option_map (λ a. a.now) c.args.who) c.known.ensures))
