@@ -104,7 +104,13 @@ impl Key {
     pub fn copy(&self, alloc: Global) -> Result<Key, NoMemory>
         ensures { IfOk result (λ key. key ≡ self.now) }
     {
-        Key::of_lawful(alloc, self.text())
+        // The bytes that lie in a key are copied all at once, however many of them are of use.
+        match &self.held {
+            Held::Short(text) => Ok(Key {
+                held: Held::Short(*text),
+            }),
+            Held::Long(text) => Key::of_lawful(alloc, text.as_str()),
+        }
     }
 
     // Where the key stands beside a text, by their bytes.

@@ -85,7 +85,13 @@ impl CaptureName {
     pub fn copy(&self, alloc: Global) -> Result<CaptureName, NoMemory>
         ensures { IfOk result (λ name. name ≡ self.now) }
     {
-        CaptureName::of_name(alloc, self.text())
+        // The bytes that lie in a name are copied all at once, however many of them are of use.
+        match &self.held {
+            HeldName::Short(text) => Ok(CaptureName {
+                held: HeldName::Short(*text),
+            }),
+            HeldName::Long(text) => CaptureName::of_name(alloc, text.as_str()),
+        }
     }
 
     // The name of a text that is known to be one.
