@@ -44,6 +44,7 @@ impl<'a> Layer<'a> {
 
     // Lays a child at a key behind all others, or removes the stored one, which is given with its
     // place in the node.
+    #[inline(always)]
     pub(crate) fn push(
         &mut self,
         key: &'a Key,

@@ -24,9 +24,9 @@ use path_capture::Write;
 const USUAL_PATCHES: usize = 4;
 
 /// The tree that these writes propose, if anything is left. For one write of d keys it takes time d ·
-/// log w in nodes of w children, and two growths of the arena for each key and one for the list of
-/// writes, whatever w is; for n writes the sum of these, and n · log n comparisons of their paths,
-/// which are sorted once. With no writes it takes no memory. A stored tree of more locations or
+/// log w in nodes of w children, and two growths of the arena for each key, whatever w is; for n writes
+/// the sum of these, one growth for a list of them, and n · log n comparisons of their paths, which are
+/// sorted once. With no writes it takes no memory. A stored tree of more locations or
 /// children than a `usize` counts is answered as want of memory, since no memory holds one.
 pub fn overlay<'a>(
     arena: &'a Bump,
@@ -91,6 +91,7 @@ fn sort<'a>(writes: &mut Vec<&'a Write, &'a Bump>)
 // What writes propose of a node, or of nothing, where the first `depth` keys of their locations lead
 // to it.
 #[cycle(lay)]
+#[inline(always)]
 fn lay<'a>(
     arena: &'a Bump,
     base: Option<&'a Node>,
@@ -217,15 +218,16 @@ fn key_of<'a>(write: &'a Write, depth: usize) -> &'a Key
     &write.at().keys()[depth]
 }
 
-// Where the writes end that stand from an index on and go on with this key.
+// Where the writes end that stand from an index on and go on with this key, as the first of them does.
 fn run_end(writes: &[&Write], start: usize, depth: usize, key: &Key) -> usize
-    requires { start ≤ length writes.now }
+    requires low { start < length writes.now }
+    requires first { HoldsAt (λ write. is_prefix (key.now ∷ []) (drop depth (location write.now)) ≡ true) writes.now start }
     ensures order { start ≤ result }
     ensures within { result ≤ length writes.now }
     ensures run { AllWithin (λ write. is_prefix (key.now ∷ []) (drop depth (location write.now)) ≡ true) writes.now start result }
     ensures stop { result < length writes.now → HoldsAt (λ write. is_prefix (key.now ∷ []) (drop depth (location write.now)) ≡ false) writes.now result }
 {
-    let mut end = start;
+    let mut end = start + 1;
     while end < writes.len() {
         if !goes_on(writes[end], depth, key) {
             return end;

@@ -1,9 +1,9 @@
 use Rattle.std.proofs.Common.{◌≡◌, ◌+◌, ◌-◌, ◌∷◌, [], true, false, IfOk, Option, map, take, drop, length, sym, ap, ◌∙◌, subst, arith}
 use Rattle.std.specs.Borrow.{Bor}
 use Rattle.std.specs.List.{list_any}
-use Rattle.std.proofs.lemmas.List.{nil_from_length, length-map}
+use Rattle.std.proofs.lemmas.List.{nil_from_length, length-map, get_or_default}
 use Rattle.std.proofs.lemmas.Result.{IfOk-weaker}
-use Rattle.tree_model.specs.Path.{is_root}
+use Rattle.tree_model.specs.Path.{is_prefix, is_root}
 use Rattle.tree_model.specs.PathMap.{sub}
 use Rattle.tree_model.specs.Tree.{Tree, non_null, IsLawful}
 use Rattle.tree_model.specs.Write.{Write, location, written, overlaps, proposed}
@@ -87,6 +87,12 @@ lay-returns-else-has_tree t c =
 
 pub lay_below-key_of-key-requires : goal.lay_below-key_of-key-requires
 lay_below-key_of-key-requires t c = left_not_root c.args.depth c.args.writes.now c.loop-start.start c.index-writes-start.result c.requires.below (omega arith) c.index-writes-start.is
+
+pub lay_below-run_end-end-requires-clause-first : goal.lay_below-run_end-end-requires-clause-first
+lay_below-run_end-end-requires-clause-first t c =
+    let w : Bor Write = c.index-writes-start.result in
+    let key = c.key_of-key.result.now in
+    λ d. subst (λ (x : Bor Write). is_prefix (key ∷ []) (drop c.args.depth (location x.now)) ≡ true) (c.index-writes-start.is ∙ sym (get_or_default c.args.writes.now c.loop-start.start d w (omega arith))) c.key_of-key.ensures.key
 
 pub lay_below-lay-requires : goal.lay_below-lay-requires
 lay_below-lay-requires t c =
