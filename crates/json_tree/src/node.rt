@@ -87,7 +87,9 @@ impl Model for Child {
 }
 
 impl Child {
-    /// The child of this key, in one growth.
+    /// The child of this key, in one growth. Where it is called its parts are put together in that growth, and not
+    /// moved into the call first.
+    #[inline(always)]
     pub fn new(alloc: Global, key: Key, node: Node) -> Result<Child, NoMemory>
         ensures { IfOk result (λ child. child ≡ (key, node)) }
     {

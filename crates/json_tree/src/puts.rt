@@ -55,6 +55,7 @@ pub fn put(
 
 // Puts a tree at a path of a stored tree, and gives what stood where that changes it. The number is raised by how
 // many keys lead there; after an `Err` it is of no use.
+#[inline(always)]
 pub(crate) fn put_node(
     alloc: Global,
     tree: &mut Option<Node>,
@@ -207,6 +208,7 @@ fn chain(alloc: Global, path: &[Key], value: Node) -> Result<Node, NoMemory>
 }
 
 // The node with this one child.
+#[inline(always)]
 fn only_child(alloc: Global, key: &Key, child: Node) -> Result<Node, NoMemory>
     requires { depth child < MAX_DEPTH }
     ensures { IfOk result (λ node. node ≡ graft ((key.now, child) ∷ [])) }
