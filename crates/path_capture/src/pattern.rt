@@ -20,6 +20,7 @@ pub enum Part {
 
 impl Part {
     /// The same part once more, in one growth at most.
+    #[inline(always)]
     pub fn copy(&self, alloc: Global) -> Result<Part, NoMemory>
         ensures { IfOk result (λ part. part_of part ≡ part_of self.now) }
     {
