@@ -11,6 +11,7 @@ use Rattle.tree_model.specs.Key.{Key, key_cmp, is_key}
 use Rattle.tree_model.specs.PathMap.{depth}
 use Rattle.tree_model.specs.Tree.{Tree, null, non_null}
 use Rattle.tree_model.proofs.Existence.{non_null-null, non_null-some}
+use Rattle.tree_model.proofs.Choices.{both_so}
 use Rattle.tree_model.proofs.Orders.{keys_total}
 use Rattle.std.proofs.lemmas.Bool.{leb-true}
 use Rattle.std.proofs.lemmas.Bool.Decides.{nat_tests}
@@ -65,6 +66,11 @@ plain_some name t lawful some room is =
 
 pub plain_none : (name : Key) → false ≡ is_plain (name, null)
 plain_none name = sym (ap (λ o. is_some o && (nat_le (depth null + 1) MAX_DEPTH && is_key name)) non_null-null)
+
+pub plain_insert : (es : List (Key × Tree)) (i : ℕ) (e : Key × Tree) → list_all is_plain es ≡ true → is_plain e ≡ true → list_all is_plain (insert es i e) ≡ true
+plain_insert es zero e h is = both_so _ _ is h
+plain_insert [] (suc i) e h is = both_so _ _ is refl
+plain_insert (d ∷ es) (suc i) e h is = both_so _ _ (first_so _ _ h) (plain_insert es i e (second_so (is_plain d) _ h) is)
 
 pub all_plain : (es : List (Key × Tree)) → list_all is_plain es ≡ true → AllByRecursion IsPlain es
 all_plain [] h = tt

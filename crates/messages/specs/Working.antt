@@ -3,6 +3,7 @@ pub mod Faults
 pub mod Opening
 pub mod Asking
 pub mod TreeMembers
+pub mod Children
 pub mod MemberName
 pub mod Outline
 pub mod Writing

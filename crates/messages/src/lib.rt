@@ -8,6 +8,7 @@
 mod answer;
 mod answer_writer;
 mod ask;
+mod children;
 mod code;
 mod header;
 mod limits;

@@ -12,6 +12,7 @@ ghost use Rattle.path_capture.specs.Write.{tree_or_null};
 ghost use Rattle.messages.specs.Working.TreeMembers.{members_named};
 ghost use Rattle.messages.specs.Working.Outline.{IsRead, Gives};
 
+use crate::children::Children;
 use crate::tree_members::TreeMembers;
 use fast_float::Numeral;
 use json::{Reader, Token};
@@ -24,7 +25,6 @@ const MAX_POSITIVE: u64 = i64::MAX as u64;
 
 /// The members that tokens go on with, up to the closing brace, in which objects may nest so deep. None
 /// where one of them is no tree, where a name stands twice, and where memory is wanted.
-#[cycle(nested)]
 pub(crate) fn named_from<'a>(
     alloc: Global,
     reader: &mut Reader<'a>,
@@ -42,8 +42,7 @@ pub(crate) fn named_from<'a>(
     Some(named)
 }
 
-// The tree that begins with a token and goes on in the reader.
-#[cycle(nested)]
+// The tree that begins with a token and goes on in the reader, None inside for null.
 fn tree_from<'a>(
     alloc: Global,
     reader: &mut Reader<'a>,
@@ -54,27 +53,62 @@ fn tree_from<'a>(
     ensures shorter { IfSome result (λ tree. length reader.new ≤ length reader.old) }
 {
     match token {
-        Token::String(text) => Some(Some(node_of_text(alloc, text)?)),
-        Token::Number(text) => Some(Some(node_of_number(text)?)),
-        Token::Bool(truth) => Some(Some(node_of_leaf(Leaf::Truth(truth))?)),
         Token::Null => Some(None),
+        token => Some(Some(node_from(alloc, reader, token, depth)?)),
+    }
+}
+
+// The tree that begins with a token that is not null, and goes on in the reader. It is made one with the functions
+// that call it: a node that is handed back lies in memory, and is copied from there.
+#[cycle(nested)]
+#[inline(always)]
+fn node_from<'a>(
+    alloc: Global,
+    reader: &mut Reader<'a>,
+    token: Token<'a>,
+    depth: usize,
+) -> Option<Node>
+    ensures value { IfSome result (λ node. IsRead depth (token_of token.entry) reader.old (value_of node) reader.new) }
+    ensures shorter { IfSome result (λ node. length reader.new ≤ length reader.old) }
+{
+    match token {
+        Token::String(text) => Some(node_of_text(alloc, text)?),
+        Token::Number(text) => Some(node_of_number(text)?),
+        Token::Bool(truth) => Some(node_of_leaf(Leaf::Truth(truth))?),
         Token::BeginObject => if depth == 0 {
             None
         } else {
-            let named = named_from(alloc, reader, depth - 1)?;
-            Some(Some(node_of(alloc, named)?))
+            let children = children_from(alloc, reader, depth - 1)?;
+            Some(node_of(children)?)
         },
         _ => None,
     }
 }
 
-fn node_of(alloc: Global, named: TreeMembers<'_>) -> Option<Node>
-    ensures { IfSome result (λ node. value_of node ≡ object (members_named named.entry)) }
+// The children that tokens go on with, up to the closing brace. None where one of them is none, where a
+// key stands twice, and where memory is wanted.
+#[cycle(nested)]
+fn children_from<'a>(alloc: Global, reader: &mut Reader<'a>, depth: usize) -> Option<Children>
+    ensures value { IfSome result (λ children. Gives depth reader.old (members_named children) reader.new) }
+    ensures shorter { IfSome result (λ children. length reader.new ≤ length reader.old) }
 {
-    if named.is_plain() {
-        named.into_node(alloc).ok()
-    } else {
+    let mut children = Children::new(alloc);
+    'children: while let Some(name) = reader.next_key().ok()? {
+        let token = reader.next()?;
+        let node = node_from(alloc, reader, token, depth)?;
+        children.put(alloc, name, node)?;
+    }
+    Some(children)
+}
+
+// The node with these children. None where there is no child.
+fn node_of(children: Children) -> Option<Node>
+    ensures { IfSome result (λ node. value_of node ≡ object (members_named children)) }
+{
+    if children.is_empty() {
         None
+    } else {
+        children.into_node().ok()
     }
 }
 
