@@ -137,7 +137,9 @@ pub(crate) fn tree_of_value(alloc: Global, value: &Value) -> Result<Option<Node>
     }
 }
 
-/// The write of a tree at a path, None for null; both together may be too deep.
+/// The write of a tree at a path, None for null; both together may be too deep. It is made one with the functions
+/// that call it: a write that is handed back lies in memory, and is copied from there.
+#[inline(always)]
 pub(crate) fn write_at(path: Path, tree: Option<Node>) -> Result<Write, MessageFault>
     ensures { Tells (λ write. write) result (write_at path (tree_or_null tree)) }
 {
