@@ -6,6 +6,7 @@ ghost use Rattle.tree_model.specs.Key.{key_cmp};
 ghost use Rattle.json_tree.specs.Json.{value_of};
 ghost use Rattle.messages.specs.Working.TreeMembers.{members_named};
 
+use crate::limits::MAX_MOVED;
 use json_tree::{Child, Key, NoMemory, Node, is_lawful_key};
 use std::alloc::Global;
 use std::marker::Model;
@@ -44,7 +45,8 @@ impl Children {
     }
 
     /// Puts a child among the others, by a binary search. None where the name is no lawful key or is the key
-    /// of one of them, where the tree has no room for a key above it, and where memory is wanted.
+    /// of one of them, where the tree has no room for a key above it, where more than [`MAX_MOVED`] of them
+    /// would have to move, and where memory is wanted.
     pub fn put(&mut self, alloc: Global, name: &str, node: Node) -> Option<()>
         ensures { OnSome result (members_named self.new
             ≡ put name.now (value_of node) (members_named self.old)) }
@@ -56,6 +58,9 @@ impl Children {
         match index_of(&self.held, name) {
             Ok(_) => None,
             Err(index) => {
+                if self.held.len() - index > MAX_MOVED {
+                    return None;
+                }
                 let key = Key::of_lawful(alloc, name).ok()?;
                 let child = Child::new(alloc, key, node).ok()?;
                 self.held.insert(index, child).ok()?;

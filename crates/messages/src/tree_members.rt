@@ -11,6 +11,7 @@ ghost use Rattle.path_capture.specs.Write.{tree_or_null};
 ghost use Rattle.messages.specs.Message.{Tells, tree_of_value, write_below, writes_below};
 ghost use Rattle.messages.specs.Working.TreeMembers.{is_plain, members_named};
 
+use crate::limits::MAX_MOVED;
 use crate::message::MessageFault;
 use crate::writes::{keep, path_below, tree_of_value, with_room, write_at};
 use json_tree::{Child, Key, NoMemory, Node, is_lawful_key, to_json};
@@ -128,8 +129,8 @@ impl<'a> TreeMembers<'a> {
         }
     }
 
-    /// Puts a member among the others, by a binary search. None where one of them has its name, and where
-    /// memory is wanted.
+    /// Puts a member among the others, by a binary search. None where one of them has its name, where more than
+    /// [`MAX_MOVED`] of them would have to move, and where memory is wanted.
     pub fn put(&mut self, name: &'a str, tree: Option<Node>) -> Option<()>
         ensures { OnSome result (members_named self.new
             ≡ put name.now (value_of (tree_or_null tree)) (members_named self.old)) }
@@ -137,6 +138,9 @@ impl<'a> TreeMembers<'a> {
         match index_of(&self.held, name) {
             Ok(_) => None,
             Err(index) => {
+                if self.held.len() - index > MAX_MOVED {
+                    return None;
+                }
                 self.held.insert(index, Entry { name, tree }).ok()?;
                 Some(())
             }
