@@ -179,6 +179,11 @@ fn value<'a>(
         Expr::Variable(name) => variable_value(name, env, found),
         Expr::Capture(name) => capture_value(name.as_str(), env, found),
         Expr::Member(receiver, name) => member_value(arena, receiver, name, env, found),
+        Expr::Group(inner) => value(arena, inner, env, found),
+        Expr::Choice(condition, yes, no) => {
+            let b = truth(arena, condition, env)?;
+            value(arena, if b { yes } else { no }, env, found)
+        }
         _ => call_value(arena, expr, env, found),
     }
 }
@@ -374,6 +379,11 @@ fn truth<'a>(arena: &'a Bump, expr: &'a Expr, env: &Env<'a, '_>) -> Result<bool,
             let mut found = Value::Null;
             value(arena, left, env, &mut found)?;
             Ok(is_something(found))
+        }
+        Expr::Group(inner) => truth(arena, inner, env),
+        Expr::Choice(condition, yes, no) => {
+            let b = truth(arena, condition, env)?;
+            truth(arena, if b { yes } else { no }, env)
         }
         _ => {
             let mut found = Value::Null;
