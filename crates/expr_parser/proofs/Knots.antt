@@ -1,6 +1,6 @@
 -- One turn of reading, by what the parser's functions read.
 use Rattle.std.proofs.Common.{◌≡◌, ℕ, suc, List, [], ◌∷◌, ◌++◌, refl, sym, ap, ◌∙◌, Vec, Global}
-use Rattle.std.specs.Prelude.{Ok}
+use Rattle.std.specs.Prelude.{Ok, Err}
 use mathlib.Core.Former.{Count}
 use Rattle.std.specs.declared.boxed.Box.{Box}
 use Rattle.expr_tokens.specs.declared.token.Token.{Token}
@@ -9,7 +9,7 @@ use Rattle.expr_parser.specs.declared.expr.Argument.{Argument, List as Listing, 
 use Rattle.expr_parser.specs.Tree as tree
 use Rattle.expr_parser.specs.Tree.{Tree, Trees, Arguments}
 use Rattle.expr_parser.specs.View.{view, view_argument, view_arguments, view_items, views, arguments}
-use Rattle.expr_parser.specs.Working.Reading.{Whole, Climb, Unary, Items, Found, ◌>>=◌, snoc, snoc_item, items_on, on, otherwise, parts, chosen, read}
+use Rattle.expr_parser.specs.Working.Reading.{Whole, Climb, Unary, Args, Items, Found, ◌>>=◌, snoc, snoc_item, items_on, on, otherwise, parts, chosen, read, arg, arg_behind, item_behind, args_on}
 use Rattle.expr_parser.proofs.Turns.{read_step}
 
 pub whole_is : (d : ℕ) (ts : List Token) → read Whole d ts ≡ (read (Climb 1) d ts >>= λ c. chosen read d c.0 c.1)
@@ -20,6 +20,18 @@ climb_is n d ts = read_step (Climb n) d ts ∙ ap (λ (o : Found Tree). o >>= λ
 
 pub items_is : (d : ℕ) (xs : Trees) (ts : List Token) → read (Items xs) d ts ≡ (read Whole d ts >>= λ x. items_on read d (snoc_item xs x.0) x.1)
 items_is d xs ts = read_step (Items xs) d ts ∙ ap (λ (o : Found Tree). o >>= λ x. items_on read d (snoc_item xs x.0) x.1) (sym (read_step Whole d ts))
+
+then_more : {A B C : Type 0} (o : Found A) (f : A → B) (g : B × List Token → Found C) → (o >>= λ x. g (f x.0, x.1)) ≡ ((o >>= λ x. Ok (f x.0, x.1)) >>= g)
+then_more (Ok x) f g = refl
+then_more (Err e) f g = refl
+
+-- arguments, by one more of them
+pub args_by_one : (d : ℕ) (xs : Arguments) (ts : List Token) → read (Args xs) d ts ≡ (arg_behind read d xs ts >>= λ x. args_on read d x.0 x.1)
+args_by_one d xs ts = read_step (Args xs) d ts ∙ then_more (arg read d ts) (snoc xs) (λ x. args_on read d x.0 x.1)
+
+-- elements, by one more of them
+pub items_by_one : (d : ℕ) (xs : Trees) (ts : List Token) → read (Items xs) d ts ≡ (item_behind read d xs ts >>= λ x. items_on read d x.0 x.1)
+items_by_one d xs ts = items_is d xs ts ∙ then_more (read Whole d ts) (snoc_item xs) (λ x. items_on read d x.0 x.1)
 
 pub parts_are : (d n : ℕ) (c : Tree) (ts : List Token) (x : Tree) (us : List Token) → n ≡ suc d → read Whole n ts ≡ Ok (x, us) → parts read d c ts ≡ otherwise read d c x us
 parts_are d n c ts x us h e = ap (λ (o : Found Tree). o >>= λ y. otherwise read d c y.0 y.1) (ap (λ (m : ℕ). read Whole m ts) (sym h) ∙ e)

@@ -1,6 +1,5 @@
 -- Which expression a text spells, and why one spells none.
-use Rattle.std.specs.Prelude.{◌≡◌, ℕ, List, Result, Ok, Err, ◌⊎◌}
-use Rattle.expr_parser.specs.declared.expr.Expr.{Expr}
+use Rattle.std.specs.Prelude.{◌≡◌, ℕ, List, ◌⊎◌}
 use Rattle.expr_tokens.specs.declared.fault.ExprFault.{ExprFault}
 use Rattle.expr_tokens.specs.declared.fault.ExprFault.TheVariants.{BadExpression, NotInProfile, NoMemory}
 use Rattle.expr_tokens.specs.declared.fault.Excluded.TheVariants.{Slash, Number, Bracket}
@@ -10,7 +9,6 @@ use Rattle.expr_tokens.specs.Faults.{IsEarliest}
 use Rattle.expr_parser.specs.Tree.{Tree}
 use Rattle.expr_parser.specs.Grammar.{Spells}
 use Rattle.expr_parser.specs.Stopping.{StopsAt, Indexed}
-use Rattle.expr_parser.specs.View.{view}
 
 -- The text spells the expression: by its tokens. (Firebase Security Rules reference, expressions.)
 pub record SpellsExpression (text : List ℕ) (x : Tree) : Type 0 where

@@ -1,10 +1,13 @@
 //! From tokens to an expression: by descent, and by climbing the operators' levels.
-ghost use Rattle.std.specs.Prelude.{◌≡◌, ◌≢◌, ◌<◌, ◌≤◌, ◌⊎◌, List, length, IfOk, IfErr};
+//!
+//! Each function puts what it reads into a place that is lent to it, and hands back the tokens that are left: an
+//! expression that was handed back would lie in memory, and be copied from there at each level.
+ghost use Rattle.std.specs.Prelude.{◌≡◌, ◌≢◌, ◌<◌, ◌≤◌, ◌⊎◌, List, length, IfOk, IfErr, []};
 ghost use Rattle.expr_parser.specs.Grammar.{level, Spells};
 ghost use Rattle.expr_parser.specs.Stopping.{Refused};
-ghost use Rattle.expr_parser.specs.Working.Reading.{Whole, Climb, Unary, Items, read, arg, call, dotted, group, parts, postfix, primary};
+ghost use Rattle.expr_parser.specs.Working.Reading.{Whole, Climb, Unary, Items, read, arg_behind, item_behind, call, dotted, group, parts, postfix, primary};
 ghost use Rattle.expr_parser.specs.Tree.{Tree, none};
-ghost use Rattle.expr_parser.specs.View.{view, view_argument, views, arguments};
+ghost use Rattle.expr_parser.specs.View.{view, views, arguments};
 ghost use Rattle.expr_parser.specs.Working.Gives.{Gives};
 ghost use Rattle.expr_tokens.specs.Answers.{AnswersThis};
 ghost use Rattle.expr_tokens.specs.declared.token.Token.{Token};
@@ -15,6 +18,7 @@ use crate::expr::{Argument, Expr};
 use crate::limits::MAX_LEVELS;
 use expr_tokens::{Operator, Token};
 use std::alloc::{AllocError, AllocFailed, Global};
+use std::mem;
 
 /// Why tokens are no expression.
 #[derive(Clone, Copy, Debug, PartialEq, Eq)]
@@ -69,7 +73,8 @@ pub fn expression(alloc: Global, tokens: &[Token]) -> Result<Expr, ParseFault>
     // A fault names the first token that no spelled expression has after the tokens before it.
     ensures refused { IfErr result (λ fault. Refused tokens.now fault) }
 {
-    let (found, rest) = whole(alloc, 0, tokens)?;
+    let mut found = Expr::Null;
+    let rest = whole(alloc, 0, tokens, &mut found)?;
     if !rest.is_empty() {
         return Err(ParseFault::Unexpected { left: rest.len() });
     }
@@ -92,38 +97,43 @@ fn whole<'a, 't>(
     alloc: Global,
     depth: usize,
     tokens: &'a [Token<'t>],
-) -> Result<(Expr, &'a [Token<'t>]), ParseFault>
-    ensures gives { Gives (λ x. (view x.0, x.1.now)) result (read Whole depth tokens.now) }
-    ensures shorter { IfOk result (λ x. length x.1.now ≤ length tokens.now) }
+    found: &mut Expr,
+) -> Result<&'a [Token<'t>], ParseFault>
+    ensures gives { Gives (λ rest. (view found.new, rest.now)) result (read Whole depth tokens.now) }
+    ensures shorter { IfOk result (λ rest. length rest.now ≤ length tokens.now) }
 {
-    let (condition, rest) = climb(alloc, depth, 1, tokens)?;
+    let rest = climb(alloc, depth, 1, tokens, found)?;
     let [Token::Question, inner @ ..] = rest else {
-        return Ok((condition, rest));
+        return Ok(rest);
     };
     if depth >= MAX_LEVELS {
         return Err(ParseFault::Unexpected { left: rest.len() });
     }
-    choice(alloc, depth, condition, inner)
+    choice(alloc, depth, inner, found)
 }
 
-// expr ':' expr, behind a condition and its '?'
+// expr ':' expr, behind a condition, which is found, and its '?'
 #[cycle(parser)]
 fn choice<'a, 't>(
     alloc: Global,
     depth: usize,
-    condition: Expr,
     tokens: &'a [Token<'t>],
-) -> Result<(Expr, &'a [Token<'t>]), ParseFault>
+    found: &mut Expr,
+) -> Result<&'a [Token<'t>], ParseFault>
     requires { depth < MAX_LEVELS }
-    ensures gives { Gives (λ x. (view x.0, x.1.now)) result (parts read depth (view condition) tokens.now) }
-    ensures shorter { IfOk result (λ x. length x.1.now ≤ length tokens.now) }
+    ensures gives { Gives (λ rest. (view found.new, rest.now)) result (parts read depth (view found.old) tokens.now) }
+    ensures shorter { IfOk result (λ rest. length rest.now ≤ length tokens.now) }
 {
-    let (yes, rest) = whole(alloc, depth + 1, tokens)?;
+    let mut yes = Box::new(alloc, Expr::Null)?;
+    let rest = whole(alloc, depth + 1, tokens, &mut yes)?;
     let [Token::Colon, inner @ ..] = rest else {
         return Err(ParseFault::Unexpected { left: rest.len() });
     };
-    let (no, rest) = whole(alloc, depth + 1, inner)?;
-    Ok((Expr::choice(alloc, condition, yes, no)?, rest))
+    let mut no = Box::new(alloc, Expr::Null)?;
+    let rest = whole(alloc, depth + 1, inner, &mut no)?;
+    let condition = taken(alloc, found)?;
+    *found = Expr::Choice(condition, yes, no);
+    Ok(rest)
 }
 
 // The levels of the operators, from this one on.
@@ -133,24 +143,27 @@ fn climb<'a, 't>(
     depth: usize,
     least: u8,
     tokens: &'a [Token<'t>],
-) -> Result<(Expr, &'a [Token<'t>]), ParseFault>
-    ensures gives { Gives (λ x. (view x.0, x.1.now)) result (read (Climb least) depth tokens.now) }
-    ensures shorter { IfOk result (λ x. length x.1.now ≤ length tokens.now) }
+    found: &mut Expr,
+) -> Result<&'a [Token<'t>], ParseFault>
+    ensures gives { Gives (λ rest. (view found.new, rest.now)) result (read (Climb least) depth tokens.now) }
+    ensures shorter { IfOk result (λ rest. length rest.now ≤ length tokens.now) }
 {
-    let (mut left, mut rest) = unary(alloc, depth, tokens)?;
+    let mut rest = unary(alloc, depth, tokens, found)?;
     loop {
         let [first, after @ ..] = rest else {
-            return Ok((left, rest));
+            return Ok(rest);
         };
         let Token::Operator(operator) = first else {
-            return Ok((left, rest));
+            return Ok(rest);
         };
         let operator = *operator;
         if level(operator) < least {
-            return Ok((left, rest));
+            return Ok(rest);
         }
-        let (right, after) = climb(alloc, depth, level(operator) + 1, after)?;
-        left = Expr::operation(alloc, operator, left, right)?;
+        let mut right = Box::new(alloc, Expr::Null)?;
+        let after = climb(alloc, depth, level(operator) + 1, after, &mut right)?;
+        let left = taken(alloc, found)?;
+        *found = Expr::Operation(operator, left, right);
         rest = after;
     }
 }
@@ -161,26 +174,31 @@ fn unary<'a, 't>(
     alloc: Global,
     depth: usize,
     tokens: &'a [Token<'t>],
-) -> Result<(Expr, &'a [Token<'t>]), ParseFault>
-    ensures gives { Gives (λ x. (view x.0, x.1.now)) result (read Unary depth tokens.now) }
-    ensures shorter { IfOk result (λ x. length x.1.now ≤ length tokens.now) }
+    found: &mut Expr,
+) -> Result<&'a [Token<'t>], ParseFault>
+    ensures gives { Gives (λ rest. (view found.new, rest.now)) result (read Unary depth tokens.now) }
+    ensures shorter { IfOk result (λ rest. length rest.now ≤ length tokens.now) }
 {
     match tokens {
         [Token::Not, inner @ ..] => {
             if depth >= MAX_LEVELS {
                 return Err(ParseFault::Unexpected { left: tokens.len() });
             }
-            let (x, rest) = unary(alloc, depth + 1, inner)?;
-            Ok((Expr::Not(Box::new(alloc, x)?), rest))
+            let mut x = Box::new(alloc, Expr::Null)?;
+            let rest = unary(alloc, depth + 1, inner, &mut x)?;
+            *found = Expr::Not(x);
+            Ok(rest)
         }
         [Token::Operator(Operator::Subtract), inner @ ..] => {
             if depth >= MAX_LEVELS {
                 return Err(ParseFault::Unexpected { left: tokens.len() });
             }
-            let (x, rest) = unary(alloc, depth + 1, inner)?;
-            Ok((Expr::Negate(Box::new(alloc, x)?), rest))
+            let mut x = Box::new(alloc, Expr::Null)?;
+            let rest = unary(alloc, depth + 1, inner, &mut x)?;
+            *found = Expr::Negate(x);
+            Ok(rest)
         }
-        _ => postfix(alloc, depth, tokens),
+        _ => postfix(alloc, depth, tokens, found),
     }
 }
 
@@ -190,30 +208,31 @@ fn postfix<'a, 't>(
     alloc: Global,
     depth: usize,
     tokens: &'a [Token<'t>],
-) -> Result<(Expr, &'a [Token<'t>]), ParseFault>
-    ensures gives { Gives (λ x. (view x.0, x.1.now)) result (postfix read depth tokens.now) }
-    ensures shorter { IfOk result (λ x. length x.1.now ≤ length tokens.now) }
+    found: &mut Expr,
+) -> Result<&'a [Token<'t>], ParseFault>
+    ensures gives { Gives (λ rest. (view found.new, rest.now)) result (postfix read depth tokens.now) }
+    ensures shorter { IfOk result (λ rest. length rest.now ≤ length tokens.now) }
 {
-    let (mut x, mut rest) = primary(alloc, depth, tokens)?;
+    let mut rest = primary(alloc, depth, tokens, found)?;
     while let [Token::Dot, after @ ..] = rest {
-        (x, rest) = member(alloc, depth, x, after)?;
+        rest = member(alloc, depth, after, found)?;
     }
     if let [Token::OpenBracket, ..] = rest {
         return Err(ParseFault::Bracket { left: rest.len() });
     }
-    Ok((x, rest))
+    Ok(rest)
 }
 
-// What stands behind a dot: a name, or a call of it.
+// What stands behind a receiver, which is found, and its dot: a name, or a call of it.
 #[cycle(parser)]
 fn member<'a, 't>(
     alloc: Global,
     depth: usize,
-    receiver: Expr,
     tokens: &'a [Token<'t>],
-) -> Result<(Expr, &'a [Token<'t>]), ParseFault>
-    ensures gives { Gives (λ x. (view x.0, x.1.now)) result (dotted read depth (view receiver) tokens.now) }
-    ensures shorter { IfOk result (λ x. length x.1.now ≤ length tokens.now) }
+    found: &mut Expr,
+) -> Result<&'a [Token<'t>], ParseFault>
+    ensures gives { Gives (λ rest. (view found.new, rest.now)) result (dotted read depth (view found.old) tokens.now) }
+    ensures shorter { IfOk result (λ rest. length rest.now ≤ length tokens.now) }
 {
     let [first, rest @ ..] = tokens else {
         return Err(ParseFault::Unexpected { left: 0 });
@@ -221,15 +240,18 @@ fn member<'a, 't>(
     let Token::Name(word) = first else {
         return Err(ParseFault::Unexpected { left: tokens.len() });
     };
-    let name = word.copy(alloc)?;
+    let receiver = taken(alloc, found)?;
     let [Token::OpenParenthesis, inner @ ..] = rest else {
-        return Ok((Expr::member(alloc, receiver, name)?, rest));
+        *found = Expr::Member(receiver, word.copy(alloc)?);
+        return Ok(rest);
     };
     if depth >= MAX_LEVELS {
         return Err(ParseFault::Unexpected { left: rest.len() });
     }
-    let (given, rest) = given(alloc, depth + 1, inner)?;
-    Ok((Expr::call(alloc, receiver, name, given)?, rest))
+    let mut arguments = Vec::new(alloc);
+    let rest = given(alloc, depth + 1, inner, &mut arguments)?;
+    *found = Expr::Call(receiver, word.copy(alloc)?, arguments);
+    Ok(rest)
 }
 
 // [ arg { ',' arg } ] ')'
@@ -238,46 +260,49 @@ fn given<'a, 't>(
     alloc: Global,
     depth: usize,
     tokens: &'a [Token<'t>],
-) -> Result<(Vec<Argument>, &'a [Token<'t>]), ParseFault>
-    ensures gives { Gives (λ x. (arguments x.0.items, x.1.now)) result (call read depth tokens.now) }
-    ensures shorter { IfOk result (λ x. length x.1.now ≤ length tokens.now) }
+    found: &mut Vec<Argument>,
+) -> Result<&'a [Token<'t>], ParseFault>
+    requires none { found.old.items ≡ [] }
+    ensures gives { Gives (λ rest. (arguments found.new.items, rest.now)) result (call read depth tokens.now) }
+    ensures shorter { IfOk result (λ rest. length rest.now ≤ length tokens.now) }
 {
-    let mut found = Vec::new(alloc);
     if let [Token::CloseParenthesis, rest @ ..] = tokens {
-        return Ok((found, rest));
+        return Ok(rest);
     }
-    let (first, mut rest) = argument(alloc, depth, tokens)?;
-    found.push(first)?;
+    let mut rest = argument(alloc, depth, tokens, found)?;
     while let [Token::Comma, after @ ..] = rest {
-        let (next, after) = argument(alloc, depth, after)?;
-        found.push(next)?;
-        rest = after;
+        rest = argument(alloc, depth, after, found)?;
     }
     let [Token::CloseParenthesis, rest @ ..] = rest else {
         return Err(ParseFault::Unexpected { left: rest.len() });
     };
-    Ok((found, rest))
+    Ok(rest)
 }
 
-// arg := expr | '[' expr { ',' expr } ']'
+// arg := expr | '[' expr { ',' expr } ']', behind those that are found
 #[cycle(parser)]
 fn argument<'a, 't>(
     alloc: Global,
     depth: usize,
     tokens: &'a [Token<'t>],
-) -> Result<(Argument, &'a [Token<'t>]), ParseFault>
-    ensures gives { Gives (λ x. (view_argument x.0, x.1.now)) result (arg read depth tokens.now) }
-    ensures shorter { IfOk result (λ x. length x.1.now ≤ length tokens.now) }
+    found: &mut Vec<Argument>,
+) -> Result<&'a [Token<'t>], ParseFault>
+    ensures gives { Gives (λ rest. (arguments found.new.items, rest.now)) result (arg_behind read depth (arguments found.old.items) tokens.now) }
+    ensures shorter { IfOk result (λ rest. length rest.now ≤ length tokens.now) }
 {
     let [Token::OpenBracket, inner @ ..] = tokens else {
-        let (x, rest) = whole(alloc, depth, tokens)?;
-        return Ok((Argument::One(x), rest));
+        let mut value = Expr::Null;
+        let rest = whole(alloc, depth, tokens, &mut value)?;
+        found.push(Argument::One(value))?;
+        return Ok(rest);
     };
     if depth >= MAX_LEVELS {
         return Err(ParseFault::Unexpected { left: tokens.len() });
     }
-    let (elements, rest) = elements(alloc, depth + 1, inner)?;
-    Ok((Argument::List(elements), rest))
+    let mut list = Vec::new(alloc);
+    let rest = elements(alloc, depth + 1, inner, &mut list)?;
+    found.push(Argument::List(list))?;
+    Ok(rest)
 }
 
 // expr { ',' expr } ']'
@@ -286,22 +311,37 @@ fn elements<'a, 't>(
     alloc: Global,
     depth: usize,
     tokens: &'a [Token<'t>],
-) -> Result<(Vec<Expr>, &'a [Token<'t>]), ParseFault>
-    ensures gives { Gives (λ x. (views x.0.items, x.1.now)) result (read (Items none) depth tokens.now) }
-    ensures shorter { IfOk result (λ x. length x.1.now ≤ length tokens.now) }
+    found: &mut Vec<Expr>,
+) -> Result<&'a [Token<'t>], ParseFault>
+    requires none { found.old.items ≡ [] }
+    ensures gives { Gives (λ rest. (views found.new.items, rest.now)) result (read (Items none) depth tokens.now) }
+    ensures shorter { IfOk result (λ rest. length rest.now ≤ length tokens.now) }
 {
-    let mut found = Vec::new(alloc);
-    let (first, mut rest) = whole(alloc, depth, tokens)?;
-    found.push(first)?;
+    let mut rest = element(alloc, depth, tokens, found)?;
     while let [Token::Comma, after @ ..] = rest {
-        let (element, after) = whole(alloc, depth, after)?;
-        found.push(element)?;
-        rest = after;
+        rest = element(alloc, depth, after, found)?;
     }
     let [Token::CloseBracket, rest @ ..] = rest else {
         return Err(ParseFault::Unexpected { left: rest.len() });
     };
-    Ok((found, rest))
+    Ok(rest)
+}
+
+// An element of a list, behind those that are found.
+#[cycle(parser)]
+fn element<'a, 't>(
+    alloc: Global,
+    depth: usize,
+    tokens: &'a [Token<'t>],
+    found: &mut Vec<Expr>,
+) -> Result<&'a [Token<'t>], ParseFault>
+    ensures gives { Gives (λ rest. (views found.new.items, rest.now)) result (item_behind read depth (views found.old.items) tokens.now) }
+    ensures shorter { IfOk result (λ rest. length rest.now ≤ length tokens.now) }
+{
+    let mut value = Expr::Null;
+    let rest = whole(alloc, depth, tokens, &mut value)?;
+    found.push(value)?;
+    Ok(rest)
 }
 
 #[cycle(parser)]
@@ -309,14 +349,15 @@ fn primary<'a, 't>(
     alloc: Global,
     depth: usize,
     tokens: &'a [Token<'t>],
-) -> Result<(Expr, &'a [Token<'t>]), ParseFault>
-    ensures gives { Gives (λ x. (view x.0, x.1.now)) result (primary read depth tokens.now) }
-    ensures shorter { IfOk result (λ x. length x.1.now ≤ length tokens.now) }
+    found: &mut Expr,
+) -> Result<&'a [Token<'t>], ParseFault>
+    ensures gives { Gives (λ rest. (view found.new, rest.now)) result (primary read depth tokens.now) }
+    ensures shorter { IfOk result (λ rest. length rest.now ≤ length tokens.now) }
 {
     let [first, rest @ ..] = tokens else {
         return Err(ParseFault::Unexpected { left: 0 });
     };
-    let found = match first {
+    *found = match first {
         Token::Number(value) => Expr::Number(*value),
         Token::Text(text) => Expr::Text(text.text(alloc)?),
         Token::True => Expr::True,
@@ -328,11 +369,11 @@ fn primary<'a, 't>(
             if depth >= MAX_LEVELS {
                 return Err(ParseFault::Unexpected { left: tokens.len() });
             }
-            return group(alloc, depth, rest);
+            return group(alloc, depth, rest, found);
         }
         _ => return Err(ParseFault::Unexpected { left: tokens.len() }),
     };
-    Ok((found, rest))
+    Ok(rest)
 }
 
 // expr ')'
@@ -341,14 +382,24 @@ fn group<'a, 't>(
     alloc: Global,
     depth: usize,
     tokens: &'a [Token<'t>],
-) -> Result<(Expr, &'a [Token<'t>]), ParseFault>
+    found: &mut Expr,
+) -> Result<&'a [Token<'t>], ParseFault>
     requires { depth < MAX_LEVELS }
-    ensures gives { Gives (λ x. (view x.0, x.1.now)) result (group read depth tokens.now) }
-    ensures shorter { IfOk result (λ x. length x.1.now ≤ length tokens.now) }
+    ensures gives { Gives (λ rest. (view found.new, rest.now)) result (group read depth tokens.now) }
+    ensures shorter { IfOk result (λ rest. length rest.now ≤ length tokens.now) }
 {
-    let (x, rest) = whole(alloc, depth + 1, tokens)?;
+    let mut x = Box::new(alloc, Expr::Null)?;
+    let rest = whole(alloc, depth + 1, tokens, &mut x)?;
     let [Token::CloseParenthesis, rest @ ..] = rest else {
         return Err(ParseFault::Unexpected { left: rest.len() });
     };
-    Ok((Expr::Group(Box::new(alloc, x)?), rest))
+    *found = Expr::Group(x);
+    Ok(rest)
+}
+
+// What is found, in a growth of its own, where another node is to stand in its place.
+fn taken(alloc: Global, found: &mut Expr) -> Result<Box<Expr>, AllocError>
+    ensures { IfOk result (λ inner. inner.value ≡ found.old) }
+{
+    Ok(Box::new(alloc, mem::replace(found, Expr::Null))?)
 }

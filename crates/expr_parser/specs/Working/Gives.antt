@@ -1,12 +1,9 @@
 -- What the parser answers.
 use Rattle.std.specs.Prelude.{◌≡◌, List, Result, Ok, Err}
-use Rattle.expr_parser.specs.declared.expr.Expr.{Expr}
 use Rattle.expr_tokens.specs.declared.token.Token.{Token}
 use Rattle.expr_parser.specs.declared.parser.ParseFault.{ParseFault}
 use Rattle.expr_parser.specs.declared.parser.ParseFault.TheVariants.{NoMemory, Unexpected, Bracket}
 use Rattle.expr_parser.specs.Working.Reading.{Found}
-use Rattle.expr_parser.specs.Tree.{Tree}
-use Rattle.expr_parser.specs.View.{view}
 
 -- the fault is what reading gives, unless memory is refused
 abbrev pub Refuses : {A : Type 0} → ParseFault → Found A → Type 0

@@ -146,6 +146,14 @@ abbrev pub arg : Reader → ℕ → List Token → Found Argument
 arg r d (t.OpenBracket ∷ ts) = deeper d (t.OpenBracket ∷ ts) (r (Items none) (suc d) ts >>= λ xs. Ok (Listed xs.0, xs.1))
 arg r d ts = whole r d ts >>= λ x. Ok (One x.0, x.1)
 
+-- these arguments, and one more
+abbrev pub arg_behind : Reader → ℕ → Arguments → List Token → Found Arguments
+arg_behind r d xs ts = arg r d ts >>= λ x. Ok (snoc xs x.0, x.1)
+
+-- these elements, and one more
+abbrev pub item_behind : Reader → ℕ → Trees → List Token → Found Trees
+item_behind r d xs ts = r Whole d ts >>= λ x. Ok (snoc_item xs x.0, x.1)
+
 abbrev pub args : Reader → ℕ → Arguments → List Token → Found Arguments
 args r d xs ts = arg r d ts >>= λ x. args_on r d (snoc xs x.0) x.1
 

@@ -5,10 +5,10 @@ use Rattle.expr_parser.specs.View.{view, views, arguments}
 use Rattle.expr_parser.proofs.parser.+parser.Given as goal
 
 abbrev pub decreases-given : goal.decreases-given
-decreases-given l = 12 * length l.tokens.now + 8
+decreases-given l = 12 * length l.tokens.now + 9
 
 abbrev pub decreases-argument : goal.decreases-argument
-decreases-argument l = 12 * length l.tokens.now + 7
+decreases-argument l = 12 * length l.tokens.now + 8
 
 abbrev pub decreases-group : goal.decreases-group
 decreases-group l = 12 * length l.tokens.now + 6
@@ -17,7 +17,10 @@ abbrev pub decreases-choice : goal.decreases-choice
 decreases-choice l = 12 * length l.tokens.now + 6
 
 abbrev pub decreases-elements : goal.decreases-elements
-decreases-elements l = 12 * length l.tokens.now + 6
+decreases-elements l = 12 * length l.tokens.now + 7
+
+abbrev pub decreases-element : goal.decreases-element
+decreases-element l = 12 * length l.tokens.now + 6
 
 abbrev pub decreases-whole : goal.decreases-whole
 decreases-whole l = 12 * length l.tokens.now + 5
@@ -57,7 +60,7 @@ decreases-given-loop-rest l = length l.rest
 
 abbrev pub invariant-climb-loop-rest : goal.invariant-climb-loop-rest
 invariant-climb-loop-rest l = record {
-  reading : read (On l.least (view l.left)) l.depth l.rest ≡ read (Climb l.least) l.depth l.tokens;
+  reading : read (On l.least (view l.found)) l.depth l.rest ≡ read (Climb l.least) l.depth l.tokens;
   shorter : length l.rest ≤ length l.tokens;
 }
 
@@ -66,7 +69,7 @@ decreases-climb-loop-rest l = length l.rest
 
 abbrev pub invariant-postfix-loop-rest : goal.invariant-postfix-loop-rest
 invariant-postfix-loop-rest l = record {
-  reading : after read l.depth (view l.x) l.rest ≡ postfix read l.depth l.tokens;
+  reading : after read l.depth (view l.found) l.rest ≡ postfix read l.depth l.tokens;
   shorter : length l.rest ≤ length l.tokens;
 }
 
