@@ -1,5 +1,5 @@
 -- Some row spells the name of each use that is a row, but for a claim's.
-use Rattle.std.proofs.Common.{◌≡◌, ◌⊎◌, inl, inr, ℕ, List, Bool, true, false, ◌||◌, refl, ap, ◌∙◌}
+use Rattle.std.proofs.Common.{◌≡◌, ◌⊎◌, inl, inr, ℕ, List, Bool, true, false, ◌||◌, refl, ap}
 use Rattle.expr_parser.specs.Tree.{Tree, Arguments, Member, Call}
 use Rattle.expr_types.specs.declared.place.Place.{Place}
 use Rattle.expr_types.specs.declared.sort.Sort.{Sort}

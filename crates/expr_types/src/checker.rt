@@ -1,5 +1,8 @@
 //! The checker: the sort of an expression, or its first fault.
-ghost use Rattle.std.specs.Prelude.{◌≡◌, ◌⊎◌, true, is_ok, IfOk, IfErr, OnOk, Ok, Err};
+//!
+//! Where there is a fault, it is told in a place that the caller lends: so a sort is handed back in a register, and
+//! where there is none nothing is made of a fault.
+ghost use Rattle.std.specs.Prelude.{◌≡◌, ◌⊎◌, true, is_ok, IfOk, IfErr, IsErr, OnOk, Ok, Err};
 ghost use Rattle.expr_parser.specs.Tree as tree;
 ghost use Rattle.expr_parser.specs.View.{view, view_argument, views, arguments as arguments_of};
 ghost use Rattle.path_capture.specs.Captures.{names};
@@ -17,7 +20,7 @@ use crate::rows::{call, member, variable};
 use crate::sort::{Given, Sort};
 use expr_parser::{Argument, Expr};
 use path_capture::Captures;
-use std::alloc::Global;
+use std::alloc::{AllocError, Global};
 
 /// The expression as one that may stand in a rule for this place, below captures of these names; the
 /// keys that they stand for are not looked at. A refused expression is spent. Time linear in the
@@ -43,13 +46,14 @@ pub fn check(
         place,
         captures,
     };
-    match checker.sort(&expr) {
-        Ok(sort) => if sort.is_value() {
+    let mut fault = TypeFault::TypeError;
+    match checker.sort(&expr, &mut fault) {
+        Some(sort) => if sort.is_value() {
             Ok(Checked::of_expr(expr, place))
         } else {
             Err(TypeFault::TypeError)
         },
-        Err(fault) => Err(fault),
+        None => Err(fault),
     }
 }
 
@@ -64,70 +68,78 @@ struct Checker<'a> {
 impl<'a> Checker<'a> {
     // The sort of an expression, or its first fault.
     #[cycle(sorts)]
-    fn sort(&self, expr: &Expr) -> Result<Sort, TypeFault>
-        ensures { Gives result (sort_of self.now.place (names self.now.captures.now) (view expr.now)) }
+    fn sort(&self, expr: &Expr, fault: &mut TypeFault) -> Option<Sort>
+        ensures { Gives result fault.new (sort_of self.now.place (names self.now.captures.now) (view expr.now)) }
     {
         match expr {
             Expr::Number(_) | Expr::Text(_) | Expr::True | Expr::False | Expr::Null => {
-                Ok(Sort::Value)
+                Some(Sort::Value)
             }
-            Expr::Variable(name) => self.variable(name.as_str()),
-            Expr::Capture(name) => self.capture(name.as_str()),
-            Expr::Group(inner) => self.sort(inner),
+            Expr::Variable(name) => self.variable(name.as_str(), fault),
+            Expr::Capture(name) => self.capture(name.as_str(), fault),
+            Expr::Group(inner) => self.sort(inner, fault),
             Expr::Member(receiver, name) => {
-                let receiver = self.sort(receiver)?;
-                member(self.alloc, receiver, name.as_str())
+                let receiver = self.sort(receiver, fault)?;
+                member(self.alloc, receiver, name.as_str(), fault)
             }
             Expr::Call(receiver, name, arguments) => {
-                let receiver = self.sort(receiver)?;
-                let given = self.given(arguments)?;
-                call(self.alloc, receiver, name.as_str(), given)
+                let receiver = self.sort(receiver, fault)?;
+                let given = self.given(arguments, fault)?;
+                call(self.alloc, receiver, name.as_str(), given, fault)
             }
             Expr::Not(operand) | Expr::Negate(operand) => {
-                let operand = self.sort(operand)?;
-                value_if(operand.is_value())
+                let operand = self.sort(operand, fault)?;
+                value_if(operand.is_value(), fault)
             }
             Expr::Operation(_, left, right) => {
-                let left = self.sort(left)?;
-                let right = self.sort(right)?;
-                value_if(left.is_value() && right.is_value())
+                let left = self.sort(left, fault)?;
+                let right = self.sort(right, fault)?;
+                value_if(left.is_value() && right.is_value(), fault)
             }
             Expr::Choice(condition, yes, no) => {
-                let condition = self.sort(condition)?;
-                let yes = self.sort(yes)?;
-                let no = self.sort(no)?;
-                value_if(condition.is_value() && yes.is_value() && no.is_value())
+                let condition = self.sort(condition, fault)?;
+                let yes = self.sort(yes, fault)?;
+                let no = self.sort(no, fault)?;
+                value_if(
+                    condition.is_value() && yes.is_value() && no.is_value(),
+                    fault,
+                )
             }
         }
     }
 
     // What a call is given.
     #[cycle(sorts)]
-    fn given(&self, arguments: &Vec<Argument>) -> Result<Given, TypeFault>
-        ensures { Gives result (given_of self.now.place (names self.now.captures.now) Given.Nothing (arguments_of arguments.now.items)) }
+    fn given(&self, arguments: &Vec<Argument>, fault: &mut TypeFault) -> Option<Given>
+        ensures { Gives result fault.new (given_of self.now.place (names self.now.captures.now) Given.Nothing (arguments_of arguments.now.items)) }
     {
         let mut found = Given::Nothing;
         for argument in arguments {
-            found = self.with_argument(found, argument)?;
+            found = self.with_argument(found, argument, fault)?;
         }
-        Ok(found)
+        Some(found)
     }
 
     // What a call is given, with one argument more.
     #[cycle(sorts)]
-    fn with_argument(&self, before: Given, argument: &Argument) -> Result<Given, TypeFault>
-        ensures { Gives result (with_argument self.now.place (names self.now.captures.now) before (view_argument argument.now)) }
+    fn with_argument(
+        &self,
+        before: Given,
+        argument: &Argument,
+        fault: &mut TypeFault,
+    ) -> Option<Given>
+        ensures { Gives result fault.new (with_argument self.now.place (names self.now.captures.now) before (view_argument argument.now)) }
     {
         match argument {
             Argument::One(value) => {
-                let sort = self.sort(value)?;
-                Ok(if sort.is_value() {
+                let sort = self.sort(value, fault)?;
+                Some(if sort.is_value() {
                     with_value(before)
                 } else {
                     Given::Other
                 })
             }
-            Argument::List(values) => Ok(if self.are_values(values)? {
+            Argument::List(values) => Some(if self.are_values(values, fault)? {
                 with_list(before)
             } else {
                 Given::Other
@@ -137,47 +149,61 @@ impl<'a> Checker<'a> {
 
     // Whether the elements of a list are all values.
     #[cycle(sorts)]
-    fn are_values(&self, elements: &Vec<Expr>) -> Result<bool, TypeFault>
-        ensures { Gives result (are_values self.now.place (names self.now.captures.now) true (views elements.now.items)) }
+    fn are_values(&self, elements: &Vec<Expr>, fault: &mut TypeFault) -> Option<bool>
+        ensures { Gives result fault.new (are_values self.now.place (names self.now.captures.now) true (views elements.now.items)) }
     {
         let mut all = true;
         for element in elements {
-            let sort = self.sort(element)?;
+            let sort = self.sort(element, fault)?;
             all = all && sort.is_value();
         }
-        Ok(all)
+        Some(all)
     }
 
     // The sort of a variable of this name.
-    fn variable(&self, name: &str) -> Result<Sort, TypeFault>
-        ensures { Gives result (sort_of self.now.place (names self.now.captures.now) (tree.Variable name.now)) }
+    fn variable(&self, name: &str, fault: &mut TypeFault) -> Option<Sort>
+        ensures { Gives result fault.new (sort_of self.now.place (names self.now.captures.now) (tree.Variable name.now)) }
     {
-        match variable(self.place, name) {
-            Some(found) => Ok(found),
-            None => Err(TypeFault::UnknownName(FaultyName::of_text(self.alloc, name)?)),
+        let found = variable(self.place, name);
+        if found.is_none() {
+            *fault = unknown(FaultyName::of_text(self.alloc, name));
         }
+        found
     }
 
     // The sort of a capture of this name.
-    fn capture(&self, name: &str) -> Result<Sort, TypeFault>
-        ensures { Gives result (sort_of self.now.place (names self.now.captures.now) (tree.Capture name.now)) }
+    fn capture(&self, name: &str, fault: &mut TypeFault) -> Option<Sort>
+        ensures { Gives result fault.new (sort_of self.now.place (names self.now.captures.now) (tree.Capture name.now)) }
     {
         if self.captures.key_of(name).is_some() {
-            Ok(Sort::Value)
+            Some(Sort::Value)
         } else {
-            Err(TypeFault::UnknownName(FaultyName::of_capture(self.alloc, name)?))
+            *fault = unknown(FaultyName::of_capture(self.alloc, name));
+            None
         }
     }
 }
 
+// That there is no such name, if memory for it is had.
+fn unknown(name: Result<FaultyName, AllocError>) -> TypeFault
+    ensures known { (text : FaultyName) → name ≡ Ok text → result ≡ TypeFault.UnknownName text }
+    ensures no_memory { IsErr name → result ≡ no_memory }
+{
+    match name {
+        Ok(name) => TypeFault::UnknownName(name),
+        Err(_) => TypeFault::NoMemory,
+    }
+}
+
 // A value, where all that it is made of are values.
-fn value_if(are_values: bool) -> Result<Sort, TypeFault>
-    ensures { result ≡ value_if are_values }
+fn value_if(are_values: bool, fault: &mut TypeFault) -> Option<Sort>
+    ensures { Gives result fault.new (value_if are_values) }
 {
     if are_values {
-        Ok(Sort::Value)
+        Some(Sort::Value)
     } else {
-        Err(TypeFault::TypeError)
+        *fault = TypeFault::TypeError;
+        None
     }
 }
 

@@ -29,13 +29,19 @@ pub(crate) fn variable(place: Place, name: &str) -> Option<Sort>
 }
 
 // The sort of a member of this name, or why there is none.
-pub(crate) fn member(alloc: Global, receiver: Sort, name: &str) -> Result<Sort, TypeFault>
-    ensures { Gives result (or_fault (member_sort receiver name.now) (use_fault name.now)) }
+pub(crate) fn member(
+    alloc: Global,
+    receiver: Sort,
+    name: &str,
+    fault: &mut TypeFault,
+) -> Option<Sort>
+    ensures { Gives result fault.new (or_fault (member_sort receiver name.now) (use_fault name.now)) }
 {
-    match member_row(receiver, name) {
-        Some(found) => Ok(found),
-        None => Err(use_fault(alloc, name)),
+    let found = member_row(receiver, name);
+    if found.is_none() {
+        *fault = use_fault(alloc, name);
     }
+    found
 }
 
 #[tactic(auto, unfolding(crate::specs::Working::SortOf::member_sort))]
@@ -58,13 +64,15 @@ pub(crate) fn call(
     receiver: Sort,
     name: &str,
     given: Given,
-) -> Result<Sort, TypeFault>
-    ensures { Gives result (or_fault (call_sort receiver name.now given) (use_fault name.now)) }
+    fault: &mut TypeFault,
+) -> Option<Sort>
+    ensures { Gives result fault.new (or_fault (call_sort receiver name.now given) (use_fault name.now)) }
 {
-    match call_row(receiver, name, given) {
-        Some(found) => Ok(found),
-        None => Err(use_fault(alloc, name)),
+    let found = call_row(receiver, name, given);
+    if found.is_none() {
+        *fault = use_fault(alloc, name);
     }
+    found
 }
 
 #[tactic(auto, unfolding(crate::specs::Working::SortOf::call_sort))]

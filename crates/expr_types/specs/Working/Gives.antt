@@ -1,5 +1,5 @@
 -- What the checker answers, memory aside.
-use Rattle.std.specs.Prelude.{◌≡◌, Result, Ok, Err}
+use Rattle.std.specs.Prelude.{◌≡◌, Option, Some, None, Result, Ok, Err}
 use Rattle.expr_types.specs.Faults.{HasName}
 use Rattle.expr_types.specs.declared.fault.TypeFault.{TypeFault}
 use Rattle.expr_types.specs.declared.fault.TypeFault.TheVariants.{NotInProfile, TypeError, UnknownName, NoMemory}
@@ -16,7 +16,7 @@ Refuses (NotInProfile f) found = found ≡ Err (NotInProfile f)
 Refuses TypeError found = found ≡ Err TypeError
 Refuses (UnknownName f) found = found ≡ Err (UnknownName f)
 
--- what is answered is what is found, unless memory for the name of a fault is refused
-abbrev pub Gives : {A : Type 0} → Result A TypeFault → Result A TypeFault → Type 0
-Gives (Ok x) found = found ≡ Ok x
-Gives (Err e) found = Refuses e found
+-- what is answered is what is found; where there is no answer, the fault that is told is found, unless memory for its name is refused
+abbrev pub Gives : {A : Type 0} → Option A → TypeFault → Result A TypeFault → Type 0
+Gives (Some x) fault found = found ≡ Ok x
+Gives None fault found = Refuses fault found

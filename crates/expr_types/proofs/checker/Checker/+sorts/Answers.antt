@@ -3,7 +3,6 @@ use Rattle.std.proofs.lemmas.Grind.{common_steps}
 use Rattle.expr_parser.specs.View.{view, view_argument}
 use Rattle.expr_parser.proofs.Knots.{view-Call, view-List}
 use Rattle.expr_types.proofs.checker.Checker.+sorts.Goals as goal
-use Rattle.expr_types.proofs.checker.Checker.+sorts.Goals.{with_argument-then-branch, with_argument-else-branch}
 
 pub sort-returns-in_err-given-in-Call : goal.sort-returns-in_err-given-in-Call
 sort-returns-in_err-given-in-Call t c = rw (ap view c.in-Call.is ∙ view-Call c.in-Call.receiver c.in-Call.name c.in-Call.arguments) (grind (arith, common_steps))
@@ -14,8 +13,8 @@ sort-returns-in_ok-given-in-Call t c = rw (ap view c.in-Call.is ∙ view-Call c.
 pub with_argument-returns-in_err-are_values-in-List : goal.with_argument-returns-in_err-are_values-in-List
 with_argument-returns-in_err-are_values-in-List t c = rw (ap view_argument c.in-List.is ∙ view-List c.in-List.values) (grind (arith, common_steps))
 
-pub with_argument-returns-after-branch : goal.with_argument-returns-after-branch
-with_argument-returns-after-branch t c = rw (ap view_argument c.in-List.is ∙ view-List c.in-List.values) (elim c.if-branch.branch [
-  | with_argument-then-branch w ↦ grind (arith, common_steps)
-  | with_argument-else-branch w ↦ grind (arith, common_steps)
-])
+pub with_argument-returns-then-branch : goal.with_argument-returns-then-branch
+with_argument-returns-then-branch t c = rw (ap view_argument c.in-List.is ∙ view-List c.in-List.values) (grind (arith, common_steps))
+
+pub with_argument-returns-else-branch : goal.with_argument-returns-else-branch
+with_argument-returns-else-branch t c = rw (ap view_argument c.in-List.is ∙ view-List c.in-List.values) (grind (arith, common_steps))
