@@ -1,4 +1,4 @@
--- The names to which the rules language gives a meaning.
+-- The names that most rules ask for.
 use Rattle.std.specs.Prelude.{◌≡◌, ◌≢◌, ℕ, List, codes, Option, Some, None}
 use Rattle.expr_tokens.specs.declared.known.KnownName.{KnownName}
 use Rattle.expr_tokens.specs.declared.known.KnownName.TheVariants as names

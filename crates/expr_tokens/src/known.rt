@@ -1,4 +1,4 @@
-//! The names to which the rules language gives a meaning.
+//! The names that most rules ask for.
 ghost use Rattle.std.specs.Prelude.{◌≡◌, ◌≢◌, IfSome, IfNone};
 ghost use Rattle.expr_tokens.specs.Known.{text_of};
 
