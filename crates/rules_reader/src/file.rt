@@ -10,7 +10,7 @@ ghost use Rattle.rules_reader.specs.declared.fault.RulesFault.{RulesFault as Rul
 use crate::fault::RulesFault;
 use crate::limits::{MAX_FILE_BYTES, MAX_RULES};
 use crate::objects::build;
-use crate::plain_text::plain;
+use crate::plain_text::{is_plain, plain};
 use crate::rules::Rules;
 use crate::shape::count_rules;
 use path_capture::Pattern;
@@ -25,6 +25,9 @@ fn read(alloc: Global, bytes: &[u8]) -> Result<Value, RulesFault>
 {
     if bytes.len() > MAX_FILE_BYTES {
         return Err(RulesFault::BadRulesJson);
+    }
+    if is_plain(bytes) {
+        return read_text(alloc, bytes);
     }
     let text = plain(alloc, bytes)?;
     read_text(alloc, &text)
@@ -61,9 +64,10 @@ fn top(value: &Value) -> Option<&Value>
 }
 
 /// The rules of a rules file: of its plain text, which takes as much memory as the file has bytes
-/// until it is read. It makes a few passes over the bytes and over each object, with a copy of the
-/// pattern of each; the rules do not borrow the bytes. (Guide "Core syntax"; comments, the limits and
-/// what counts as one fault of many are this project's profile.)
+/// until it is read, and none where the file has no slash and no ASCII control character below a
+/// space. It makes a few passes over the bytes and over each object, with a copy of the pattern of
+/// each; the rules do not borrow the bytes. (Guide "Core syntax"; comments, the limits and what counts
+/// as one fault of many are this project's profile.)
 pub fn compile(alloc: Global, bytes: &[u8]) -> Result<Rules, RulesFault>
     ensures accepted { IfOk result (States bytes.now) }
     ensures refused { IfErr result (Refuses bytes.now) }

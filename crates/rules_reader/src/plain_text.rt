@@ -46,6 +46,19 @@ fn has_no_control(piece: &[u8]) -> bool
     piece.iter().all(|byte| b' ' <= *byte)
 }
 
+/// Whether a file is its own plain text, as far as its bytes tell: it has no slash, and no ASCII
+/// control character below a space. It takes no memory. It looks at each byte of any file, and ends
+/// at none before the last, so that many can be looked at at once.
+pub(crate) fn is_plain(file: &[u8]) -> bool
+    ensures { result ≡ true → IsPlain file.now file.now }
+{
+    let mut is_plain = true;
+    for byte in file {
+        is_plain &= (b' ' <= *byte) & (*byte != b'/');
+    }
+    is_plain
+}
+
 /// The plain text of a file: its comments become spaces, and so do raw line feeds, carriage returns
 /// and tabs in its strings. A `/*` that is not closed runs to the end, and is left as it is. It takes
 /// as many bytes of memory as the file has, and looks at each byte twice.
