@@ -79,6 +79,10 @@ pub fn plain(alloc: Global, file: &[u8]) -> Result<Vec<u8>, NoMemory>
 fn push_plain(text: &mut Vec<u8>, kind: Kind, piece: &[u8]) -> Result<(), NoMemory>
     ensures { OnOk result (text.new.items ≡ text.old.items ++ map (becomes_in kind) piece.now) }
 {
+    if let [single] = piece {
+        text.push(kind.plain(*single))?;
+        return Ok(());
+    }
     if kind.leaves(piece) {
         text.extend_from_slice(piece)?;
         return Ok(());
