@@ -9,6 +9,7 @@ use Rattle.std.specs.Cmp.{first_so, second_so}
 use Rattle.std.specs.Ordering.{is_lt}
 use Rattle.std.specs.declared.cmp.Ordering.TheVariants.{Less}
 use Rattle.std.proofs.lemmas.Bool.{false≢true, leb-true, le-leb}
+use Rattle.std.proofs.lemmas.List.{map-append}
 use Rattle.std.proofs.lemmas.List.Sums.{sum_by-cons}
 use Rattle.serde_json.specs.Data.{Data, null, boolean, number, string, array, object, Members, no_members, member}
 use Rattle.serde_json.specs.Find.{as_object}
@@ -16,6 +17,8 @@ use Rattle.serde_json.specs.View.{members_view}
 use Rattle.serde_json.proofs.Views.{Entry}
 use Rattle.tree_model.specs.Key.{key_cmp}
 use Rattle.tree_model.proofs.Choices.{both_so}
+use Rattle.path_capture.specs.Pattern as parts
+use Rattle.path_capture.specs.Pattern.{part_of, part_text}
 use Rattle.path_capture.specs.declared.pattern.Part.{Part}
 use Rattle.rules_reader.specs.declared.fault.RulesFault.{RulesFault}
 use Rattle.rules_reader.specs.declared.fault.RulesFault.TheVariants.{BadRulesJson, BadRulesShape, TooManyRules, BadRule, NoMemory}
@@ -111,6 +114,13 @@ skipped_parts name d ms h = ap (λ t. cond t ((name, texts_of d) ∷ parts_of ms
 
 pub taken_parts : (name : PartText) (d : Data) (ms : Members) → is_part name ≡ true → is_object d ≡ true → parts_of (member name d ms) ≡ (name, texts_of d) ∷ parts_of ms
 taken_parts name d ms part is_obj = λ i. cond (part i && is_obj i) ((name, texts_of d) ∷ parts_of ms) (parts_of ms)
+
+-- ---- the pattern of an object below
+
+-- a pattern is longer by a part
+pub one_longer : (at now longer : parts.Pattern) (part : Part) (name : PartText) → now ≡ at → longer ≡ now ++ part_of part ∷ [] → text_of part ≡ name → texts longer ≡ texts at ++ name ∷ []
+one_longer at now longer part name same is text =
+    ap texts is ∙ map-append part_text now (part_of part ∷ []) ∙ (λ i. texts (same i) ++ text i ∷ [])
 
 -- ---- the rules below the members are counted
 

@@ -77,7 +77,7 @@ pub fn compile(alloc: Global, bytes: &[u8]) -> Result<Rules, RulesFault>
     let Some(rules) = top(&value) else {
         return Err(RulesFault::BadRulesShape(Pattern::new(alloc)));
     };
-    let count = count_rules(alloc, rules, Pattern::new(alloc))?;
+    let count = count_rules(alloc, rules, &mut Pattern::new(alloc))?;
     if count > MAX_RULES {
         return Err(RulesFault::TooManyRules);
     }

@@ -7,6 +7,7 @@ ghost use Rattle.serde_json.specs.View.{view, items_view, members_view};
 ghost use Rattle.serde_json.specs.Data.{Members, object};
 ghost use Rattle.serde_json.specs.Find.{get};
 ghost use Rattle.tree_model.specs.Key.{key_cmp};
+ghost use Rattle.path_capture.specs.Pattern.{PatternPart, Pattern as PatternParts};
 ghost use Rattle.rules_reader.specs.Part.{Pattern as PatternTexts, texts, is_capture, is_part};
 ghost use Rattle.rules_reader.specs.Book.{rules, stated, stated_count, kind_name};
 ghost use Rattle.rules_reader.specs.Node.{text_of};
@@ -25,25 +26,27 @@ use tree_model::MAX_DEPTH;
 
 /// How many rules an object and all in it state, if each of these may stand where it does; of more
 /// than a `usize` can hold, the greatest. An object that may not is refused before any in it, and
-/// these in their order: so the first refused is the least.
+/// these in their order: so the first refused is the least. The pattern is a part longer while an
+/// object below is looked at, and comes back as it was, but with an `Err`.
 #[cycle(count_rules)]
 pub(crate) fn count_rules(
     alloc: Global,
     value: &Value,
-    pattern: Pattern,
+    pattern: &mut Pattern,
 ) -> Result<usize, RulesFault>
     requires { is_object (view value.now) ≡ true }
     ensures count { IfOk result (λ count. count ≡ min (length (rules (texts_of (view value.now)))) usize.MAX) }
-    ensures sound { OnOk result (faulty (texts pattern) (view value.now) ≡ []) }
-    ensures fault { IfErr result (Names (faulty (texts pattern) (view value.now))) }
+    ensures sound { OnOk result (faulty (texts pattern.old) (view value.now) ≡ []) }
+    ensures fault { IfErr result (Names (faulty (texts pattern.old) (view value.now))) }
+    ensures back { OnOk result (pattern.new ≡ pattern.old) }
 {
     let Value::Object(members) = value else {
         unreachable!()
     };
-    if !is_sound(members, &pattern) {
-        return Err(RulesFault::BadRulesShape(pattern));
+    if !is_sound(members, pattern) {
+        return Err(RulesFault::BadRulesShape(pattern.copy()?));
     }
-    let below = count_rules_below(alloc, members, &pattern)?;
+    let below = count_rules_below(alloc, members, pattern)?;
     Ok(own_count(value).saturating_add(below))
 }
 
@@ -52,12 +55,13 @@ pub(crate) fn count_rules(
 fn count_rules_below(
     alloc: Global,
     members: &Map<String, Value>,
-    pattern: &Pattern,
+    pattern: &mut Pattern,
 ) -> Result<usize, RulesFault>
     ensures count { IfOk result (λ count. count ≡ min (rule_count (parts_of (members_view members.now.entries))) usize.MAX) }
     ensures ascending { OnOk result (is_sorted key_cmp (parts_of (members_view members.now.entries)) ≡ true) }
-    ensures sound { OnOk result (faulty_inner (texts pattern.now) (members_view members.now.entries) ≡ []) }
-    ensures fault { IfErr result (Names (faulty_inner (texts pattern.now) (members_view members.now.entries))) }
+    ensures sound { OnOk result (faulty_inner (texts pattern.old) (members_view members.now.entries) ≡ []) }
+    ensures fault { IfErr result (Names (faulty_inner (texts pattern.old) (members_view members.now.entries))) }
+    ensures back { OnOk result (pattern.new ≡ pattern.old) }
 {
     let mut count = 0usize;
     for (name, member) in members.iter() {
@@ -67,10 +71,18 @@ fn count_rules_below(
         let Some(part) = part(alloc, name.as_str())? else {
             continue;
         };
-        let longer = below(pattern, &part)?;
-        count = count.saturating_add(count_rules(alloc, member, longer)?);
+        pattern.push(part)?;
+        count = count.saturating_add(count_rules(alloc, member, pattern)?);
+        shorten(pattern);
     }
     Ok(count)
+}
+
+// Takes the last part of a pattern away.
+fn shorten(pattern: &mut Pattern)
+    ensures { (above : PatternParts) (last : PatternPart) → pattern.old ≡ above ++ last ∷ [] → pattern.new ≡ above }
+{
+    pattern.pop();
 }
 
 // How many rules an object itself states.
