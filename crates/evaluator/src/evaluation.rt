@@ -504,7 +504,7 @@ fn operated<'a>(
         _ => {
             let mut second = Value::Null;
             value(arena, right, env, &mut second)?;
-            of_both(arena, operator, second, found)
+            of_both(arena, operator, &second, found)
         }
     }
 }

@@ -1,6 +1,6 @@
 //! What operators make of values.
 ghost use Rattle.std.specs.Prelude.{◌≡◌, ◌++◌, ◌+ℤ◌, ◌-ℤ◌, ◌*ℤ◌, neg_ℤ, Some, None, OnOk, IsErrOf, option_map, pos};
-ghost use Rattle.evaluator.specs.Value.{null, truth, in_range};
+ghost use Rattle.evaluator.specs.Value.{null, truth, whole, words, in_range};
 ghost use Rattle.evaluator.specs.Operators.{in_truth, is_opaque, same, equal, compared, minus, times, remainder, minus_of, plus, text_within, of_both};
 ghost use Rattle.evaluator.specs.Working.Parts.{value_of, numbers_in};
 
@@ -43,9 +43,11 @@ fn same(left: Value, right: Value) -> bool
     }
 }
 
-fn equal(left: Value, right: Value) -> Option<bool>
-    ensures { result ≡ equal (value_of left.entry) (value_of right.entry) }
+// The values are lent: a call that is given a value by itself copies it first.
+fn equal(left: &Value, right: &Value) -> Option<bool>
+    ensures { result ≡ equal (value_of left.now) (value_of right.now) }
 {
+    let (left, right) = (*left, *right);
     if is_opaque(left) && is_opaque(right) {
         None
     } else {
@@ -201,37 +203,52 @@ fn joined<'a>(arena: &'a Bump, front: &str, back: &str, found: &mut Value<'a>) -
     if front.len() > MAX_TEXT_BYTES || back.len() > MAX_TEXT_BYTES - front.len() {
         return Err(Stop::Erred);
     }
-    let mut text = String::with_capacity(arena, front.len() + back.len())?;
+    let mut text = String::new(arena);
+    text.reserve_exact(front.len() + back.len())?;
     text.push_str(front)?;
     text.push_str(back)?;
     *found = Value::Words(into_bump_str(text));
     Ok(())
 }
 
+// A text behind a number.
 #[inline(never)]
-fn plus<'a>(
+fn joined_to_number<'a>(arena: &'a Bump, a: i64, b: &str, found: &mut Value<'a>) -> Result<(), Stop>
+    ensures value { OnOk result (plus (whole a) (words b.now) ≡ Some (value_of found.new)) }
+    ensures erred { IsErrOf result Stop.Erred → plus (whole a) (words b.now) ≡ None }
+{
+    let digits = a.to_string(arena)?;
+    joined(arena, digits.as_str(), b, found)
+}
+
+// A number behind a text.
+#[inline(never)]
+fn joined_with_number<'a>(
     arena: &'a Bump,
-    left: Value<'a>,
-    right: Value<'a>,
+    a: &str,
+    b: i64,
     found: &mut Value<'a>,
 ) -> Result<(), Stop>
-    ensures value { OnOk result (plus (value_of left.entry) (value_of right.entry) ≡ Some (value_of found.new)) }
-    ensures erred { IsErrOf result Stop.Erred → plus (value_of left.entry) (value_of right.entry) ≡ None }
+    ensures value { OnOk result (plus (words a.now) (whole b) ≡ Some (value_of found.new)) }
+    ensures erred { IsErrOf result Stop.Erred → plus (words a.now) (whole b) ≡ None }
 {
-    match left {
-        Value::Whole(a) => match right {
+    let digits = b.to_string(arena)?;
+    joined(arena, a, digits.as_str(), found)
+}
+
+// The sum, put where the left value was.
+fn plus<'a>(arena: &'a Bump, right: &Value<'a>, found: &mut Value<'a>) -> Result<(), Stop>
+    ensures value { OnOk result (plus (value_of found.old) (value_of right.now) ≡ Some (value_of found.new)) }
+    ensures erred { IsErrOf result Stop.Erred → plus (value_of found.old) (value_of right.now) ≡ None }
+{
+    match *found {
+        Value::Whole(a) => match *right {
             Value::Whole(b) => put_value(sum(a, b), found),
-            Value::Words(b) => {
-                let digits = a.to_string(arena)?;
-                joined(arena, digits.as_str(), b, found)
-            }
+            Value::Words(b) => joined_to_number(arena, a, b, found),
             _ => Err(Stop::Erred),
         },
-        Value::Words(a) => match right {
-            Value::Whole(b) => {
-                let digits = b.to_string(arena)?;
-                joined(arena, a, digits.as_str(), found)
-            }
+        Value::Words(a) => match *right {
+            Value::Whole(b) => joined_with_number(arena, a, b, found),
             Value::Words(b) => joined(arena, a, b, found),
             _ => Err(Stop::Erred),
         },
@@ -245,24 +262,23 @@ fn plus<'a>(
 pub(crate) fn of_both<'a>(
     arena: &'a Bump,
     operator: Operator,
-    right: Value<'a>,
+    right: &Value<'a>,
     found: &mut Value<'a>,
 ) -> Result<(), Stop>
-    ensures value { OnOk result (of_both operator (value_of found.old) (value_of right.entry) ≡ Some (value_of found.new)) }
-    ensures erred { IsErrOf result Stop.Erred → of_both operator (value_of found.old) (value_of right.entry) ≡ None }
+    ensures value { OnOk result (of_both operator (value_of found.old) (value_of right.now) ≡ Some (value_of found.new)) }
+    ensures erred { IsErrOf result Stop.Erred → of_both operator (value_of found.old) (value_of right.now) ≡ None }
 {
-    let left = *found;
     match operator {
-        Operator::Equal => put_truth(wanted(equal(left, right))?, found),
-        Operator::NotEqual => put_truth(!wanted(equal(left, right))?, found),
-        Operator::Less => put_truth(wanted(compared(left, right))?.is_lt(), found),
-        Operator::LessOrEqual => put_truth(wanted(compared(left, right))?.is_le(), found),
-        Operator::Greater => put_truth(wanted(compared(left, right))?.is_gt(), found),
-        Operator::GreaterOrEqual => put_truth(wanted(compared(left, right))?.is_ge(), found),
-        Operator::Add => plus(arena, left, right, found),
-        Operator::Subtract => put_value(minus(left, right), found),
-        Operator::Multiply => put_value(times(left, right), found),
-        Operator::Remainder => put_value(remainder(left, right), found),
+        Operator::Equal => put_truth(wanted(equal(found, right))?, found),
+        Operator::NotEqual => put_truth(!wanted(equal(found, right))?, found),
+        Operator::Less => put_truth(wanted(compared(*found, *right))?.is_lt(), found),
+        Operator::LessOrEqual => put_truth(wanted(compared(*found, *right))?.is_le(), found),
+        Operator::Greater => put_truth(wanted(compared(*found, *right))?.is_gt(), found),
+        Operator::GreaterOrEqual => put_truth(wanted(compared(*found, *right))?.is_ge(), found),
+        Operator::Add => plus(arena, right, found),
+        Operator::Subtract => put_value(minus(*found, *right), found),
+        Operator::Multiply => put_value(times(*found, *right), found),
+        Operator::Remainder => put_value(remainder(*found, *right), found),
         Operator::Or | Operator::And => Err(Stop::Erred),
     }
 }
