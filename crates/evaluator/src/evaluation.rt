@@ -20,7 +20,7 @@ use crate::calls::{
     snapshot_test,
 };
 use crate::env::Env;
-use crate::members::{capture, member, member_value as member_value_of, variable};
+use crate::members::{auth_value, capture, member, member_value as member_value_of, variable};
 use crate::operators::{in_truth, is_something, literal, minus_of, of_both};
 use crate::snapshot::{Found, Snapshot, child_at};
 use crate::value::{Part, Stop, Value, in_place, in_value, put_part, put_truth, put_value, wanted};
@@ -208,10 +208,32 @@ fn capture_value<'a>(name: &str, env: &Env<'a, '_>, found: &mut Value<'a>) -> Re
     put_value(in_value(part), found)
 }
 
-// The value of what a name behind a dot means.
+// The value of what a name behind a dot means. Most stand behind `auth`, which is then no part that has to be looked
+// into.
 #[cycle(evaluation)]
 #[inline(never)]
 fn member_value<'a>(
+    arena: &'a Bump,
+    receiver: &'a Expr,
+    name: &Name,
+    env: &Env<'a, '_>,
+    found: &mut Value<'a>,
+) -> Result<(), Stop>
+    ensures value { OnOk result (as_value (option_and_then (member name.now) (mean (view receiver.now) (env_of env.now))) ≡ Some (value_of found.new)) }
+    ensures erred { IsErrOf result Stop.Erred → as_value (option_and_then (member name.now) (mean (view receiver.now) (env_of env.now))) ≡ None }
+{
+    if let Expr::Variable(before) = receiver
+        && let Some(Part::Auth(who)) = variable(before, env)
+    {
+        return put_value(auth_value(name, who), found);
+    }
+    member_value_of_part(arena, receiver, name, env, found)
+}
+
+// The same behind what may be another part.
+#[cycle(evaluation)]
+#[inline(never)]
+fn member_value_of_part<'a>(
     arena: &'a Bump,
     receiver: &'a Expr,
     name: &Name,

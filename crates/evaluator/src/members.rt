@@ -1,7 +1,7 @@
 //! What variables, captures and names behind a dot mean.
 ghost use Rattle.std.specs.Prelude.{◌≡◌, option_map};
 ghost use Rattle.evaluator.specs.Asked.{asked_of};
-ghost use Rattle.evaluator.specs.Value.{value, as_value};
+ghost use Rattle.evaluator.specs.Value.{value, as_value, record_if};
 ghost use Rattle.evaluator.specs.Members.{text_or_null, auth_part, claim, query_limit, query_bound, query_field, value_part, member};
 ghost use Rattle.evaluator.specs.Env.{env_of, access_of, variable, capture, asked_in, coming_in};
 ghost use Rattle.evaluator.specs.Working.Known.{variable_known, auth_part_known};
@@ -11,7 +11,7 @@ use crate::asked::Asked;
 use crate::env::{Access, Env};
 use crate::identity::{Claims, Identity};
 use crate::texts::length_of;
-use crate::value::{Part, Value, in_value, leaf_or_null, limit_or_null, text_or_null};
+use crate::value::{Part, Value, leaf_or_null, limit_or_null, text_or_null};
 use expr_tokens::{KnownName, Name};
 
 // ---- variables and captures
@@ -88,7 +88,7 @@ fn auth_part_known<'a>(known: Option<KnownName>, who: Option<&'a Identity>) -> O
 
 // The same, where a value is wanted.
 #[inline(always)]
-fn auth_value<'a>(name: &Name, who: Option<&'a Identity>) -> Option<Value<'a>>
+pub(crate) fn auth_value<'a>(name: &Name, who: Option<&'a Identity>) -> Option<Value<'a>>
     ensures { option_map value_of result ≡ as_value (auth_part name.now (option_map (λ a. a.now) who.entry)) }
 {
     auth_value_known(name.known(), who)
@@ -101,8 +101,18 @@ fn auth_value_known<'a>(known: Option<KnownName>, who: Option<&'a Identity>) -> 
     match known {
         Some(KnownName::Uid) => Some(uid_of(who)),
         Some(KnownName::Provider) => Some(provider_of(who)),
-        Some(KnownName::Token) => in_value(Part::Token(claims_of(who))),
+        Some(KnownName::Token) => Some(record_or_null(who)),
         _ => None,
+    }
+}
+
+// What `auth.token` is where a value is wanted.
+fn record_or_null<'a>(who: Option<&'a Identity>) -> Value<'a>
+    ensures { value_of result ≡ record_if (option_map (λ a. a.now.claims) who.entry) }
+{
+    match who {
+        Some(_) => Value::Record,
+        None => Value::Null,
     }
 }
 
