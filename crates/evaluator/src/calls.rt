@@ -7,7 +7,8 @@ ghost use Rattle.evaluator.specs.Working.Known.{test_known, call_known};
 ghost use Rattle.evaluator.specs.Working.Parts.{value_of, part_of, holder, result_of};
 
 use crate::snapshot::{
-    Found, Snapshot, child_at, exists_at, exists_below, has_children_at, primitive_at, val_at,
+    Found, Snapshot, at_keys, child_at, exists_at, exists_below, has_children_at, primitive_at,
+    val_at,
 };
 use crate::texts::{text_change, text_test};
 use crate::value::{Part, Stop, Value, put_part, put_value, wanted};
@@ -92,6 +93,17 @@ pub(crate) fn child_of<'a>(arena: &'a Bump, place: &'a Snapshot<'a>, given: Valu
 {
     match given {
         Value::Words(text) => child_at(arena, place, text),
+        _ => Found::Erred,
+    }
+}
+
+// The same, where the text mostly is several keys.
+pub(crate) fn below_of<'a>(arena: &'a Bump, place: &'a Snapshot<'a>, given: Value<'a>) -> Found<'a>
+    ensures value { IfOk (result_of result) (λ at. child_of place.now (value_of given.entry) ≡ Some at.now) }
+    ensures erred { IsErrOf (result_of result) Stop.Erred → child_of place.now (value_of given.entry) ≡ None }
+{
+    match given {
+        Value::Words(text) => Found::of(at_keys(arena, place, text)),
         _ => Found::Erred,
     }
 }

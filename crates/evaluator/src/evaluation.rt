@@ -16,8 +16,8 @@ ghost use Rattle.evaluator.specs.Holds.{outcome};
 ghost use Rattle.evaluator.specs.Working.Parts.{value_of, part_of, argument_value, as_place, result_of};
 
 use crate::calls::{
-    called_with, called_with_nothing, called_with_two, child_of, has_child, holder, snapshot_call,
-    snapshot_test,
+    below_of, called_with, called_with_nothing, called_with_two, child_of, has_child, holder,
+    snapshot_call, snapshot_test,
 };
 use crate::env::Env;
 use crate::members::{auth_value, capture, member, member_value as member_value_of, variable};
@@ -340,12 +340,47 @@ fn key_place<'a>(
     ensures value { IfOk (result_of result) (λ found. option_and_then (child_of at.now) (as_value (mean (view key.now) (env_of env.now))) ≡ Some found.now) }
     ensures erred { IsErrOf (result_of result) Stop.Erred → option_and_then (child_of at.now) (as_value (mean (view key.now) (env_of env.now))) ≡ None }
 {
-    if let Expr::Text(text) = key {
-        return child_at(arena, at, text.as_str());
+    match key {
+        Expr::Text(text) => child_at(arena, at, text.as_str()),
+        Expr::Operation(_, _, _) => made_place(arena, at, key, env),
+        _ => value_place(arena, at, key, env),
     }
+}
+
+// The child by the value of a key.
+#[cycle(evaluation)]
+#[inline(never)]
+fn value_place<'a>(
+    arena: &'a Bump,
+    at: &'a Snapshot<'a>,
+    key: &'a Expr,
+    env: &Env<'a, '_>,
+) -> Found<'a>
+    ensures value { IfOk (result_of result) (λ found. option_and_then (child_of at.now) (as_value (mean (view key.now) (env_of env.now))) ≡ Some found.now) }
+    ensures erred { IsErrOf (result_of result) Stop.Erred → option_and_then (child_of at.now) (as_value (mean (view key.now) (env_of env.now))) ≡ None }
+{
     let mut found = Value::Null;
     match value(arena, key, env, &mut found) {
         Ok(()) => child_of(arena, at, found),
+        Err(stop) => Found::stopped(stop),
+    }
+}
+
+// The child by a text that an operator makes, which mostly is several keys.
+#[cycle(evaluation)]
+#[inline(never)]
+fn made_place<'a>(
+    arena: &'a Bump,
+    at: &'a Snapshot<'a>,
+    key: &'a Expr,
+    env: &Env<'a, '_>,
+) -> Found<'a>
+    ensures value { IfOk (result_of result) (λ found. option_and_then (child_of at.now) (as_value (mean (view key.now) (env_of env.now))) ≡ Some found.now) }
+    ensures erred { IsErrOf (result_of result) Stop.Erred → option_and_then (child_of at.now) (as_value (mean (view key.now) (env_of env.now))) ≡ None }
+{
+    let mut found = Value::Null;
+    match value(arena, key, env, &mut found) {
+        Ok(()) => below_of(arena, at, found),
         Err(stop) => Found::stopped(stop),
     }
 }

@@ -257,7 +257,8 @@ pub(crate) fn child_at<'a>(arena: &'a Bump, place: &'a Snapshot<'a>, text: &'a s
 }
 
 // The same, by one key after another.
-fn at_keys<'a>(
+#[inline(never)]
+pub(crate) fn at_keys<'a>(
     arena: &'a Bump,
     place: &'a Snapshot<'a>,
     text: &'a str,
