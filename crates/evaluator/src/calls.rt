@@ -109,6 +109,7 @@ pub(crate) fn below_of<'a>(arena: &'a Bump, place: &'a Snapshot<'a>, given: Valu
 }
 
 // Whether something exists at the child.
+#[inline(always)]
 #[tactic(auto, unfolding(crate::specs::Calls::has_child))]
 pub(crate) fn has_child<'a>(
     arena: &'a Bump,

@@ -204,8 +204,10 @@ fn capture_value<'a>(name: &str, env: &Env<'a, '_>, found: &mut Value<'a>) -> Re
     ensures value { OnOk result (as_value (capture name.now (env_of env.now)) ≡ Some (value_of found.new)) }
     ensures erred { IsErrOf result Stop.Erred → as_value (capture name.now (env_of env.now)) ≡ None }
 {
-    let part = wanted(capture(name, env))?;
-    put_value(in_value(part), found)
+    match env.captures.key_of(name) {
+        Some(key) => put_value(Some(Value::Words(key.text())), found),
+        None => Err(Stop::Erred),
+    }
 }
 
 // The value of what a name behind a dot means. Most stand behind `auth`, which is then no part that has to be looked
@@ -422,6 +424,7 @@ fn truth<'a>(arena: &'a Bump, expr: &'a Expr, env: &Env<'a, '_>) -> Result<bool,
     ensures value { IfOk result (λ b. as_truth (as_value (mean (view expr.now) (env_of env.now))) ≡ Some b) }
     ensures erred { IsErrOf result Stop.Erred → as_truth (as_value (mean (view expr.now) (env_of env.now))) ≡ None }
 {
+    let mut found = Value::Null;
     match expr {
         Expr::Operation(Operator::And, left, right) => {
             let left = truth(arena, left, env)?;
@@ -433,7 +436,6 @@ fn truth<'a>(arena: &'a Bump, expr: &'a Expr, env: &Env<'a, '_>) -> Result<bool,
         }
         Expr::Not(inner) => Ok(!truth(arena, inner, env)?),
         Expr::Operation(Operator::NotEqual, left, right) if is_null(right) => {
-            let mut found = Value::Null;
             value(arena, left, env, &mut found)?;
             Ok(is_something(found))
         }
@@ -443,7 +445,6 @@ fn truth<'a>(arena: &'a Bump, expr: &'a Expr, env: &Env<'a, '_>) -> Result<bool,
             truth(arena, if b { yes } else { no }, env)
         }
         _ => {
-            let mut found = Value::Null;
             value(arena, expr, env, &mut found)?;
             wanted(in_truth(found))
         }

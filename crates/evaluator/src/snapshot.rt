@@ -275,6 +275,7 @@ pub(crate) fn at_keys<'a>(
 }
 
 // Whether something exists at a text of keys. Where the text is the key of a child it does, and no place is taken.
+#[inline(never)]
 pub(crate) fn exists_below<'a>(
     arena: &'a Bump,
     place: &'a Snapshot<'a>,
