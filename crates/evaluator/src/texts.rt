@@ -12,11 +12,14 @@ use bumpalo::Bump;
 use bumpalo::collections::into_bump_str;
 use tree_model::MAX_TEXT_BYTES;
 
-// How many Unicode scalar values a text has, in one pass.
+// How many Unicode scalar values a text has, in one pass. A text of ASCII alone has one for each byte.
 fn scalars(text: &str) -> usize
     ensures count { result ≡ length (chars text.now) }
     ensures small { result ≤ length text.now }
 {
+    if text.is_ascii() {
+        return text.len();
+    }
     text.chars().count()
 }
 

@@ -1,7 +1,10 @@
-use Rattle.std.proofs.Common.{◌≡◌, length, arith, rules, ap}
+use Rattle.std.proofs.Common.{◌≡◌, length, arith, rules, ap, sym}
 use Rattle.std.specs.Str.{chars}
-use Rattle.std.proofs.lemmas.Str.{chars_from_encodes, encodes-chars, length-le-encodes}
+use Rattle.std.proofs.lemmas.Str.{chars_from_encodes, encodes-chars, length-le-encodes, chars-IsAscii}
 use Rattle.evaluator.proofs.texts.scalars.Goals as goal
+
+pub returns-then-is_ascii-clause-count : goal.returns-then-is_ascii-clause-count
+returns-then-is_ascii-clause-count c = ap length (sym (chars-IsAscii c.args.text.now c.if-is_ascii.ensures.cases))
 
 pub returns-clause-count : goal.returns-clause-count
 returns-clause-count c = search (rules, chars_from_encodes)
