@@ -6,7 +6,7 @@ ghost use Rattle.expr_parser.specs.View.{view, view_argument, views, arguments};
 ghost use Rattle.expr_parser.specs.Tree.{Null, argument, no_argument};
 ghost use Rattle.expr_types.specs.HasSort.{is_value};
 ghost use Rattle.evaluator.specs.Value as meanings;
-ghost use Rattle.evaluator.specs.Value.{as_value, sort_of_part, value, truth, in_range};
+ghost use Rattle.evaluator.specs.Value.{null, as_value, sort_of_part, value, truth, in_range};
 ghost use Rattle.evaluator.specs.Operators.{in_truth, as_truth, other_truth, minus_of, both, either, operated};
 ghost use Rattle.evaluator.specs.Calls.{call_of, called_with, called_with_two, called_with_list, have_children, child_of, called, nothing};
 ghost use Rattle.evaluator.specs.Members.{member};
@@ -154,7 +154,8 @@ fn value_part<'a>(
     Ok(())
 }
 
-// Its value, where one is wanted. What is seldom asked for one is looked into as a part.
+// Its value, where one is wanted. What is seldom asked for one is looked into as a part. Each way ends with one call,
+// so that nothing has to be kept for the time behind it.
 #[cycle(evaluation)]
 #[inline(never)]
 fn value<'a>(
@@ -172,19 +173,56 @@ fn value<'a>(
         Expr::True => put_truth(true, found),
         Expr::False => put_truth(false, found),
         Expr::Null => put_value(Some(Value::Null), found),
-        Expr::Operation(operator, left, right) => {
-            value(arena, left, env, found)?;
-            operated(arena, *operator, right, env, found)
-        }
         Expr::Variable(name) => variable_value(name, env, found),
         Expr::Capture(name) => capture_value(name.as_str(), env, found),
         Expr::Member(receiver, name) => member_value(arena, receiver, name, env, found),
         Expr::Group(inner) => value(arena, inner, env, found),
+        Expr::Operation(_, _, _) | Expr::Choice(_, _, _) => compound_value(arena, expr, env, found),
+        _ => call_value(arena, expr, env, found),
+    }
+}
+
+// The value of what has several operands.
+#[cycle(evaluation)]
+#[inline(never)]
+fn compound_value<'a>(
+    arena: &'a Bump,
+    expr: &'a Expr,
+    env: &Env<'a, '_>,
+    found: &mut Value<'a>,
+) -> Result<(), Stop>
+    ensures value { OnOk result (as_value (mean (view expr.now) (env_of env.now)) ≡ Some (value_of found.new)) }
+    ensures erred { IsErrOf result Stop.Erred → as_value (mean (view expr.now) (env_of env.now)) ≡ None }
+{
+    match expr {
+        Expr::Operation(operator, left, right) => {
+            value(arena, left, env, found)?;
+            operated(arena, *operator, right, env, found)
+        }
         Expr::Choice(condition, yes, no) => {
             let b = truth(arena, condition, env)?;
             value(arena, if b { yes } else { no }, env, found)
         }
         _ => call_value(arena, expr, env, found),
+    }
+}
+
+// Its value, where a boolean is wanted, which mostly an operator or a call gives.
+#[cycle(evaluation)]
+#[inline(always)]
+fn tested_value<'a>(
+    arena: &'a Bump,
+    expr: &'a Expr,
+    env: &Env<'a, '_>,
+    found: &mut Value<'a>,
+) -> Result<(), Stop>
+    ensures value { OnOk result (as_value (mean (view expr.now) (env_of env.now)) ≡ Some (value_of found.new)) }
+    ensures erred { IsErrOf result Stop.Erred → as_value (mean (view expr.now) (env_of env.now)) ≡ None }
+{
+    match expr {
+        Expr::Operation(_, _, _) => compound_value(arena, expr, env, found),
+        Expr::Call(_, _, _) => call_value(arena, expr, env, found),
+        _ => value(arena, expr, env, found),
     }
 }
 
@@ -424,7 +462,26 @@ fn truth<'a>(arena: &'a Bump, expr: &'a Expr, env: &Env<'a, '_>) -> Result<bool,
     ensures value { IfOk result (λ b. as_truth (as_value (mean (view expr.now) (env_of env.now))) ≡ Some b) }
     ensures erred { IsErrOf result Stop.Erred → as_truth (as_value (mean (view expr.now) (env_of env.now))) ≡ None }
 {
-    let mut found = Value::Null;
+    match expr {
+        Expr::Operation(Operator::And | Operator::Or, _, _) | Expr::Choice(_, _, _) => {
+            compound_truth(arena, expr, env)
+        }
+        Expr::Operation(Operator::NotEqual, left, right) if is_null(right) => {
+            is_there(arena, left, env)
+        }
+        Expr::Not(inner) => Ok(!truth(arena, inner, env)?),
+        Expr::Group(inner) => truth(arena, inner, env),
+        _ => value_truth(arena, expr, env),
+    }
+}
+
+// Whether that is true which has several operands that may be.
+#[cycle(evaluation)]
+#[inline(never)]
+fn compound_truth<'a>(arena: &'a Bump, expr: &'a Expr, env: &Env<'a, '_>) -> Result<bool, Stop>
+    ensures value { IfOk result (λ b. as_truth (as_value (mean (view expr.now) (env_of env.now))) ≡ Some b) }
+    ensures erred { IsErrOf result Stop.Erred → as_truth (as_value (mean (view expr.now) (env_of env.now))) ≡ None }
+{
     match expr {
         Expr::Operation(Operator::And, left, right) => {
             let left = truth(arena, left, env)?;
@@ -434,21 +491,36 @@ fn truth<'a>(arena: &'a Bump, expr: &'a Expr, env: &Env<'a, '_>) -> Result<bool,
             let left = truth(arena, left, env)?;
             either(arena, left, right, env)
         }
-        Expr::Not(inner) => Ok(!truth(arena, inner, env)?),
-        Expr::Operation(Operator::NotEqual, left, right) if is_null(right) => {
-            value(arena, left, env, &mut found)?;
-            Ok(is_something(found))
-        }
-        Expr::Group(inner) => truth(arena, inner, env),
         Expr::Choice(condition, yes, no) => {
             let b = truth(arena, condition, env)?;
             truth(arena, if b { yes } else { no }, env)
         }
-        _ => {
-            value(arena, expr, env, &mut found)?;
-            wanted(in_truth(found))
-        }
+        _ => value_truth(arena, expr, env),
     }
+}
+
+// Whether its value is true.
+#[cycle(evaluation)]
+#[inline(never)]
+fn value_truth<'a>(arena: &'a Bump, expr: &'a Expr, env: &Env<'a, '_>) -> Result<bool, Stop>
+    ensures value { IfOk result (λ b. as_truth (as_value (mean (view expr.now) (env_of env.now))) ≡ Some b) }
+    ensures erred { IsErrOf result Stop.Erred → as_truth (as_value (mean (view expr.now) (env_of env.now))) ≡ None }
+{
+    let mut found = Value::Null;
+    tested_value(arena, expr, env, &mut found)?;
+    wanted(in_truth(found))
+}
+
+// Whether its value is another than null.
+#[cycle(evaluation)]
+#[inline(never)]
+fn is_there<'a>(arena: &'a Bump, expr: &'a Expr, env: &Env<'a, '_>) -> Result<bool, Stop>
+    ensures value { IfOk result (λ b. operated Operator.NotEqual (as_value (mean (view expr.now) (env_of env.now))) (Some null) ≡ Some (truth b)) }
+    ensures erred { IsErrOf result Stop.Erred → as_value (mean (view expr.now) (env_of env.now)) ≡ None }
+{
+    let mut found = Value::Null;
+    value(arena, expr, env, &mut found)?;
+    Ok(is_something(found))
 }
 
 // Whether it is the literal null.
@@ -539,7 +611,7 @@ fn operation<'a>(
 
 // What an operator gives behind its left value, which is there. Where that decides, the right operand is not evaluated.
 #[cycle(evaluation)]
-#[inline(never)]
+#[inline(always)]
 fn operated<'a>(
     arena: &'a Bump,
     operator: Operator,

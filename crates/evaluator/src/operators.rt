@@ -259,6 +259,7 @@ fn plus<'a>(arena: &'a Bump, right: &Value<'a>, found: &mut Value<'a>) -> Result
 // ---- all operators that need both values
 
 // What an operator makes of the left value and the right one, put where the left one was.
+#[inline(always)]
 pub(crate) fn of_both<'a>(
     arena: &'a Bump,
     operator: Operator,
