@@ -1,6 +1,7 @@
 -- A place and the places round it: the root, one key further down, and the one above.
-use Rattle.std.proofs.Common.{◌≡◌, ℕ, ◌+◌, ◌<◌, [], ◌∷◌, ◌++◌, length, Bool, true, Option, Some, None, IsSome, is_some, refl, sym, ◌∙◌, ap, subst, arith, length-append}
+use Rattle.std.proofs.Common.{◌≡◌, ℕ, ◌+◌, ◌<◌, [], ◌∷◌, ◌++◌, length, Bool, true, false, Option, Some, None, IsSome, is_some, refl, sym, ◌∙◌, ap, subst, arith, length-append}
 use Rattle.std.specs.Prelude.{◌≢◌}
+use Rattle.std.proofs.lemmas.Bool.{false≢true}
 use Rattle.std.specs.Cmp.{first_so}
 use Rattle.tree_model.specs.declared.limits.TheConstants.{MAX_DEPTH}
 use Rattle.tree_model.specs.Key.{Key, is_key}
@@ -33,13 +34,25 @@ down_is t p k =
     (λ e. ap (λ u. down k (non_null u)) e ∙ ap (down k) non_null-null ∙ sym non_null-null ∙ ap non_null (sym (sub-null (k ∷ [])) ∙ ap (λ u. sub u (k ∷ [])) (sym e) ∙ sub-sub t p (k ∷ [])))
     (λ some. ap (down k) (non_null-some _ some) ∙ ap non_null (sub-sub t p (k ∷ [])))
 
-pub below_place : (view there found : Option Tree) (deep : ℕ) (s t : Snapshot) (k : Key) → s ≡ t → IsPlace view deep s → found ≡ down k there → there ≡ non_null (sub t.0 t.1) → length t.1 < MAX_DEPTH → IsPlace found (deep + 1) (below t k)
-below_place view there found deep s t k e here is stands room =
-    let h : IsPlace view deep t = subst (λ (u : Snapshot). IsPlace view deep u) e here in
+pub below_place : (view there found : Option Tree) (seen : Bool) (deep : ℕ) (s t : Snapshot) (k : Key) → s ≡ t → IsPlace view seen deep s → found ≡ down k there → there ≡ non_null (sub t.0 t.1) → length t.1 < MAX_DEPTH → IsPlace found true (deep + 1) (below t k)
+below_place view there found seen deep s t k e here is stands room =
+    let h : IsPlace view seen deep t = subst (λ (u : Snapshot). IsPlace view seen deep u) e here in
     let long : length (t.1 ++ k ∷ []) ≡ length t.1 + 1 = length-append t.1 (k ∷ []) in
     let d : deep ≡ length t.1 = h.depth in
     record {
-      at = is ∙ ap (down k) stands ∙ down_is t.0 t.1 k;
+      at = λ _. is ∙ ap (down k) stands ∙ down_is t.0 t.1 k;
+      depth = omega arith;
+      room = omega arith;
+    }
+
+-- the same, where what stands there was not looked up
+pub passed_place : (view found : Option Tree) (seen : Bool) (deep : ℕ) (s t : Snapshot) (k : Key) → s ≡ t → IsPlace view seen deep s → length t.1 < MAX_DEPTH → IsPlace found false (deep + 1) (below t k)
+passed_place view found seen deep s t k e here room =
+    let h : IsPlace view seen deep t = subst (λ (u : Snapshot). IsPlace view seen deep u) e here in
+    let long : length (t.1 ++ k ∷ []) ≡ length t.1 + 1 = length-append t.1 (k ∷ []) in
+    let d : deep ≡ length t.1 = h.depth in
+    record {
+      at = λ seen_there. absurd (false≢true seen_there);
       depth = omega arith;
       room = omega arith;
     }

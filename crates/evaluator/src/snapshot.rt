@@ -19,11 +19,12 @@ use std::marker::Model;
 use tree_model::MAX_DEPTH;
 
 /// A location of a tree: what stands there, and the location above with the key between, so that
-/// nothing is looked up twice. Contracts see the whole tree and the path, of at most 32 keys.
-/// (Reference, `RuleDataSnapshot`.)
+/// nothing is looked up twice. Of a location that is only passed, nothing is looked up. Contracts see the whole
+/// tree and the path, of at most 32 keys. (Reference, `RuleDataSnapshot`.)
 #[cycle(snapshot)]
 #[derive(Drop)]
 pub struct Snapshot<'a> {
+    // None also where it was not looked up.
     view: Option<View<'a>>,
     depth: usize,
     above: Above<'a>,
@@ -34,6 +35,8 @@ pub struct Snapshot<'a> {
 pub(crate) enum Above<'a> {
     Nothing,
     Parent(&'a Snapshot<'a>, &'a str),
+    // What stands below this key was not looked up.
+    Passed(&'a Snapshot<'a>, &'a str),
 }
 
 /// What is found where a location is wanted. A call hands it back in two registers, while it writes a `Result` of a
@@ -87,11 +90,11 @@ impl<'a> Model for Snapshot<'a> {
 
     ghost coded = { coded× tree_code (coded_list (coded_list coded_ℕ)) };
 
-    ghost use Rattle.evaluator.specs.Working.Places.{snapshot_of, IsPlace};
+    ghost use Rattle.evaluator.specs.Working.Places.{snapshot_of, is_seen, IsPlace};
 
     ghost view = { λ s. snapshot_of s.view s.above };
 
-    ghost invariant = { λ s. IsPlace s.view s.depth (snapshot_of s.view s.above) };
+    ghost invariant = { λ s. IsPlace s.view (is_seen s.above) s.depth (snapshot_of s.view s.above) };
 
     ghost size = { λ s. length s.1 };
 
@@ -114,6 +117,7 @@ impl<'a> Snapshot<'a> {
     }
 
     /// The location one key further down, by one look-up among the children; it is placed in the arena.
+    #[inline(always)]
     pub fn below(&'a self, arena: &'a Bump, key: &'a str) -> Result<&'a Snapshot<'a>, NoMemory>
         requires { length self.now.1 < MAX_DEPTH }
         ensures { IfOk result (λ s. s.now ≡ below self.now key.now) }
@@ -121,7 +125,21 @@ impl<'a> Snapshot<'a> {
         self.placed(arena, key, child_of(self.view(), key))
     }
 
-    // The same, where what stands there is known.
+    /// The same location, placed in the arena without a look-up: for one that nobody is expected to ask about.
+    /// Each time that it is asked what stands there, it is looked up, and so is what was passed above it.
+    #[inline(always)]
+    pub fn passed(&'a self, arena: &'a Bump, key: &'a str) -> Result<&'a Snapshot<'a>, NoMemory>
+        requires { length self.now.1 < MAX_DEPTH }
+        ensures { IfOk result (λ s. s.now ≡ below self.now key.now) }
+    {
+        Ok(arena.try_alloc(Snapshot {
+            view: None,
+            depth: self.depth + 1,
+            above: Above::Passed(self, key),
+        })?)
+    }
+
+    // The same as `below`, where what stands there is known.
     fn placed(
         &'a self,
         arena: &'a Bump,
@@ -139,11 +157,16 @@ impl<'a> Snapshot<'a> {
         })?)
     }
 
-    /// What stands there, if anything does, in constant time.
-    pub fn view(&self) -> Option<&View<'a>>
-        ensures { option_map (λ view. view.now) result ≡ non_null (sub self.now.0 self.now.1) }
+    /// What stands there, if anything does: in constant time, but for a location that was only passed.
+    #[cycle(look)]
+    #[inline(always)]
+    pub fn view(&self) -> Option<View<'a>>
+        ensures { result ≡ non_null (sub self.now.0 self.now.1) }
     {
-        self.view.as_ref()
+        match self.above {
+            Above::Passed(above, key) => looked_up(above, key),
+            Above::Nothing | Above::Parent(_, _) => shared(&self.view),
+        }
     }
 
     /// How many keys the path has, in constant time.
@@ -161,6 +184,7 @@ impl<'a> Snapshot<'a> {
         match self.above {
             Above::Nothing => None,
             Above::Parent(above, _) => Some(above),
+            Above::Passed(above, _) => Some(above),
         }
     }
 
@@ -171,7 +195,7 @@ impl<'a> Snapshot<'a> {
     {
         match self.above {
             Above::Nothing => self,
-            Above::Parent(above, _) => above.top(),
+            Above::Parent(above, _) | Above::Passed(above, _) => above.top(),
         }
     }
 }
@@ -186,9 +210,28 @@ fn at_root(view: &Option<View>)
     }
 }
 
+// The same view once more, if there is one.
+fn shared<'a>(view: &Option<View<'a>>) -> Option<View<'a>>
+    ensures { result ≡ view.now }
+{
+    match view {
+        Some(view) => Some(view.share()),
+        None => None,
+    }
+}
+
+// What stands at the key below a location.
+#[cycle(look)]
+#[inline(never)]
+fn looked_up<'a>(above: &Snapshot<'a>, key: &str) -> Option<View<'a>>
+    ensures { result ≡ non_null (sub (below above.now key.now).0 (below above.now key.now).1) }
+{
+    child_of(above.view(), key)
+}
+
 // What stands at the key below. Where something does, the text is a lawful key, as all are in a tree.
-fn child_of<'a>(view: Option<&View<'a>>, key: &str) -> Option<View<'a>>
-    ensures child { result ≡ down key.now (option_map (λ v. v.now) view.entry) }
+fn child_of<'a>(view: Option<View<'a>>, key: &str) -> Option<View<'a>>
+    ensures child { result ≡ down key.now view.entry }
     ensures lawful { IsSome result → is_key key.now ≡ true }
 {
     match view {
@@ -202,12 +245,14 @@ fn child_of<'a>(view: Option<&View<'a>>, key: &str) -> Option<View<'a>>
 
 // ---- what is asked of it
 
+#[inline(always)]
 pub(crate) fn exists_at(place: &Snapshot) -> bool
     ensures { result ≡ exists_at place.now }
 {
     place.view().is_some()
 }
 
+#[inline(always)]
 pub(crate) fn primitive_at<'a>(place: &Snapshot<'a>) -> Option<&'a Leaf>
     ensures { option_map (λ leaf. primitive_of leaf.now) result ≡ primitive_at place.now }
 {

@@ -31,7 +31,6 @@ use Rattle.judge.specs.Tests.{answer_of, answer_at}
 use Rattle.judge.specs.Working.Standing.{AsksFor, IsAt, last_bound, access_below, coming_at, proposed_by, Stands, coming_of, path_of, question_of}
 use Rattle.judge.specs.declared.spot.Asking.{Asking}
 use Rattle.judge.specs.declared.spot.Spot.{Spot}
-use Rattle.std.specs.Borrow.{Bor}
 use Rattle.judge.proofs.Deciding.{standing_is, standing_none}
 
 -- ---- what a node states
@@ -192,8 +191,8 @@ pub coming_is : (request : Request) (path : Path) → coming_at (access_at reque
 coming_is (read asked) path = sym (ap non_null (sub-null path) ∙ non_null-null)
 coming_is (write t) path = refl
 
-pub stands_there : (asking : Asking) (spot : Spot) (bound : List (List ℕ × Key)) (o : Option (Bor Tree)) (v : Bor Tree) → Stands asking spot bound → o ≡ Some v → option_map (λ (u : Bor Tree). u.now) o ≡ coming_at (access_of spot.access) → Some v.now ≡ non_null (sub (coming_of asking) (path_of spot))
-stands_there asking spot bound o v here is said = ap (option_map (λ (u : Bor Tree). u.now)) (sym is) ∙ said ∙ ap coming_at here.at.access_is ∙ coming_is (question_of asking).request (path_of spot)
+pub stands_there : (asking : Asking) (spot : Spot) (bound : List (List ℕ × Key)) (o : Option Tree) (v : Tree) → Stands asking spot bound → o ≡ Some v → o ≡ coming_at (access_of spot.access) → Some v ≡ non_null (sub (coming_of asking) (path_of spot))
+stands_there asking spot bound o v here is said = sym is ∙ said ∙ ap coming_at here.at.access_is ∙ coming_is (question_of asking).request (path_of spot)
 
-pub nothing_stands : (asking : Asking) (spot : Spot) (bound : List (List ℕ × Key)) (o : Option (Bor Tree)) → Stands asking spot bound → o ≡ None → option_map (λ (u : Bor Tree). u.now) o ≡ coming_at (access_of spot.access) → None ≡ non_null (sub (coming_of asking) (path_of spot))
-nothing_stands asking spot bound o here is said = ap (option_map (λ (u : Bor Tree). u.now)) (sym is) ∙ said ∙ ap coming_at here.at.access_is ∙ coming_is (question_of asking).request (path_of spot)
+pub nothing_stands : (asking : Asking) (spot : Spot) (bound : List (List ℕ × Key)) (o : Option Tree) → Stands asking spot bound → o ≡ None → o ≡ coming_at (access_of spot.access) → None ≡ non_null (sub (coming_of asking) (path_of spot))
+nothing_stands asking spot bound o here is said = sym is ∙ said ∙ ap coming_at here.at.access_is ∙ coming_is (question_of asking).request (path_of spot)

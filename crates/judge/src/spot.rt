@@ -7,6 +7,7 @@ ghost use Rattle.tree_model.specs.PathMap.{get};
 ghost use Rattle.rules_reader.specs.Book.{stated_for};
 ghost use Rattle.rules_reader.specs.Spelled.{captured, IsLawful};
 ghost use Rattle.evaluator.specs.Env.{access_of};
+ghost use Rattle.evaluator.specs.Snapshot.{below};
 ghost use Rattle.judge.specs.Working.Standing.{ask_of, path_of, last_name, last_bound, access_below, AccessHasRoom, coming_at, Stands, Entering};
 
 use crate::scene::Scene;
@@ -16,7 +17,7 @@ use evaluator::{Access, Env, Outcome, Snapshot, evaluate};
 use expr_types::Checked;
 use json_tree::{Key, NoMemory};
 use path_capture::{CaptureName, Captures, Part};
-use rules_reader::{Kind, RuleNode};
+use rules_reader::{Kind, RuleNode, TreeVariable};
 
 /// What is asked: the rules of which kind, in which scene, and for which access at the root.
 #[derive(Clone, Copy)]
@@ -36,8 +37,8 @@ pub(crate) struct Spot<'a> {
 }
 
 // The proposed tree at the spot, if something stands there.
-pub(crate) fn coming<'a>(spot: &Spot<'a>) -> Option<&'a View<'a>>
-    ensures { option_map (λ view. view.now) result ≡ coming_at (access_of spot.now.access) }
+pub(crate) fn coming<'a>(spot: &Spot<'a>) -> Option<View<'a>>
+    ensures { result ≡ coming_at (access_of spot.now.access) }
 {
     match spot.access {
         Access::Reads(_) => None,
@@ -89,8 +90,8 @@ fn answer_of<'a>(
     Ok(outcome)
 }
 
-/// Moves a spot one key further down, and says whether a rule node is there: one step among the rules and one
-/// look-up in each tree, and a place in the arena for each.
+/// Moves a spot one key further down, and says whether a rule node is there: one step among the rules and a
+/// place in the arena for each tree, with one look-up in each about which a rule there or below may ask.
 pub(crate) fn enter<'a>(
     asking: &Asking<'a>,
     spot: &mut Spot<'a>,
@@ -105,9 +106,10 @@ pub(crate) fn enter<'a>(
     let Some(rule) = spot.rule.step(text) else {
         return Ok(false);
     };
-    let here = spot.here.below(asking.arena, text)?;
+    let is_named = rule.names(TreeVariable::Data, asking.kind);
+    let here = further(asking.arena, spot.here, text, is_named)?;
     let mut access = spot.access;
-    lower(asking.arena, &mut access, key)?;
+    lower(asking, rule, &mut access, key)?;
     bind(rule, key, captures)?;
     *spot = Spot { rule, here, access };
     Ok(true)
@@ -122,16 +124,51 @@ pub(crate) fn leave<'a>(spot: &Spot<'a>, captures: &mut Captures<'a, &'a Bump>)
     }
 }
 
-// Moves the access one key further down.
-fn lower<'a>(arena: &'a Bump, access: &mut Access<'a>, key: &'a Key) -> Result<(), NoMemory>
+// Moves the access one key further down, where this rule node is.
+fn lower<'a>(
+    asking: &Asking<'a>,
+    rule: &RuleNode,
+    access: &mut Access<'a>,
+    key: &'a Key,
+) -> Result<(), NoMemory>
     requires { AccessHasRoom (access_of access.old) }
     ensures { OnOk result (access_of access.new ≡ access_below (access_of access.old) key.now) }
 {
     match *access {
         Access::Reads(_) => {}
-        Access::Writes(snapshot) => *access = Access::Writes(snapshot.below(arena, key.text())?),
+        Access::Writes(snapshot) => {
+            let is_asked = asks_for_new_data(rule, asking.kind);
+            *access = Access::Writes(further(asking.arena, snapshot, key.text(), is_asked)?);
+        }
     }
     Ok(())
+}
+
+// Whether `newData` is asked for at a rule node or below it: by a rule, or by a validation, which goes where
+// something would stand.
+fn asks_for_new_data(rule: &RuleNode, kind: Kind) -> bool {
+    match kind {
+        Kind::Validate => rule.has_validate(),
+        Kind::Read | Kind::Write => rule.names(TreeVariable::NewData, kind),
+    }
+}
+
+// The location one key further down, looked up where it will be asked about.
+#[inline(always)]
+fn further<'a>(
+    arena: &'a Bump,
+    at: &'a Snapshot<'a>,
+    key: &'a str,
+    is_asked: bool,
+) -> Result<&'a Snapshot<'a>, NoMemory>
+    requires { length at.now.1 < most_keys }
+    ensures { IfOk result (λ found. found.now ≡ below at.now key.now) }
+{
+    if is_asked {
+        at.below(arena, key)
+    } else {
+        at.passed(arena, key)
+    }
 }
 
 // Binds the capture that the node's own part is, if it is one, to the key.

@@ -20,7 +20,7 @@ use Rattle.tree_model.proofs.Existence.{found_at_or_below}
 use Rattle.tree_model.proofs.Grafts.{child_of, spread}
 use Rattle.rules_reader.specs.Part.{PartText, Pattern, is_capture}
 use Rattle.rules_reader.specs.declared.kind.Kind.TheVariants.{Read, Write, Validate}
-use Rattle.rules_reader.specs.Book.{Stated, BookOf, validates, rules, stated, own_rules, stated_count}
+use Rattle.rules_reader.specs.Book.{Stated, BookOf, validates, states, rules, stated, own_rules, stated_count}
 use Rattle.rules_reader.specs.Node.{grown}
 use Rattle.rules_reader.specs.Place.{HasOneCapture, one_capture_at_most}
 use Rattle.rules_reader.proofs.Books.{sub-grown}
@@ -96,6 +96,25 @@ module _ {A : Type 0} where
   pub validates-grown : (own : Stated A) (parts : List (PartText × BookOf A)) → is_sorted key_cmp parts ≡ true → validates (grown own parts) ≡ (is_some own.validate || list_any (λ c. validates c.1) parts)
   unfolding validates
   validates-grown own parts h = ap some_validates (entries-grown own parts h) ∙ ap (λ b. is_some own.validate || b) (some_validates-spread parts)
+
+  -- ---- whether an object passes a test
+
+  abbrev some_passes : (Stated A → Bool) → List (Path × Stated A) → Bool
+  some_passes test es = list_any (λ e. test e.1) es
+
+  some_passes-under : (test : Stated A → Bool) (k : Key) (es : List (Path × Stated A)) → some_passes test (under k es) ≡ some_passes test es
+  some_passes-under test k [] = refl
+  some_passes-under test k (e ∷ es) = ap (λ b. test e.1 || b) (some_passes-under test k es)
+
+  some_passes-spread : (test : Stated A → Bool) (cs : List (Key × BookOf A)) → some_passes test (spread cs) ≡ list_any (λ c. some_passes test (map_of.entries c.1)) cs
+  some_passes-spread test [] = refl
+  some_passes-spread test (c ∷ cs) =
+      list_any-append (λ (e : Path × Stated A). test e.1) (under c.0 (map_of.entries c.1)) (spread cs)
+      ∙ (λ i. some_passes-under test c.0 (map_of.entries c.1) i || some_passes-spread test cs i)
+
+  pub states-grown : (test : Stated A → Bool) (own : Stated A) (parts : List (PartText × BookOf A)) → is_sorted key_cmp parts ≡ true → states test (grown own parts) ≡ (test own || list_any (λ c. states test c.1) parts)
+  unfolding states
+  states-grown test own parts h = ap (some_passes test) (entries-grown own parts h) ∙ ap (λ b. test own || b) (some_passes-spread test parts)
 
   -- ---- how many rules
 

@@ -17,6 +17,8 @@ pub mod Unchanged
 pub mod RulesBelow
 pub mod Built
 pub mod Unreads
+pub mod Keeping
+pub mod Variables
 pub mod Unvalidated
 pub mod CaptureNames
 pub mod Compiled

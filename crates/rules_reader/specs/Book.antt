@@ -63,6 +63,10 @@ rules b = flat_map own_rules (map_of.entries b)
 unfoldable pub validates : {A : Type 0} → BookOf A → Bool
 validates b = list_any (λ e. is_some e.1.validate) (map_of.entries b)
 
+-- some object of the book passes a test
+unfoldable pub states : {A : Type 0} → (Stated A → Bool) → BookOf A → Bool
+states test b = list_any (λ e. test e.1) (map_of.entries b)
+
 -- how many rules an object states
 abbrev pub stated_count : {A : Type 0} → Stated A → ℕ
 stated_count s = length (stated [] Read s.read) + (length (stated [] Validate s.validate) + length (stated [] Write s.write))

@@ -5,11 +5,9 @@ use Rattle.std.proofs.lemmas.List.Sorted.{IsPermutation-map}
 use Rattle.std.specs.List.Sorted.{IsPermutation}
 use Rattle.path_capture.specs.Write.{tree_or_null}
 use Rattle.tree_model.specs.Path.{Path}
-use Rattle.tree_model.specs.Tree.{Tree}
 use Rattle.tree_model.specs.Write.{location}
 use Rattle.judge.specs.Question.{scene_of}
 use Rattle.judge.specs.Working.Locations.{paths}
-use Rattle.judge.specs.Judging.{IsWriteVerdict}
 use Rattle.judge.proofs.Tops.{verdict_in_any_order}
 use Rattle.judge.proofs.judging.judge_all.Goals as goal
 

@@ -1,8 +1,8 @@
-use Rattle.std.proofs.Common.{◌≡◌, [], ◌∷◌, List, length, map, subst, sym, ap, get_or, arith}
+use Rattle.std.proofs.Common.{◌≡◌, [], ◌∷◌, List, length, map, subst, ap, get_or, arith}
 use Rattle.std.proofs.lemmas.Result.{IfOk-weaker}
 use Rattle.path_capture.specs.Write.{tree_or_null}
 use Rattle.tree_model.specs.Tree.{Tree}
-use Rattle.tree_model.specs.Write.{Write, location, proposed}
+use Rattle.tree_model.specs.Write.{Write, location}
 use Rattle.judge.specs.Question.{scene_of}
 use Rattle.judge.specs.Judging.{IsWriteVerdict}
 use Rattle.judge.proofs.judging.judge_write.Goals as goal

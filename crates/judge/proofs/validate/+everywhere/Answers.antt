@@ -26,7 +26,7 @@ pub everywhere-returns-then-not-own-clause-found : goal.everywhere-returns-then-
 everywhere-returns-then-not-own-clause-found t c =
     let ask = ask_of c.args.asking.now in
     let from = path_of c.args.spot.now in
-    here_as ask (coming_of c.args.asking.now) c.in-Some.view.now from c.in_ok-own.own c.holds_here.new.failure (stands_there c.args.asking.now c.args.spot.now c.args.captures.now c.coming.result c.in-Some.view c.requires.here c.in-Some.is c.coming.ensures)
+    here_as ask (coming_of c.args.asking.now) c.in-Some.view from c.in_ok-own.own c.holds_here.new.failure (stands_there c.args.asking.now c.args.spot.now c.args.captures.now c.coming.result c.in-Some.view c.requires.here c.in-Some.is c.coming.ensures)
     c.in_ok-own.ensures.told c.if-not-own.true c.in_ok-own.ensures.found
 
 pub everywhere-loop-i-init : goal.everywhere-loop-i-init
@@ -34,7 +34,7 @@ everywhere-loop-i-init t c =
     let ask = ask_of c.args.asking.now in
     let from = path_of c.args.spot.now in
     let none = none_told c.in_ok-own.own c.holds_here.new.failure c.in_ok-own.ensures.told c.if-not-own.false in (
-      ahead_at_first ask (coming_of c.args.asking.now) c.in-Some.view.now from (stands_there c.args.asking.now c.args.spot.now c.args.captures.now c.coming.result c.in-Some.view c.requires.here c.in-Some.is c.coming.ensures)
+      ahead_at_first ask (coming_of c.args.asking.now) c.in-Some.view from (stands_there c.args.asking.now c.args.spot.now c.args.captures.now c.coming.result c.in-Some.view c.requires.here c.in-Some.is c.coming.ensures)
           (subst (FaultsHere ask from) none c.in_ok-own.ensures.found),
       refl,
       none,
@@ -44,19 +44,19 @@ pub everywhere-unreachable-requires : goal.everywhere-unreachable-requires
 everywhere-unreachable-requires t c =
     let within = c.loop-i-test.true in
     let wide = c.width-i-end.ensures in
-    key_there (child_keys c.in-Some.view.now) c.loop-i.i (omega (arith, within, wide)) c.in_default-key_at.ensures
+    key_there (child_keys c.in-Some.view) c.loop-i.i (omega (arith, within, wide)) c.in_default-key_at.ensures
 
 pub everywhere-everywhere_below-requires : goal.everywhere-everywhere_below-requires
 everywhere-everywhere_below-requires t c =
     let from = path_of c.args.spot.now in
     let here = subst (Stands c.args.asking.now c.args.spot.now) (sym c.loop-i.invariant.1) c.requires.here in
-    let room = room_for_child (coming_of c.args.asking.now) c.in-Some.view.now from c.in-Some-key_at.key.now c.loop-i.i c.requires.lawful (stands_there c.args.asking.now c.args.spot.now c.args.captures.now c.coming.result c.in-Some.view c.requires.here c.in-Some.is c.coming.ensures) c.in-Some-key_at.ensures in
+    let room = room_for_child (coming_of c.args.asking.now) c.in-Some.view from c.in-Some-key_at.key.now c.loop-i.i c.requires.lawful (stands_there c.args.asking.now c.args.spot.now c.args.captures.now c.coming.result c.in-Some.view c.requires.here c.in-Some.is c.coming.ensures) c.in-Some-key_at.ensures in
     (omega arith, (here, (c.requires.kind, (c.requires.lawful, (room, c.loop-i.invariant.2)))))
 
 pub everywhere-returns-then-not-below-clause-found : goal.everywhere-returns-then-not-below-clause-found
 everywhere-returns-then-not-below-clause-found t c =
     let F = FailsFrom (ask_of c.args.asking.now) (coming_of c.args.asking.now) (path_of c.args.spot.now) in
-    child_found F c.in-Some.view.now c.loop-i.i c.in-Some-key_at.key.now c.in_ok-below.below c.everywhere_below.new.failure c.add_key.new.failure c.in-Some-key_at.ensures c.loop-i.invariant.0
+    child_found F c.in-Some.view c.loop-i.i c.in-Some-key_at.key.now c.in_ok-below.below c.everywhere_below.new.failure c.add_key.new.failure c.in-Some-key_at.ensures c.loop-i.invariant.0
     c.in_ok-below.ensures.told c.if-not-below.true c.in_ok-add_key.ensures c.in_ok-below.ensures.found
 
 pub everywhere-returns-then-not-below-clause-told : goal.everywhere-returns-then-not-below-clause-told
@@ -67,7 +67,7 @@ pub everywhere-loop-i-preserved : goal.everywhere-loop-i-preserved
 everywhere-loop-i-preserved t c =
     let F = FailsFrom (ask_of c.args.asking.now) (coming_of c.args.asking.now) (path_of c.args.spot.now) in
     let none = none_told c.in_ok-below.below c.everywhere_below.new.failure c.in_ok-below.ensures.told c.if-not-below.false in (
-      child_passed F c.in-Some.view.now c.loop-i.i c.in-Some-key_at.key.now c.in-Some-key_at.ensures c.loop-i.invariant.0 (subst (Found (Below c.in-Some-key_at.key.now F)) none c.in_ok-below.ensures.found),
+      child_passed F c.in-Some.view c.loop-i.i c.in-Some-key_at.key.now c.in-Some-key_at.ensures c.loop-i.invariant.0 (subst (Found (Below c.in-Some-key_at.key.now F)) none c.in_ok-below.ensures.found),
       c.in_ok-below.ensures.back ∙ c.loop-i.invariant.1,
       none,
     )
@@ -77,7 +77,7 @@ everywhere-returns-clause-found t c =
     let F = FailsFrom (ask_of c.args.asking.now) (coming_of c.args.asking.now) (path_of c.args.spot.now) in
     let past = c.loop-i-test.false in
     let wide = c.width-i-end.ensures in
-    found_none F c.loop-i.failure c.loop-i.invariant.2 (all_passed F c.in-Some.view.now c.loop-i.i (omega (arith, past, wide)) c.loop-i.invariant.0)
+    found_none F c.loop-i.failure c.loop-i.invariant.2 (all_passed F c.in-Some.view c.loop-i.i (omega (arith, past, wide)) c.loop-i.invariant.0)
 
 -- ---- below a key
 

@@ -62,7 +62,7 @@ towards-returns-then-not-above-clause-found t c =
     let ask = ask_of c.args.asking.now in
     let from = path_of c.args.spot.now in
     let some = at_least_one c.args.locations.now c.is_empty.result c.is_empty.ensures c.if-is_empty.false in
-    near_here ask (coming_of c.args.asking.now) c.in-Some-coming.field-0.now from (rests (length from) (paths c.args.locations.now)) c.in-Some.field-0.now c.in_ok-above.above c.holds_here.new.failure
+    near_here ask (coming_of c.args.asking.now) c.in-Some-coming.field-0 from (rests (length from) (paths c.args.locations.now)) c.in-Some.field-0.now c.in_ok-above.above c.holds_here.new.failure
     (goes_on (paths c.args.locations.now) from c.index-locations-0.result.now c.depth-depth.result c.in-Some.field-0.now c.depth-depth.ensures.depth (first_left c.args.locations.now 0 c.index-locations-0.result some c.index-locations-0.is) c.in-Some.ensures.key)
     (stands_there c.args.asking.now c.args.spot.now c.args.captures.now c.coming.result c.in-Some-coming.field-0 c.requires.here c.in-Some-coming.is c.coming.ensures)
     c.in_ok-above.ensures.told c.if-not-above.true c.in_ok-above.ensures.found
