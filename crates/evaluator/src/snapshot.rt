@@ -116,7 +116,8 @@ impl<'a> Snapshot<'a> {
         }
     }
 
-    /// The location one key further down, by one look-up among the children; it is placed in the arena.
+    /// The location one key further down, by one look-up among the children, and in what was only passed above it;
+    /// it is placed in the arena.
     #[inline(always)]
     pub fn below(&'a self, arena: &'a Bump, key: &'a str) -> Result<&'a Snapshot<'a>, NoMemory>
         requires { length self.now.1 < MAX_DEPTH }

@@ -153,10 +153,25 @@ fn make_lobby(alloc: Global) -> Result<Lobby, Fail> {
     })
 }
 
+// How a location is gone to: by looking up what stands on the way, or by passing it.
+#[derive(Clone, Copy)]
+enum Way {
+    LookedUp,
+    Passed,
+}
+
 fn in_the_lobby(alloc: Global, text: &str) -> Result<Answer, Fail> {
+    asked_in_the_lobby(alloc, text, Way::LookedUp)
+}
+
+fn in_a_passed_lobby(alloc: Global, text: &str) -> Result<Answer, Fail> {
+    asked_in_the_lobby(alloc, text, Way::Passed)
+}
+
+fn asked_in_the_lobby(alloc: Global, text: &str, way: Way) -> Result<Answer, Fail> {
     let lobby = make_lobby(alloc)?;
     match rule_of(alloc, &lobby, text)? {
-        Ok(rule) => of_a_write(&Bump::new(alloc), &rule, &lobby),
+        Ok(rule) => of_a_write(&Bump::new(alloc), &rule, &lobby, way),
         Err(why) => Ok(why),
     }
 }
@@ -170,13 +185,18 @@ fn rule_of(alloc: Global, lobby: &Lobby, text: &str) -> Result<Result<Checked, A
     Ok(checked(alloc, text, Place::ValidateRule, &captures))
 }
 
-fn of_a_write<'a>(arena: &'a Bump, rule: &'a Checked, lobby: &'a Lobby) -> Result<Answer, Fail>
+fn of_a_write<'a>(
+    arena: &'a Bump,
+    rule: &'a Checked,
+    lobby: &'a Lobby,
+    way: Way,
+) -> Result<Answer, Fail>
     requires { IsFor ValidateRule (lobby.now.name ∷ []) rule.now }
 {
     let mut captures = Captures::new(arena);
     captures.push(&lobby.name, &lobby.key)?;
-    let here = lobby_of(arena, &lobby.stored)?;
-    let coming = lobby_of(arena, &lobby.proposed)?;
+    let here = lobby_of(arena, &lobby.stored, way)?;
+    let coming = lobby_of(arena, &lobby.proposed, way)?;
     Ok(write_at(arena, rule, here, coming, &lobby.who, &captures))
 }
 
@@ -203,26 +223,41 @@ fn write_at<'a>(
 }
 
 // The location at `/rooms/lobby`.
-fn lobby_of<'a>(arena: &'a Bump, tree: &'a Option<Node>) -> Result<&'a Snapshot<'a>, Fail> {
+fn lobby_of<'a>(
+    arena: &'a Bump,
+    tree: &'a Option<Node>,
+    way: Way,
+) -> Result<&'a Snapshot<'a>, Fail> {
     let root = root_of(arena, tree)?;
-    let rooms = child_of(arena, root, "rooms")?;
-    child_of(arena, rooms, "lobby")
+    let rooms = child_of(arena, root, "rooms", way)?;
+    child_of(arena, rooms, "lobby", way)
 }
 
 fn child_of<'a>(
     arena: &'a Bump,
     place: &'a Snapshot<'a>,
     key: &'a str,
+    way: Way,
 ) -> Result<&'a Snapshot<'a>, Fail> {
     if place.depth() >= MAX_DEPTH {
         return Err("too deep")?;
     }
-    Ok(place.below(arena, key)?)
+    match way {
+        Way::LookedUp => Ok(place.below(arena, key)?),
+        Way::Passed => Ok(place.passed(arena, key)?),
+    }
 }
 
 #[test]
 fn what_a_write_proposes(rt: HostRuntime) -> Result<(), Fail> {
     let other = first_other(rt.alloc(), &OF_A_WRITE, in_the_lobby)?;
+    assert_eq!(rt; other.as_str(), "");
+    Ok(())
+}
+
+#[test]
+fn what_a_write_proposes_where_nothing_was_looked_up(rt: HostRuntime) -> Result<(), Fail> {
+    let other = first_other(rt.alloc(), &OF_A_WRITE, in_a_passed_lobby)?;
     assert_eq!(rt; other.as_str(), "");
     Ok(())
 }

@@ -106,8 +106,8 @@ pub(crate) fn enter<'a>(
     let Some(rule) = spot.rule.step(text) else {
         return Ok(false);
     };
-    let is_named = rule.names(TreeVariable::Data, asking.kind);
-    let here = further(asking.arena, spot.here, text, is_named)?;
+    let is_asked = rule.mentions(TreeVariable::Data, asking.kind);
+    let here = further(asking.arena, spot.here, text, is_asked)?;
     let mut access = spot.access;
     lower(asking, rule, &mut access, key)?;
     bind(rule, key, captures)?;
@@ -149,7 +149,7 @@ fn lower<'a>(
 fn asks_for_new_data(rule: &RuleNode, kind: Kind) -> bool {
     match kind {
         Kind::Validate => rule.has_validate(),
-        Kind::Read | Kind::Write => rule.names(TreeVariable::NewData, kind),
+        Kind::Read | Kind::Write => rule.mentions(TreeVariable::NewData, kind),
     }
 }
 

@@ -1,4 +1,4 @@
--- A book grown from the books of its parts: its entries, whether it validates, its rules, its captures, its depth.
+-- A book grown from the books of its parts: its entries, whether an object passes a test, its rules, its captures, its depth.
 use Rattle.std.proofs.Common.{◌≡◌, ℕ, ◌+◌, ◌≤◌, Bool, true, false, ◌||◌, cond, T, List, [], ◌∷◌, ◌++◌, map, length, Some, None, Option, unwrap_or, is_some, IsSome, sym, ap, ◌∙◌, subst, refl, arith, length-append}
 use Rattle.std.specs.List.{filter, flat_map, list_any, sum_by, AllByRecursion}
 use Rattle.std.specs.FinMap as map_of
@@ -20,7 +20,7 @@ use Rattle.tree_model.proofs.Existence.{found_at_or_below}
 use Rattle.tree_model.proofs.Grafts.{child_of, spread}
 use Rattle.rules_reader.specs.Part.{PartText, Pattern, is_capture}
 use Rattle.rules_reader.specs.declared.kind.Kind.TheVariants.{Read, Write, Validate}
-use Rattle.rules_reader.specs.Book.{Stated, BookOf, validates, states, rules, stated, own_rules, stated_count}
+use Rattle.rules_reader.specs.Book.{Stated, BookOf, states, rules, stated, own_rules, stated_count}
 use Rattle.rules_reader.specs.Node.{grown}
 use Rattle.rules_reader.specs.Place.{HasOneCapture, one_capture_at_most}
 use Rattle.rules_reader.proofs.Books.{sub-grown}
@@ -77,25 +77,6 @@ module _ {A : Type 0} where
   pub entries-grown : (own : Stated A) (parts : List (PartText × BookOf A)) → is_sorted key_cmp parts ≡ true → map_of.entries (grown own parts) ≡ ([], own) ∷ spread parts
   unfolding grown
   entries-grown own parts h = entries-sorted (([], own) ∷ spread parts) (both_so _ _ (root_first parts) (sorted_spread parts h))
-
-  -- ---- whether a `.validate` is stated
-
-  abbrev some_validates : List (Path × Stated A) → Bool
-  some_validates es = list_any (λ e. is_some e.1.validate) es
-
-  some_validates-under : (k : Key) (es : List (Path × Stated A)) → some_validates (under k es) ≡ some_validates es
-  some_validates-under k [] = refl
-  some_validates-under k (e ∷ es) = ap (λ b. is_some e.1.validate || b) (some_validates-under k es)
-
-  some_validates-spread : (cs : List (Key × BookOf A)) → some_validates (spread cs) ≡ list_any (λ c. some_validates (map_of.entries c.1)) cs
-  some_validates-spread [] = refl
-  some_validates-spread (c ∷ cs) =
-      list_any-append (λ (e : Path × Stated A). is_some e.1.validate) (under c.0 (map_of.entries c.1)) (spread cs)
-      ∙ (λ i. some_validates-under c.0 (map_of.entries c.1) i || some_validates-spread cs i)
-
-  pub validates-grown : (own : Stated A) (parts : List (PartText × BookOf A)) → is_sorted key_cmp parts ≡ true → validates (grown own parts) ≡ (is_some own.validate || list_any (λ c. validates c.1) parts)
-  unfolding validates
-  validates-grown own parts h = ap some_validates (entries-grown own parts h) ∙ ap (λ b. is_some own.validate || b) (some_validates-spread parts)
 
   -- ---- whether an object passes a test
 

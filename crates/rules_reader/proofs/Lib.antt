@@ -17,6 +17,7 @@ pub mod Unchanged
 pub mod RulesBelow
 pub mod Built
 pub mod Unreads
+pub mod Stating
 pub mod Keeping
 pub mod Variables
 pub mod Unvalidated

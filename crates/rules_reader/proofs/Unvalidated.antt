@@ -14,21 +14,18 @@ use Rattle.path_capture.specs.declared.pattern.Part.{Part}
 use Rattle.expr_types.specs.Checked.{Checked}
 use Rattle.rules_reader.specs.Part.{Pattern}
 use Rattle.rules_reader.specs.declared.kind.Kind.TheVariants.{Validate}
-use Rattle.rules_reader.specs.Book.{Book, Stated, stated_for, validates}
+use Rattle.rules_reader.specs.Book.{Book, Stated, stated_for, validates, states}
 use Rattle.rules_reader.specs.Place.{StandsAt, HasOneCapture}
 use Rattle.rules_reader.specs.Node.{Point, grown, books}
-use Rattle.rules_reader.proofs.Grown.{validates-grown}
+use Rattle.rules_reader.proofs.Stating.{states-node}
 use Rattle.rules_reader.proofs.Standing.{begins_with}
 use Rattle.rules_reader.proofs.Reached.{Reached}
 
 -- ---- of a node
 
-any-books : (children : List (Part × Point)) → list_any (λ c. validates c.1) (books children) ≡ list_any (λ c. validates c.1.book) children
-any-books [] = refl
-any-books (c ∷ cs) = ap (λ b. validates c.1.book || b) (any-books cs)
-
 pub validates-node : (own : Stated Checked) (children : List (Part × Point)) → is_sorted key_cmp (books children) ≡ true → validates (grown own (books children)) ≡ (is_some own.validate || list_any (λ c. validates c.1.book) children)
-validates-node own children sorted = validates-grown own (books children) sorted ∙ ap (λ b. is_some own.validate || b) (any-books children)
+unfolding validates states
+validates-node own children sorted = states-node (λ s. is_some s.validate) own children sorted
 
 -- ---- of what stands
 

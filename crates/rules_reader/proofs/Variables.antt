@@ -6,10 +6,10 @@ use Rattle.tree_model.proofs.Orders.{same_key}
 use Rattle.expr_tokens.specs.declared.known.KnownName.{KnownName}
 use Rattle.expr_tokens.specs.declared.known.KnownName.TheVariants as names
 use Rattle.expr_tokens.specs.Known.{text_of, Tells}
-use Rattle.rules_reader.specs.declared.naming.TreeVariable.{TreeVariable}
-use Rattle.rules_reader.specs.declared.naming.TreeVariable.TheVariants.{Data, NewData}
-use Rattle.rules_reader.specs.Naming.{variable_text}
-use Rattle.rules_reader.specs.Working.Named.{is_known_as}
+use Rattle.rules_reader.specs.declared.mentions.TreeVariable.{TreeVariable}
+use Rattle.rules_reader.specs.declared.mentions.TreeVariable.TheVariants.{Data, NewData}
+use Rattle.rules_reader.specs.Mentions.{variable_text}
+use Rattle.rules_reader.specs.Working.Kept.{is_known_as}
 
 named_data : (known : KnownName) → is_known_as Data (Some known) ≡ bytes_eq (text_of known) (variable_text Data)
 named_data names.Auth = refl

@@ -4,7 +4,7 @@ pub mod Spelled
 pub mod Plain
 pub mod File
 pub mod Place
-pub mod Naming
+pub mod Mentions
 pub mod Node
 pub mod Refusal
 pub mod Working

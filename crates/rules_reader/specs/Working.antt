@@ -6,4 +6,4 @@ pub mod Rules
 pub mod Front
 pub mod Unread
 pub mod Read
-pub mod Named
+pub mod Kept

@@ -7,7 +7,8 @@ ghost use Rattle.tree_model.specs.Key.{key_cmp};
 ghost use Rattle.tree_model.specs.PathMap.{get};
 ghost use Rattle.rules_reader.specs.Part.{texts, is_capture};
 ghost use Rattle.rules_reader.specs.Book.{rules, stated_for, validates, states};
-ghost use Rattle.rules_reader.specs.Naming.{names_for, kept_for};
+ghost use Rattle.rules_reader.specs.Mentions.{mentions_for};
+ghost use Rattle.rules_reader.specs.Working.Kept.{kept_for};
 ghost use Rattle.rules_reader.specs.declared.kind.Kind.{Kind as RuleKind};
 ghost use Rattle.rules_reader.specs.Spelled.{IsLawful};
 ghost use Rattle.rules_reader.specs.declared.kind.Kind.TheVariants.{Read, Write, Validate};
@@ -16,7 +17,7 @@ ghost use Rattle.rules_reader.specs.Node.{Steps, NoneMatches, IsCaptureAt, IsChi
 ghost use Rattle.rules_reader.specs.Working.Stepped.{stepped};
 
 use crate::kind::Kind;
-use crate::naming::{Naming, TreeVariable, rule_names};
+use crate::mentions::{Mentions, TreeVariable, rule_mentions};
 use crate::rule::RuleSet;
 use expr_types::Checked;
 use path_capture::{Part, Pattern};
@@ -35,10 +36,9 @@ pub struct RuleNode {
     capture: Option<usize>,
     // Whether a `.validate` is stated here or below.
     has_validate: bool,
-    // Whether rules here or below name `data`.
-    of_data: Naming,
-    // And `newData`.
-    of_new_data: Naming,
+    // Those by rules here or below.
+    mentions_of_data: Mentions,
+    mentions_of_new_data: Mentions,
 }
 
 impl Model for RuleNode {
@@ -53,12 +53,12 @@ impl Model for RuleNode {
     ghost use Rattle.std.specs.Prelude.{◌≡◌};
     ghost use Rattle.rules_reader.specs.Book.{validates};
     ghost use Rattle.rules_reader.specs.Node.{grown, books, IsNode};
-    ghost use Rattle.rules_reader.specs.Working.Named.{Keeps};
-    ghost use Rattle.rules_reader.specs.declared.naming.TreeVariable.TheVariants.{Data, NewData};
+    ghost use Rattle.rules_reader.specs.Working.Kept.{Keeps};
+    ghost use Rattle.rules_reader.specs.declared.mentions.TreeVariable.TheVariants.{Data, NewData};
 
     ghost view = { λ node. record { at = texts node.pattern; book = grown node.rules (books node.children.items) } };
 
-    ghost invariant = { λ node. IsNode (texts node.pattern) node.rules node.children.items node.capture × (node.has_validate ≡ validates (grown node.rules (books node.children.items))) × Keeps Data node.of_data (grown node.rules (books node.children.items)) × Keeps NewData node.of_new_data (grown node.rules (books node.children.items)) };
+    ghost invariant = { λ node. IsNode (texts node.pattern) node.rules node.children.items node.capture × (node.has_validate ≡ validates (grown node.rules (books node.children.items))) × Keeps Data node.mentions_of_data (grown node.rules (books node.children.items)) × Keeps NewData node.mentions_of_new_data (grown node.rules (books node.children.items)) };
 
     ghost size = { λ point. depth_of point.book };
 
@@ -79,16 +79,16 @@ impl RuleNode {
     {
         let capture = capture_among(&children);
         let has_validate = states_validate(&rules, &children);
-        let of_data = naming_of(&rules, &children, TreeVariable::Data);
-        let of_new_data = naming_of(&rules, &children, TreeVariable::NewData);
+        let mentions_of_data = mentions_of(&rules, &children, TreeVariable::Data);
+        let mentions_of_new_data = mentions_of(&rules, &children, TreeVariable::NewData);
         RuleNode {
             pattern,
             rules,
             children,
             capture,
             has_validate,
-            of_data,
-            of_new_data,
+            mentions_of_data,
+            mentions_of_new_data,
         }
     }
 
@@ -149,13 +149,13 @@ impl RuleNode {
         self.has_validate
     }
 
-    /// Whether a rule of this kind that is stated here or below names the variable, in constant time.
-    pub fn names(&self, variable: TreeVariable, kind: Kind) -> bool
-        ensures { result ≡ states (names_for variable kind) self.now.book }
+    /// Whether a rule of this kind that is stated here or below mentions the variable, in constant time.
+    pub fn mentions(&self, variable: TreeVariable, kind: Kind) -> bool
+        ensures { result ≡ states (mentions_for variable kind) self.now.book }
     {
         match variable {
-            TreeVariable::Data => self.of_data.of(kind),
-            TreeVariable::NewData => self.of_new_data.of(kind),
+            TreeVariable::Data => self.mentions_of_data.by(kind),
+            TreeVariable::NewData => self.mentions_of_new_data.by(kind),
         }
     }
 
@@ -230,32 +230,38 @@ fn some_has_validate(children: &Vec<(Part, RuleNode)>) -> bool
     children.iter().any(|child| child.1.has_validate())
 }
 
-// For each kind, whether a rule among these, or at or below one of these children, names the variable.
-fn naming_of(rules: &RuleSet, children: &Vec<(Part, RuleNode)>, variable: TreeVariable) -> Naming
-    ensures { (kind : RuleKind) → kept_for kind result ≡ (names_for variable kind rules.now || list_any (λ child. states (names_for variable kind) child.1.book) children.now.items) }
+// For each kind, whether a rule among these, or at or below one of these children, mentions the variable.
+fn mentions_of(
+    rules: &RuleSet,
+    children: &Vec<(Part, RuleNode)>,
+    variable: TreeVariable,
+) -> Mentions
+    ensures { (kind : RuleKind) → kept_for kind result ≡ (mentions_for variable kind rules.now || list_any (λ child. states (mentions_for variable kind) child.1.book) children.now.items) }
 {
-    Naming {
-        read: is_named(rules, children, variable, Kind::Read),
-        write: is_named(rules, children, variable, Kind::Write),
-        validate: is_named(rules, children, variable, Kind::Validate),
+    Mentions {
+        read: is_mentioned(rules, children, variable, Kind::Read),
+        write: is_mentioned(rules, children, variable, Kind::Write),
+        validate: is_mentioned(rules, children, variable, Kind::Validate),
     }
 }
 
-fn is_named(
+fn is_mentioned(
     rules: &RuleSet,
     children: &Vec<(Part, RuleNode)>,
     variable: TreeVariable,
     kind: Kind,
 ) -> bool
-    ensures { result ≡ (names_for variable kind rules.now || list_any (λ child. states (names_for variable kind) child.1.book) children.now.items) }
+    ensures { result ≡ (mentions_for variable kind rules.now || list_any (λ child. states (mentions_for variable kind) child.1.book) children.now.items) }
 {
-    rule_names(rules.rule(kind), variable) || some_names(children, variable, kind)
+    rule_mentions(rules.rule(kind), variable) || some_mentions(children, variable, kind)
 }
 
-fn some_names(children: &Vec<(Part, RuleNode)>, variable: TreeVariable, kind: Kind) -> bool
-    ensures { result ≡ list_any (λ child. states (names_for variable kind) child.1.book) children.now.items }
+fn some_mentions(children: &Vec<(Part, RuleNode)>, variable: TreeVariable, kind: Kind) -> bool
+    ensures { result ≡ list_any (λ child. states (mentions_for variable kind) child.1.book) children.now.items }
 {
-    children.iter().any(|child| child.1.names(variable, kind))
+    children
+        .iter()
+        .any(|child| child.1.mentions(variable, kind))
 }
 
 fn is_capture(part: &Part) -> bool

@@ -1,5 +1,5 @@
 use Rattle.std.proofs.Common.{sym, ◌∙◌}
-use Rattle.rules_reader.specs.declared.naming.TreeVariable.TheVariants.{Data, NewData}
+use Rattle.rules_reader.specs.declared.mentions.TreeVariable.TheVariants.{Data, NewData}
 use Rattle.rules_reader.proofs.Keeping.{keeps-node}
 use Rattle.rules_reader.proofs.Unvalidated.{validates-node}
 use Rattle.rules_reader.proofs.node.RuleNode.new.Goals as goal
@@ -17,6 +17,6 @@ invariant_of-result c =
         capture = c.capture_among-capture.ensures;
       },
       c.states_validate-has_validate.ensures ∙ sym (validates-node own children sorted),
-      keeps-node Data c.naming_of-of_data.result own children sorted c.naming_of-of_data.ensures,
-      keeps-node NewData c.naming_of-of_new_data.result own children sorted c.naming_of-of_new_data.ensures,
+      keeps-node Data c.mentions_of-mentions_of_data.result own children sorted c.mentions_of-mentions_of_data.ensures,
+      keeps-node NewData c.mentions_of-mentions_of_new_data.result own children sorted c.mentions_of-mentions_of_new_data.ensures,
     )
