@@ -1,10 +1,11 @@
 //! A rule node: an object of a rules file, with the rules that stand there.
-ghost use Rattle.std.specs.Prelude.{◌≡◌, ◌||◌, [], true, is_some, Some, None, option_map, IfSome, IfNone};
+ghost use Rattle.std.specs.Prelude.{◌≡◌, ◌||◌, [], true, is_some, Some, None, option_map, IfSome, IfNone, string_bytes};
 ghost use Rattle.std.specs.List.{AllByRecursion, list_any};
 ghost use Rattle.std.specs.FinMap.{is_sorted};
 ghost use Rattle.std.specs.FinMap as map_of;
 ghost use Rattle.tree_model.specs.Key.{key_cmp};
 ghost use Rattle.tree_model.specs.PathMap.{get};
+ghost use Rattle.path_capture.specs.Path.{printed};
 ghost use Rattle.rules_reader.specs.Part.{texts, is_capture};
 ghost use Rattle.rules_reader.specs.Book.{rules, stated_for, validates, states};
 ghost use Rattle.rules_reader.specs.Mentions.{mentions_for};
@@ -29,6 +30,8 @@ use std::marker::Model;
 #[derive(Debug, Drop)]
 pub struct RuleNode {
     pattern: Pattern,
+    // What is printed of the pattern.
+    text: String,
     rules: RuleSet,
     // Ascending by the texts of the parts.
     children: Vec<(Part, RuleNode)>,
@@ -50,7 +53,8 @@ impl Model for RuleNode {
 
     ghost use Rattle.tree_model.specs.PathMap.{depth as depth_of};
     ghost use Rattle.rules_reader.specs.Part.{texts};
-    ghost use Rattle.std.specs.Prelude.{◌≡◌};
+    ghost use Rattle.std.specs.Prelude.{◌≡◌, string_bytes};
+    ghost use Rattle.path_capture.specs.Path.{printed};
     ghost use Rattle.rules_reader.specs.Book.{validates};
     ghost use Rattle.rules_reader.specs.Node.{grown, books, IsNode};
     ghost use Rattle.rules_reader.specs.Working.Kept.{Keeps};
@@ -58,7 +62,7 @@ impl Model for RuleNode {
 
     ghost view = { λ node. record { at = texts node.pattern; book = grown node.rules (books node.children.items) } };
 
-    ghost invariant = { λ node. IsNode (texts node.pattern) node.rules node.children.items node.capture × (node.has_validate ≡ validates (grown node.rules (books node.children.items))) × Keeps Data node.mentions_of_data (grown node.rules (books node.children.items)) × Keeps NewData node.mentions_of_new_data (grown node.rules (books node.children.items)) };
+    ghost invariant = { λ node. IsNode (texts node.pattern) node.rules node.children.items node.capture × (node.has_validate ≡ validates (grown node.rules (books node.children.items))) × Keeps Data node.mentions_of_data (grown node.rules (books node.children.items)) × Keeps NewData node.mentions_of_new_data (grown node.rules (books node.children.items)) × (string_bytes node.text ≡ printed (texts node.pattern)) };
 
     ghost size = { λ point. depth_of point.book };
 
@@ -68,8 +72,15 @@ impl Model for RuleNode {
 }
 
 impl RuleNode {
-    /// The node of an object at a pattern, with what it states and what is below it.
-    pub(crate) fn new(pattern: Pattern, rules: RuleSet, children: Vec<(Part, RuleNode)>) -> RuleNode
+    /// The node of an object at a pattern, whose text this is, with what it states and what is below
+    /// it.
+    pub(crate) fn new(
+        pattern: Pattern,
+        text: String,
+        rules: RuleSet,
+        children: Vec<(Part, RuleNode)>,
+    ) -> RuleNode
+        requires text { string_bytes text ≡ printed (texts pattern) }
         requires lawful { AreLawful (texts pattern) rules }
         requires ascending { is_sorted key_cmp (books children.items) ≡ true }
         requires each { AllByRecursion (IsChild (texts pattern)) children.items }
@@ -83,6 +94,7 @@ impl RuleNode {
         let mentions_of_new_data = mentions_of(&rules, &children, TreeVariable::NewData);
         RuleNode {
             pattern,
+            text,
             rules,
             children,
             capture,
@@ -107,6 +119,13 @@ impl RuleNode {
         ensures { texts result.now ≡ self.now.at }
     {
         &self.pattern
+    }
+
+    /// The text of the pattern, as [`Pattern::print`] makes it, in constant time.
+    pub fn pattern_text(&self) -> &str
+        ensures { result.now ≡ printed self.now.at }
+    {
+        self.text.as_str()
     }
 
     /// The rule of a kind that stands here, if one is stated. It may stand here: it was checked for

@@ -45,7 +45,8 @@ pub(crate) fn build(alloc: Global, value: &Value, pattern: Pattern) -> Result<Ru
     law_of_members(members, &pattern);
     let own = own_rules(alloc, value, &pattern)?;
     let children = build_children(alloc, members, &pattern)?;
-    Ok(RuleNode::new(pattern, own, children))
+    let text = pattern.print()?;
+    Ok(RuleNode::new(pattern, text, own, children))
 }
 
 // The nodes of the keys and captures of an object, in the order of their names.

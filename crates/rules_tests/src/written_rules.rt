@@ -77,7 +77,7 @@ fn sign(node: &RuleNode, kind: Kind, stated: &'static str) -> &'static str {
 
 // The pattern of an object, and which rules it states.
 fn described(alloc: Global, node: &RuleNode) -> Result<String, Fail> {
-    let mut text = node.pattern().print()?;
+    let mut text = String::from_str(alloc, node.pattern_text())?;
     text.push(' ')?;
     text.push_str(sign(node, Kind::Read, "r"))?;
     text.push_str(sign(node, Kind::Write, "w"))?;

@@ -19,4 +19,5 @@ invariant_of-result c =
       c.states_validate-has_validate.ensures ∙ sym (validates-node own children sorted),
       keeps-node Data c.mentions_of-mentions_of_data.result own children sorted c.mentions_of-mentions_of_data.ensures,
       keeps-node NewData c.mentions_of-mentions_of_new_data.result own children sorted c.mentions_of-mentions_of_new_data.ensures,
+      c.requires.text,
     )
