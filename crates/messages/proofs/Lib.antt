@@ -6,6 +6,8 @@ pub mod Members
 pub mod Plain
 pub mod Reading
 pub mod Naming
+pub mod Items
 pub mod Notices
+pub mod Denials
 pub mod MemberNames
 pub mod Outlines

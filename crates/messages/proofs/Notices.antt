@@ -1,37 +1,21 @@
 -- The text of news, notice by notice.
-use Rattle.std.proofs.Common.{◌≡◌, ℕ, ◌+◌, ◌<◌, Bool, false, true, List, ◌++◌, map, length, get_or, drop, sym, ap, ◌∙◌, refl, append_assoc}
+use Rattle.std.proofs.Common.{◌≡◌, ℕ, false, List, ◌++◌, sym, ap, ◌∙◌, refl, append_assoc}
 use Rattle.std.specs.Prelude.{codes, Option}
 use Rattle.json.specs.Print.{quoted}
-use Rattle.serde_json.specs.Written.{compact_text, items_text, comma_if}
+use Rattle.serde_json.specs.Written.{compact_text}
 use Rattle.serde_json.proofs.OnLiterals.{serde_json_on_literals}
 use Rattle.tree_model.specs.Tree.{Tree}
 use Rattle.json_tree.specs.Json.{value_of}
-use Rattle.json_tree.proofs.Lists.{drop_next}
 use Rattle.path_capture.specs.Write.{tree_or_null}
 use Rattle.rtdb_core.specs.declared.news.Notice.{Notice}
 use Rattle.rtdb_core.specs.declared.news.What.TheVariants.{Gone, Now}
 use Rattle.rtdb_core.specs.declared.reply.Reply.TheVariants.{News}
 use Rattle.rtdb_core.specs.News.{gone, selected_now}
-use Rattle.messages.specs.AnswerText.{notice_data, items_of, text}
-
--- the notices that are left, with the closing bracket
-abbrev pub left_text : Bool → List Notice → List ℕ
-left_text later notices = items_text later (items_of (map notice_data notices))
-
-regrouped : (a b c d : List ℕ) → ((a ++ b) ++ c) ++ d ≡ a ++ (b ++ (c ++ d))
-regrouped a b c d = append_assoc (a ++ b) c d ∙ append_assoc a b (c ++ d)
+use Rattle.messages.specs.AnswerText.{notice_data, text}
+use Rattle.messages.proofs.Items.{left_items, regrouped}
 
 regrouped_value : (a b c d : List ℕ) → (a ++ (b ++ c)) ++ d ≡ a ++ (b ++ (c ++ d))
 regrouped_value a b c d = append_assoc a (b ++ c) d ∙ ap (λ s. a ++ s) (append_assoc b c d)
-
--- one notice more is told
-pub told_next : (notices : List Notice) (i : ℕ) (n : Notice) (later : Bool) (told front next all : List ℕ) → i < length notices → n ≡ get_or notices i n → told ++ left_text later (drop i notices) ≡ all
-    → front ≡ told ++ comma_if later → next ≡ front ++ compact_text (notice_data n) → next ++ left_text true (drop (i + 1) notices) ≡ all
-told_next notices i n later told front next all within is so_far comma notice =
-    ap (λ s. s ++ left_text true (drop (i + 1) notices)) (notice ∙ ap (λ s. s ++ compact_text (notice_data n)) comma)
-    ∙ regrouped told (comma_if later) (compact_text (notice_data n)) (left_text true (drop (i + 1) notices))
-    ∙ ap (λ ns. told ++ left_text later ns) (sym (drop_next notices i n within is))
-    ∙ so_far
 
 -- ---- a notice
 
@@ -72,16 +56,16 @@ now_told bytes front valued all id tree notice is begins value closes =
     ∙ ap (λ s. bytes ++ s) (regrouped_value (codes "{\"id\":") (quoted id) (codes ",\"value\":") (text ++ codes "}") ∙ now_text id tree ∙ ap (λ n. compact_text (notice_data n)) is)
 
 -- the text of news round that of the notices
-pub news_text : (notices : List Notice) → codes "{\"news\":[" ++ (left_text false notices ++ codes ",\"ok\":true}") ≡ text (News notices)
+pub news_text : (notices : List Notice) → codes "{\"news\":[" ++ (left_items notice_data false notices ++ codes ",\"ok\":true}") ≡ text (News notices)
 unfolding text serde_json_on_literals
 news_text notices = refl
 
-pub news_told : (notices : List Notice) (old front told all : List ℕ) → front ≡ old ++ codes "{\"news\":[" → told ++ codes "]" ≡ front ++ left_text false notices → all ≡ told ++ codes "],\"ok\":true}" → all ≡ old ++ text (News notices)
+pub news_told : (notices : List Notice) (old front told all : List ℕ) → front ≡ old ++ codes "{\"news\":[" → told ++ codes "]" ≡ front ++ left_items notice_data false notices → all ≡ told ++ codes "],\"ok\":true}" → all ≡ old ++ text (News notices)
 news_told notices old front told all begins is closes =
     let head = codes "{\"news\":[" in
     closes
     ∙ sym (append_assoc told (codes "]") (codes ",\"ok\":true}"))
-    ∙ ap (λ s. s ++ codes ",\"ok\":true}") (is ∙ ap (λ s. s ++ left_text false notices) begins)
-    ∙ append_assoc (old ++ head) (left_text false notices) (codes ",\"ok\":true}")
-    ∙ append_assoc old head (left_text false notices ++ codes ",\"ok\":true}")
+    ∙ ap (λ s. s ++ codes ",\"ok\":true}") (is ∙ ap (λ s. s ++ left_items notice_data false notices) begins)
+    ∙ append_assoc (old ++ head) (left_items notice_data false notices) (codes ",\"ok\":true}")
+    ∙ append_assoc old head (left_items notice_data false notices ++ codes ",\"ok\":true}")
     ∙ ap (λ s. old ++ s) (news_text notices)

@@ -1,17 +1,16 @@
 //! Answers, each written behind others.
 ghost use Rattle.std.specs.Prelude.{◌≡◌, ◌++◌, [], option_map, OnOk};
 ghost use Rattle.json.specs.Print.{quoted};
-ghost use Rattle.serde_json.specs.Written.{compact_text};
+ghost use Rattle.serde_json.specs.Written.{compact_text, comma_if};
 ghost use Rattle.json_tree.specs.Json.{value_of};
 ghost use Rattle.path_capture.specs.Write.{tree_or_null};
-ghost use Rattle.messages.specs.AnswerText.{plain_data, refusal_data};
+ghost use Rattle.messages.specs.AnswerText.{plain_data};
 
 use crate::code::Code;
-use crate::refusal::{put_plain, put_refusal};
+use crate::refusal::put_plain;
 use arena_snapshot::{View, write_view};
 use json::Writer;
 use json_tree::{NoMemory, Node, write_json};
-use rtdb_core::Refusal;
 use std::alloc::Global;
 use std::marker::Model;
 use std::mem::replace;
@@ -103,6 +102,14 @@ impl AnswerWriter {
         Ok(())
     }
 
+    /// Writes what stands before an item of a list.
+    pub(crate) fn comma(&mut self, is_later: bool) -> Result<(), NoMemory>
+        ensures before { self.new.before ≡ self.old.before }
+        ensures text { OnOk result (self.new.text ≡ self.old.text ++ comma_if is_later) }
+    {
+        self.piece(if is_later { b"," } else { b"" })
+    }
+
     /// Writes a text as JSON has it.
     pub(crate) fn string(&mut self, text: &str) -> Result<(), NoMemory>
         ensures before { self.new.before ≡ self.old.before }
@@ -131,17 +138,6 @@ impl AnswerWriter {
     {
         let text = write_view(self.lend_room(), view)?;
         self.put_written(text)?;
-        Ok(())
-    }
-
-    /// Writes a refusal of the database.
-    pub(crate) fn refusal(&mut self, refusal: &Refusal) -> Result<(), NoMemory>
-        ensures before { self.new.before ≡ self.old.before }
-        ensures text { OnOk result (self.new.text ≡ self.old.text ++ compact_text (refusal_data refusal.now)) }
-    {
-        let mut out = Writer::new(self.lend_room());
-        put_refusal(self.alloc, &mut out, refusal)?;
-        self.put_written(out.into_inner())?;
         Ok(())
     }
 

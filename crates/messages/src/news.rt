@@ -1,7 +1,7 @@
 //! The texts of news, written piece by piece: no value of them is made, and no tree is copied.
 ghost use Rattle.std.specs.Prelude.{◌≡◌, ◌++◌, map, codes, false, OnOk};
 ghost use Rattle.json.specs.Print.{quoted};
-ghost use Rattle.serde_json.specs.Written.{compact_text, items_text, comma_if};
+ghost use Rattle.serde_json.specs.Written.{compact_text, items_text};
 ghost use Rattle.rtdb_core.specs.declared.reply.Reply.TheVariants.{News as Told};
 ghost use Rattle.rtdb_core.specs.News.{gone};
 ghost use Rattle.rtdb_core.specs.Tidings.{notice_of};
@@ -55,13 +55,6 @@ impl AnswerWriter {
             self.tiding(tiding)?;
         }
         Ok(())
-    }
-
-    fn comma(&mut self, is_later: bool) -> Result<(), NoMemory>
-        ensures before { self.new.before ≡ self.old.before }
-        ensures text { OnOk result (self.new.text ≡ self.old.text ++ comma_if is_later) }
-    {
-        self.piece(if is_later { b"," } else { b"" })
     }
 
     fn notice(&mut self, notice: &Notice) -> Result<(), NoMemory>

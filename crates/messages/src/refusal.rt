@@ -1,48 +1,20 @@
-//! The texts of refusals, written token by token: no value of them is made.
-ghost use Rattle.std.specs.Prelude.{◌≡◌, ◌++◌, OnOk};
+//! The texts of refusals: no value of them is made, and denials are written piece by piece.
+ghost use Rattle.std.specs.Prelude.{◌≡◌, ◌++◌, map, codes, true, false, OnOk};
+ghost use Rattle.json.specs.Print.{quoted};
 ghost use Rattle.json.specs.Tree.{json_tokens};
-ghost use Rattle.serde_json.specs.Written.{outline};
-ghost use Rattle.messages.specs.AnswerText.{plain_data, rules_data, read_denied_data, write_denied_data, validate_denied_data, refusal_data, why_text};
-ghost use Rattle.messages.specs.Working.Writing.{refusal_tokens, named_tokens, ending_with_rules, ending_with_why};
+ghost use Rattle.serde_json.specs.Written.{outline, compact_text, items_text, members_text};
+ghost use Rattle.messages.specs.AnswerText.{plain_data, named_data, items_of, read_denied_data, write_denied_data, validate_denied_data, refusal_data};
+ghost use Rattle.messages.specs.Working.Writing.{named_rule_data, why_members};
 
+use crate::answer_writer::AnswerWriter;
 use crate::code::Code;
 use json::Writer;
 use json_tree::NoMemory;
 use path_capture::{Path, Pattern};
 use rtdb_core::{Named, Refusal, Why};
-use std::alloc::{AllocError, Global};
 
 // For how many bytes the text of a pattern has room at first.
 const PATTERN_ROOM: usize = 128;
-
-/// Writes a refusal. It takes memory for its text, for that of a place, and once for those of all patterns.
-pub(crate) fn put_refusal(
-    alloc: Global,
-    out: &mut Writer,
-    refusal: &Refusal,
-) -> Result<(), NoMemory>
-    ensures before { out.new.before ≡ out.old.before }
-    ensures tokens { OnOk result (out.new.tokens ≡ out.old.tokens ++ json_tokens (outline (refusal_data refusal.now))) }
-{
-    match refusal {
-        Refusal::SessionOpen => put_plain(out, Code::SessionOpen),
-        Refusal::TooManySessions => put_plain(out, Code::TooManySessions),
-        Refusal::NoSession => put_plain(out, Code::NoSession),
-        Refusal::NotAdmin => put_plain(out, Code::NotAdmin),
-        Refusal::EmptyUpdate => put_plain(out, Code::EmptyUpdate),
-        Refusal::Overlap => put_plain(out, Code::Overlap),
-        Refusal::DuplicateId => put_plain(out, Code::DuplicateId),
-        Refusal::TooManyListeners => put_plain(out, Code::TooManyListeners),
-        Refusal::NoListener => put_plain(out, Code::NoListener),
-        Refusal::ReadDenied(named) => put_read_denied(alloc, out, named.as_slice()),
-        Refusal::WriteDenied(at, named) => put_write_denied(alloc, out, at, named.as_slice()),
-        Refusal::ValidateDenied(at, pattern, why) => {
-            put_validate_denied(alloc, out, at, pattern, *why)
-        }
-        Refusal::TreeFull => put_plain(out, Code::TreeFull),
-        Refusal::NoMemory => put_plain(out, Code::NoMemory),
-    }
-}
 
 /// Writes a refusal with no further member.
 pub(crate) fn put_plain(out: &mut Writer, code: Code) -> Result<(), NoMemory>
@@ -50,119 +22,113 @@ pub(crate) fn put_plain(out: &mut Writer, code: Code) -> Result<(), NoMemory>
     ensures tokens { OnOk result (out.new.tokens ≡ out.old.tokens ++ json_tokens (outline (plain_data code))) }
 {
     out.begin_object()?;
-    put_members(out, code)?;
-    Ok(out.end_object()?)
-}
-
-fn put_read_denied(alloc: Global, out: &mut Writer, named: &[Named]) -> Result<(), NoMemory>
-    ensures before { out.new.before ≡ out.old.before }
-    ensures tokens { OnOk result (out.new.tokens ≡ out.old.tokens ++ json_tokens (outline (read_denied_data named.now))) }
-{
-    out.begin_object()?;
-    put_members(out, Code::ReadDenied)?;
-    end_with_rules(alloc, out, named)
-}
-
-fn put_write_denied(
-    alloc: Global,
-    out: &mut Writer,
-    at: &Path,
-    named: &[Named],
-) -> Result<(), NoMemory>
-    ensures before { out.new.before ≡ out.old.before }
-    ensures tokens { OnOk result (out.new.tokens ≡ out.old.tokens ++ json_tokens (outline (write_denied_data at.now named.now))) }
-{
-    let place = at.print(alloc)?;
-    out.begin_object()?;
-    out.key("at")?;
-    out.string(place.as_str())?;
-    put_members(out, Code::WriteDenied)?;
-    end_with_rules(alloc, out, named)
-}
-
-fn put_validate_denied(
-    alloc: Global,
-    out: &mut Writer,
-    at: &Path,
-    pattern: &Pattern,
-    why: Why,
-) -> Result<(), NoMemory>
-    ensures before { out.new.before ≡ out.old.before }
-    ensures tokens { OnOk result (out.new.tokens ≡ out.old.tokens ++ json_tokens (outline (validate_denied_data at.now pattern.now why))) }
-{
-    let place = at.print(alloc)?;
-    let pattern = pattern.print()?;
-    out.begin_object()?;
-    out.key("at")?;
-    out.string(place.as_str())?;
-    put_members(out, Code::ValidateDenied)?;
-    Ok(end_with_why(out, pattern.as_str(), why)?)
-}
-
-// What every refusal has.
-fn put_members(out: &mut Writer, code: Code) -> Result<(), AllocError>
-    ensures before { out.new.before ≡ out.old.before }
-    ensures tokens { OnOk result (out.new.tokens ≡ out.old.tokens ++ refusal_tokens code) }
-{
     out.key("code")?;
     out.u64(code.number())?;
     out.key("name")?;
     out.string(code.name())?;
     out.key("ok")?;
-    out.boolean(false)
-}
-
-// The rules that a denial names, and its end.
-fn end_with_rules(alloc: Global, out: &mut Writer, named: &[Named]) -> Result<(), NoMemory>
-    ensures before { out.new.before ≡ out.old.before }
-    ensures tokens { OnOk result (out.new.tokens ≡ out.old.tokens ++ ending_with_rules named.now) }
-{
-    out.key("rules")?;
-    put_rules(alloc, out, named)?;
+    out.boolean(false)?;
     Ok(out.end_object()?)
 }
 
-// A pattern, why its rule does not hold, and the end.
-fn end_with_why(out: &mut Writer, pattern: &str, why: Why) -> Result<(), AllocError>
-    ensures before { out.new.before ≡ out.old.before }
-    ensures tokens { OnOk result (out.new.tokens ≡ out.old.tokens ++ ending_with_why pattern.now why) }
-{
-    out.key("pattern")?;
-    out.string(pattern)?;
-    out.key("why")?;
-    out.string(why_text(why))?;
-    out.end_object()
-}
-
-fn put_rules(alloc: Global, out: &mut Writer, named: &[Named]) -> Result<(), NoMemory>
-    ensures before { out.new.before ≡ out.old.before }
-    ensures tokens { OnOk result (out.new.tokens ≡ out.old.tokens ++ json_tokens (outline (rules_data named.now))) }
-{
-    let mut pattern = String::with_capacity(alloc, PATTERN_ROOM)?;
-    out.begin_array()?;
-    for rule in named {
-        put_named(out, &mut pattern, rule)?;
+impl AnswerWriter {
+    /// Writes a refusal of the database. It takes memory for the text of a place, and once for those of all patterns.
+    pub(crate) fn refusal(&mut self, refusal: &Refusal) -> Result<(), NoMemory>
+        ensures before { self.new.before ≡ self.old.before }
+        ensures text { OnOk result (self.new.text ≡ self.old.text ++ compact_text (refusal_data refusal.now)) }
+    {
+        match refusal {
+            Refusal::SessionOpen => self.plain(Code::SessionOpen),
+            Refusal::TooManySessions => self.plain(Code::TooManySessions),
+            Refusal::NoSession => self.plain(Code::NoSession),
+            Refusal::NotAdmin => self.plain(Code::NotAdmin),
+            Refusal::EmptyUpdate => self.plain(Code::EmptyUpdate),
+            Refusal::Overlap => self.plain(Code::Overlap),
+            Refusal::DuplicateId => self.plain(Code::DuplicateId),
+            Refusal::TooManyListeners => self.plain(Code::TooManyListeners),
+            Refusal::NoListener => self.plain(Code::NoListener),
+            Refusal::ReadDenied(named) => self.read_denied(named.as_slice()),
+            Refusal::WriteDenied(at, named) => self.write_denied(at, named.as_slice()),
+            Refusal::ValidateDenied(at, pattern, why) => self.validate_denied(at, pattern, *why),
+            Refusal::TreeFull => self.plain(Code::TreeFull),
+            Refusal::NoMemory => self.plain(Code::NoMemory),
+        }
     }
-    Ok(out.end_array()?)
-}
 
-// Writes a rule, with its pattern in place of what the text has.
-fn put_named(out: &mut Writer, pattern: &mut String, named: &Named) -> Result<(), NoMemory>
-    ensures before { out.new.before ≡ out.old.before }
-    ensures tokens { OnOk result (out.new.tokens ≡ out.old.tokens ++ named_tokens named.now) }
-{
-    pattern.clear();
-    named.pattern.append_to(pattern)?;
-    out.begin_object()?;
-    Ok(end_with_why(out, pattern.as_str(), named.why)?)
-}
+    fn read_denied(&mut self, named: &[Named]) -> Result<(), NoMemory>
+        ensures before { self.new.before ≡ self.old.before }
+        ensures text { OnOk result (self.new.text ≡ self.old.text ++ compact_text (read_denied_data named.now)) }
+    {
+        self.piece(b"{\"code\":501,\"name\":\"ReadDenied\",\"ok\":false,\"rules\":[")?;
+        self.rules(named)?;
+        self.piece(b"]}")
+    }
 
-/// The text of a reason.
-pub(crate) fn why_text(why: Why) -> &'static str
-    ensures { result.now ≡ why_text why }
-{
-    match why {
-        Why::No => "false",
-        Why::Erred => "error",
+    fn write_denied(&mut self, at: &Path, named: &[Named]) -> Result<(), NoMemory>
+        ensures before { self.new.before ≡ self.old.before }
+        ensures text { OnOk result (self.new.text ≡ self.old.text ++ compact_text (write_denied_data at.now named.now)) }
+    {
+        let place = at.print(self.alloc())?;
+        self.at(place.as_str())?;
+        self.piece(b",\"code\":502,\"name\":\"WriteDenied\",\"ok\":false,\"rules\":[")?;
+        self.rules(named)?;
+        self.piece(b"]}")
+    }
+
+    fn validate_denied(&mut self, at: &Path, pattern: &Pattern, why: Why) -> Result<(), NoMemory>
+        ensures before { self.new.before ≡ self.old.before }
+        ensures text { OnOk result (self.new.text ≡ self.old.text ++ compact_text (validate_denied_data at.now pattern.now why)) }
+    {
+        let place = at.print(self.alloc())?;
+        let pattern = pattern.print()?;
+        self.at(place.as_str())?;
+        self.piece(b",\"code\":503,\"name\":\"ValidateDenied\",\"ok\":false,\"pattern\":")?;
+        self.string(pattern.as_str())?;
+        self.why(why)
+    }
+
+    // Begins a refusal with its place.
+    fn at(&mut self, place: &str) -> Result<(), NoMemory>
+        ensures before { self.new.before ≡ self.old.before }
+        ensures text { OnOk result (self.new.text ≡ self.old.text ++ (codes "{\"at\":" ++ quoted place.now)) }
+    {
+        self.piece(b"{\"at\":")?;
+        self.string(place)
+    }
+
+    // Writes rules that are named with commas between, each pattern in place of the one before.
+    fn rules(&mut self, named: &[Named]) -> Result<(), NoMemory>
+        ensures before { self.new.before ≡ self.old.before }
+        ensures told { OnOk result (self.new.text ++ codes "]" ≡ self.old.text ++ items_text false (items_of (map named_data named.now))) }
+    {
+        let mut pattern = String::with_capacity(self.alloc(), PATTERN_ROOM)?;
+        for (index, rule) in named.iter().enumerate() {
+            pattern.clear();
+            rule.pattern.append_to(&mut pattern)?;
+            self.comma(index > 0)?;
+            self.rule(pattern.as_str(), rule.why)?;
+        }
+        Ok(())
+    }
+
+    // Writes a rule that is named, by the text of its pattern.
+    fn rule(&mut self, pattern: &str, why: Why) -> Result<(), NoMemory>
+        ensures before { self.new.before ≡ self.old.before }
+        ensures text { OnOk result (self.new.text ≡ self.old.text ++ compact_text (named_rule_data pattern.now why)) }
+    {
+        self.piece(b"{\"pattern\":")?;
+        self.string(pattern)?;
+        self.why(why)
+    }
+
+    // Writes why a rule does not hold, behind its pattern, and the end.
+    fn why(&mut self, why: Why) -> Result<(), NoMemory>
+        ensures before { self.new.before ≡ self.old.before }
+        ensures text { OnOk result (self.new.text ≡ self.old.text ++ members_text true (why_members why)) }
+    {
+        match why {
+            Why::No => self.piece(b",\"why\":\"false\"}"),
+            Why::Erred => self.piece(b",\"why\":\"error\"}"),
+        }
     }
 }
