@@ -8,6 +8,7 @@ pub mod Near
 pub mod Deciding
 pub mod Places
 pub mod Refusing
+pub mod Asking
 pub mod Decided
 pub mod Verdicts
 pub mod Tops

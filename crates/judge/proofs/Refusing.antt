@@ -116,6 +116,9 @@ pub along_silent : (ask : Ask) (from : Path) (k : Key) (rest keys : Path) → ke
 along_silent ask from k rest keys is own silent =
     sym (ap (granted_from ask from) is ∙ ap (λ b. b || granted_below ask from (k ∷ rest)) own ∙ (all_silent ask (from ++ k ∷ []) rest (λ r. ap ask (append_assoc from (k ∷ []) r) ∙ silent r)).0)
 
+pub along_unnamed : (ask : Ask) (from : Path) (k : Key) (rest : Path) → ((r : Path) → ask (from ++ k ∷ r) ≡ None) → names_below ask from (k ∷ rest) ≡ []
+along_unnamed ask from k rest silent = (all_silent ask (from ++ k ∷ []) rest (λ r. ap ask (append_assoc from (k ∷ []) r) ∙ silent r)).1
+
 pub along_key : (ask : Ask) (from at : Path) (k : Key) (rest keys : Path) → keys ≡ k ∷ rest → holds (ask from) ≡ false → at ≡ from ++ k ∷ [] → granted_from ask at rest ≡ granted_from ask from keys
 along_key ask from at k rest keys is own there =
     ap (λ p. granted_from ask p rest) there ∙ sym (ap (granted_from ask from) is ∙ ap (λ b. b || granted_below ask from (k ∷ rest)) own)

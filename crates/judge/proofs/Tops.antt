@@ -20,7 +20,7 @@ use Rattle.judge.specs.Question.{Scene, Question, reading, writing}
 use Rattle.judge.specs.Granting.{IsGranted}
 use Rattle.judge.specs.Failing.{is_near, is_touched, FailsAt, IsValid, IsFirstFailing}
 use Rattle.judge.specs.Tests.{answer_at, named_rules}
-use Rattle.judge.specs.Judging.{MayRead, MayWriteAll, IsLeastRefused, IsReadVerdict, IsWriteVerdict}
+use Rattle.judge.specs.Judging.{MayRead, MayWriteAll, IsLeastRefused, IsReadVerdict, IsWriteVerdict, read_verdict_of}
 use Rattle.judge.specs.declared.verdict.Why.{Why}
 use Rattle.judge.specs.declared.verdict.Named.{Named}
 use Rattle.judge.specs.declared.verdict.Verdict.{Verdict}
@@ -28,7 +28,7 @@ use Rattle.judge.specs.declared.verdict.Verdict.TheVariants.{Granted, ReadDenied
 use Rattle.judge.specs.declared.grant.Denial.{Denial}
 use Rattle.judge.specs.declared.validate.Failure.{Failure}
 use Rattle.judge.specs.Working.Locations.{rests, PathsAscend}
-use Rattle.judge.specs.Working.Refused.{Ask, granted, granted_from, names_from, seen_names, Refuses}
+use Rattle.judge.specs.Working.Refused.{Ask, granted, granted_from, names_from, seen_names, Refuses, IsDenialAlong}
 use Rattle.judge.specs.Working.Found.{Found, FailsFrom, Near, place_of}
 use Rattle.std.specs.Borrow.{Bor}
 use Rattle.std.specs.FinMap as map_of
@@ -134,21 +134,6 @@ module _ (q : Question) (kind : Kind) (one : HasOneCapture q.scene.book) where
 -- where a walk stands at the root
 pub at_root : (ask : Ask) (from : Path) (ls : List Path) (o : Option Denial) → from ≡ [] → Refuses (granted_from ask from) (names_from ask from) (length from) ls o → Refuses (granted_from ask []) (names_from ask []) 0 ls o
 at_root ask from ls o root h = subst (λ (p : Path). Refuses (granted_from ask p) (names_from ask p) (length p) ls o) root h
-
--- ---- a read
-
-pub read_granted : (scene : Scene) (asked : Asked) (path : Path) → HasOneCapture scene.book → Refuses (granted_from (answer_at (reading scene asked) Read) []) (names_from (answer_at (reading scene asked) Read) []) 0 (path ∷ []) None → IsReadVerdict scene asked path Granted
-read_granted scene asked path one h = all_granted (reading scene asked) Read one (path ∷ []) h path (contained (path ∷ []) path (inl refl))
-
-pub read_denied : (scene : Scene) (asked : Asked) (path : Path) (denial : Denial) (named : List Named) → HasOneCapture scene.book → Refuses (granted_from (answer_at (reading scene asked) Read) []) (names_from (answer_at (reading scene asked) Read) []) 0 (path ∷ []) (Some denial) → named ≡ seen_names denial.seen.items → IsReadVerdict scene asked path (ReadDenied named)
-read_denied scene asked path denial named one h same =
-    let least = least_refused (reading scene asked) Read one (path ∷ []) denial (tt, tt) h in
-    let at : denial.location.now ≡ path = only (of_contained (path ∷ []) denial.location.now least.0) in
-    (subst (λ (p : Path). ¬ (MayRead scene asked p)) at least.1, same ∙ least.3 ∙ ap (named_rules (reading scene asked) Read) at)
-  where
-    only : (path ≡ denial.location.now) ⊎ ⊥ → denial.location.now ≡ path
-    only (inl e) = sym e
-    only (inr i) = elim i [ ]
 
 -- ---- writes
 
@@ -258,24 +243,22 @@ found_anew asking spot q ls o p root e f is h =
     subst (Found (Near ls (FailsFrom (answer_at q Validate) (coming_of asking) []))) is
     (subst (λ (ask : Ask). Found (Near ls (FailsFrom ask (coming_of asking) [])) o) (λ i. answer_at (f i) (e i)) (found_at_root (ask_of asking) (coming_of asking) (path_of spot) ls o root.root h))
 
-pub read_answer_none : (asking : Asking) (spot : Spot) (scene : Scene) (asked : Asked) (ls : List Path) (path : Path) (o : Option Denial) → question_of asking ≡ reading scene asked → asking.kind ≡ Read → StandsAtRoot asking spot → ls ≡ path ∷ [] → o ≡ None
-    → Refuses (granted_from (ask_of asking) (path_of spot)) (names_from (ask_of asking) (path_of spot)) (length (path_of spot)) ls o → IsReadVerdict scene asked path Granted
-read_answer_none asking spot scene asked ls path o f e root alone is h =
-    read_granted scene asked path (subst (λ (q : Question). HasOneCapture q.scene.book) f root.here.at.one)
-    (subst (λ (ms : List Path). Refuses (granted_from (answer_at (reading scene asked) Read) []) (names_from (answer_at (reading scene asked) Read) []) 0 ms None) alone (refused_anew asking spot Read (reading scene asked) ls o None root e f is h))
-
-pub read_answer_some : (asking : Asking) (spot : Spot) (scene : Scene) (asked : Asked) (ls : List Path) (path : Path) (o : Option Denial) (denial : Denial) (named : List Named) → question_of asking ≡ reading scene asked → asking.kind ≡ Read → StandsAtRoot asking spot → ls ≡ path ∷ [] → o ≡ Some denial → named ≡ seen_names denial.seen.items
-    → Refuses (granted_from (ask_of asking) (path_of spot)) (names_from (ask_of asking) (path_of spot)) (length (path_of spot)) ls o → IsReadVerdict scene asked path (ReadDenied named)
-read_answer_some asking spot scene asked ls path o denial named f e root alone is same h =
-    read_denied scene asked path denial named (subst (λ (q : Question). HasOneCapture q.scene.book) f root.here.at.one)
-    (subst (λ (ms : List Path). Refuses (granted_from (answer_at (reading scene asked) Read) []) (names_from (answer_at (reading scene asked) Read) []) 0 ms (Some denial)) alone (refused_anew asking spot Read (reading scene asked) ls o (Some denial) root e f is h)) same
-
 pub may_read_answer : (asking : Asking) (spot : Spot) (scene : Scene) (asked : Asked) (path : Path) (found : Bool) → question_of asking ≡ reading scene asked → asking.kind ≡ Read → StandsAtRoot asking spot
     → found ≡ granted_from (ask_of asking) (path_of spot) path → (found ≡ true) ↔ MayRead scene asked path
 may_read_answer asking spot scene asked path found f e root h =
     let all : found ≡ granted (answer_at (reading scene asked) Read) path =
     h ∙ (λ i. granted_from (answer_at (f i) (e i)) (root.root i) path) ∙ sym (granted_is (answer_at (reading scene asked) Read) path) in
     subst (λ (b : Bool). (b ≡ true) ↔ MayRead scene asked path) (sym all) (granted_decides (reading scene asked) Read path (subst (λ (q : Question). HasOneCapture q.scene.book) f root.here.at.one))
+
+-- what a walk along a path from the root says of a read of it
+pub read_along : (asking : Asking) (spot : Spot) (scene : Scene) (asked : Asked) (path : Path) (names : Option (List Named)) → question_of asking ≡ reading scene asked → asking.kind ≡ Read → StandsAtRoot asking spot
+    → IsDenialAlong (ask_of asking) path names → IsReadVerdict scene asked path (read_verdict_of names)
+read_along asking spot scene asked path None f e root h =
+    is_so (reading scene asked) Read (subst (λ (q : Question). HasOneCapture q.scene.book) f root.here.at.one) path (ap not ((λ i. granted_from (answer_at (sym f i) (sym e i)) [] path) ∙ h))
+read_along asking spot scene asked path (Some names) f e root h = (
+  is_not (reading scene asked) Read (subst (λ (q : Question). HasOneCapture q.scene.book) f root.here.at.one) path (ap not ((λ i. granted_from (answer_at (sym f i) (sym e i)) [] path) ∙ h.0)),
+  named_at (reading scene asked) Read (subst (λ (q : Question). HasOneCapture q.scene.book) f root.here.at.one) path names (h.1 ∙ (λ i. names_from (answer_at (f i) (e i)) [] path)),
+)
 
 write_is_no_read : Write ≢ Read
 write_is_no_read e = cc
@@ -294,6 +277,31 @@ pub write_answer_some : (asking : Asking) (spot : Spot) (ls : List Path) (o : Op
 write_answer_some asking spot ls o denial location named e root sorted is at same h =
     write_denied (scene_of asking.scene.now) (coming_of asking) ls denial location named root.here.at.one sorted
     (refused_anew asking spot Write (writing (scene_of asking.scene.now) (coming_of asking)) ls o (Some denial) root e (question_is asking Write e write_is_no_read root.here.asks) is h) at same
+
+-- what a walk along the location of one write from the root says of it
+pub write_along : (asking : Asking) (spot : Spot) (t : Tree) (location : Path) (names : Option (List Named)) → asking.kind ≡ Write → StandsAtRoot asking spot → coming_of asking ≡ t
+    → IsDenialAlong (ask_of asking) location names
+    → MatchOption names (MayWriteAll (scene_of asking.scene.now) t (location ∷ [])) (λ all. IsWriteVerdict (scene_of asking.scene.now) t (location ∷ []) (WriteDenied location all))
+write_along asking spot t location None e root same h =
+    let q = question_is asking Write e write_is_no_read root.here.asks in
+    subst (λ (u : Tree). MayWriteAll (scene_of asking.scene.now) u (location ∷ [])) same
+    (all_granted (writing (scene_of asking.scene.now) (coming_of asking)) Write root.here.at.one (location ∷ [])
+    (ap (λ b. cond (not b) (Some location) None) ((λ i. granted_from (answer_at (sym q i) (sym e i)) [] location) ∙ h)))
+write_along asking spot t location (Some all) e root same h =
+    let q = question_is asking Write e write_is_no_read root.here.asks in
+    let asked = writing (scene_of asking.scene.now) (coming_of asking) in
+    subst (λ (u : Tree). IsWriteVerdict (scene_of asking.scene.now) u (location ∷ []) (WriteDenied location all)) same (
+      record {
+        among = contained (location ∷ []) location (inl refl);
+        refused = is_not asked Write root.here.at.one location (ap not ((λ i. granted_from (answer_at (sym q i) (sym e i)) [] location) ∙ h.0));
+        least = λ other i _. no_less location other (of_contained (location ∷ []) other i);
+      },
+      named_at asked Write root.here.at.one location all (h.1 ∙ (λ i. names_from (answer_at (q i) (e i)) [] location)),
+    )
+  where
+    no_less : (l other : Path) → IsOf other (l ∷ []) → path_cmp other l ≢ Less
+    no_less l other (inl same) = subst (λ (p : Path). path_cmp p l ≢ Less) same (λ e. let tie = tied_itself paths_total l in cc)
+    no_less l other (inr i) = elim i [ ]
 
 pub valid_answer_none : (asking : Asking) (spot : Spot) (ls : List Path) (o : Option Failure) → asking.kind ≡ Validate → StandsAtRoot asking spot → o ≡ None
     → Found (Near (rests (length (path_of spot)) ls) (FailsFrom (ask_of asking) (coming_of asking) (path_of spot))) o → IsValid (scene_of asking.scene.now) (coming_of asking) ls

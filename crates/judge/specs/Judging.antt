@@ -1,5 +1,5 @@
 -- The verdicts.
-use Rattle.std.specs.Prelude.{◌≡◌, ◌≢◌, List, Contains, map, true}
+use Rattle.std.specs.Prelude.{◌≡◌, ◌≢◌, List, Option, None, Some, Contains, map, true}
 use Rattle.std.specs.declared.cmp.Ordering.TheVariants.{Less}
 use Rattle.path_capture.specs.Pattern.{part_of_text}
 use Rattle.tree_model.specs.Path.{Path, path_cmp, is_prefix}
@@ -31,6 +31,11 @@ IsReadVerdict scene asked path Granted = MayRead scene asked path
 IsReadVerdict scene asked path (ReadDenied named) = (¬ (MayRead scene asked path)) × (named ≡ named_rules (reading scene asked) Read path)
 IsReadVerdict scene asked path (WriteDenied location named) = ⊥
 IsReadVerdict scene asked path (ValidateDenied place pattern why) = ⊥
+
+-- the verdict on a read that is denied with these names, or granted where there are none
+abbrev pub read_verdict_of : Option (List Named) → Verdict
+read_verdict_of None = Granted
+read_verdict_of (Some named) = ReadDenied named
 
 -- every location is granted
 abbrev pub MayWriteAll : Scene → Tree → List Path → Type 0

@@ -3,15 +3,17 @@
 //! A walk over locations hands back whether all are granted. Where one is not, it tells the denial in a place
 //! that the caller lends: so what is handed back goes in registers, and where all are granted nothing is made of
 //! a denial.
-ghost use Rattle.std.specs.Prelude.{◌≡◌, ◌+◌, ◌≤◌, ◌<◌, None, is_none, length, option_map, option_and_then, IfOk, OnOk};
+ghost use Rattle.std.specs.List.{cons_option};
+ghost use Rattle.std.specs.Prelude.{◌≡◌, ◌+◌, ◌++◌, ◌≤◌, ◌<◌, [], None, is_none, length, option_map, option_and_then, IfOk, OnOk};
 ghost use Rattle.tree_model.specs.declared.limits.TheConstants.{MAX_DEPTH as most_keys};
 ghost use Rattle.rules_reader.specs.Part.{texts, Pattern as Parts};
 ghost use Rattle.judge.specs.Answers.{why_of};
-ghost use Rattle.judge.specs.Tests.{holds, name_of};
+ghost use Rattle.judge.specs.Tests.{holds, failing, name_of};
 ghost use Rattle.judge.specs.Working.Standing.{ask_of, path_of, Stands};
 ghost use Rattle.judge.specs.Working.Locations.{paths, AllBegin};
-ghost use Rattle.judge.specs.Working.Refused.{granted_below, granted_from, names_below, names_from, seen_names, Refuses, IsToldOf, IsToldWith};
+ghost use Rattle.judge.specs.Working.Refused.{granted_below, granted_from, names_below, names_from, seen_names, Refuses, IsToldOf, IsToldWith, IsAskedAlong};
 
+use crate::borrowed::BorrowedName;
 use crate::locations::{group, key_at};
 use crate::spot::{Asking, Spot, answer, enter, leave};
 use crate::verdict::{Named, NamedRules, Why};
@@ -157,6 +159,51 @@ pub(crate) fn granted_along<'a>(
             granted_along(asking, &below, rest, captures)
         }
     }
+}
+
+/// Whether a rule holds at the spot or on the way along these keys. Each rule on the way is asked once, and none
+/// behind the first that holds. Where none holds, those that were asked are listed, the shortest pattern first.
+pub(crate) fn asked_along<'a>(
+    asking: &Asking<'a>,
+    spot: &Spot<'a>,
+    keys: &'a [Key],
+    captures: &mut Captures<'a, &'a Bump>,
+    asked: &mut Vec<BorrowedName<'a>, &'a Bump>,
+) -> Result<bool, NoMemory>
+    requires here { Stands asking.now spot.now captures.old }
+    requires room { length (path_of spot.now) + length keys.now ≤ most_keys }
+    ensures { IfOk result (IsAskedAlong (ask_of asking.now) (path_of spot.now) keys.now asked.old.items asked.new.items) }
+{
+    let stated = answer(asking, spot, captures)?;
+    if holds(stated) {
+        return Ok(true);
+    }
+    list(spot, stated, asked)?;
+    match keys {
+        [] => Ok(false),
+        [key, rest @ ..] => {
+            let mut below = *spot;
+            let there = enter(asking, &mut below, key, captures)?;
+            if !there {
+                return Ok(false);
+            }
+            asked_along(asking, &below, rest, captures, asked)
+        }
+    }
+}
+
+// Lists the rule of a spot, if it states one and that does not hold.
+fn list<'a>(
+    spot: &Spot<'a>,
+    answer: Option<Outcome>,
+    asked: &mut Vec<BorrowedName<'a>, &'a Bump>,
+) -> Result<(), NoMemory>
+    ensures { OnOk result (asked.new.items ≡ asked.old.items ++ cons_option (option_map name_of (failing (option_map (λ a. (spot.now.rule.now.at, a)) answer))) []) }
+{
+    if let Some(why) = why_of(answer) {
+        asked.push(BorrowedName::of(spot.rule, why))?;
+    }
+    Ok(())
 }
 
 // Tells that a location is not granted, for which no rule was asked yet. It stays a function of its own, as the

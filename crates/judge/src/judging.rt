@@ -5,14 +5,17 @@ ghost use Rattle.path_capture.specs.Write.{tree_or_null};
 ghost use Rattle.evaluator.specs.Asked.{asked_of};
 ghost use Rattle.judge.specs.Question.{scene_of, access_at, reading};
 ghost use Rattle.rules_reader.specs.declared.kind.Kind.TheVariants.{Read as ReadKind, Write as WriteKind, Validate as ValidateKind};
+ghost use Rattle.judge.specs.declared.verdict.Verdict.TheVariants.{WriteDenied};
 ghost use Rattle.tree_model.specs.Tree.{IsLawful};
 ghost use Rattle.judge.specs.Failing.{IsValid};
-ghost use Rattle.judge.specs.Judging.{IsReadVerdict, IsWriteVerdict, MayRead, MayWriteAll};
-ghost use Rattle.judge.specs.Working.Standing.{StandsAtRoot, AsksFor, question_of, coming_of};
+ghost use Rattle.judge.specs.Judging.{IsReadVerdict, IsWriteVerdict, MayRead, MayWriteAll, read_verdict_of};
+ghost use Rattle.judge.specs.Working.Refused.{IsDenialAlong};
+ghost use Rattle.judge.specs.Working.Standing.{StandsAtRoot, AsksFor, ask_of, question_of, coming_of};
 ghost use Rattle.evaluator.specs.Env.{access_of};
 ghost use Rattle.judge.specs.Working.Locations.{paths, PathsAscend};
 
-use crate::grant::{all_granted_from, granted_along, named};
+use crate::borrowed::BorrowedNames;
+use crate::grant::{all_granted_from, asked_along, granted_along, named};
 use crate::locations::sort;
 use crate::scene::Scene;
 use crate::spot::{Asking, Spot};
@@ -40,34 +43,26 @@ pub fn judge_read<'a>(
 ) -> Result<Verdict, NoMemory>
     ensures { IfOk result (IsReadVerdict (scene_of scene.now) (asked_of asked.now) path.now) }
 {
-    judge_alone(alloc, arena, scene, path, asked, &[path])
-}
-
-// The same, of the path as the only one in a list.
-fn judge_alone<'a>(
-    alloc: Global,
-    arena: &'a Bump,
-    scene: &'a Scene<'a>,
-    path: &Path,
-    asked: &'a Asked<'a>,
-    locations: &'a [&'a Path],
-) -> Result<Verdict, NoMemory>
-    requires { paths locations.now ≡ path.now ∷ [] }
-    ensures { IfOk result (IsReadVerdict (scene_of scene.now) (asked_of asked.now) path.now) }
-{
-    let _path = path;
-    let asking = reading(arena, scene, asked);
-    let spot = at_root(&asking)?;
-    let mut captures = Captures::new(arena);
-    let mut denial = None;
-    all_granted_from(&asking, &spot, locations, &mut captures, &mut denial)?;
-    match denial {
-        Some(denial) => {
-            let rules = named(alloc, denial.seen.as_slice())?;
-            Ok(Verdict::ReadDenied(rules))
-        }
+    match read_denial(arena, scene, path, asked)? {
+        Some(names) => Ok(Verdict::ReadDenied(names.copy(alloc)?)),
         None => Ok(Verdict::Granted),
     }
+}
+
+/// Why a read of a path with this query is denied, if it is: what [`judge_read`] finds, with the names borrowed, so
+/// that it takes memory of the arena alone. Of d keys, d · log w in nodes of w children, and each rule on the way at
+/// most once, none behind the first that holds. (Guide "Core syntax", `.read` and `.write` rules cascade.)
+pub fn read_denial<'a>(
+    arena: &'a Bump,
+    scene: &'a Scene<'a>,
+    path: &'a Path,
+    asked: &'a Asked<'a>,
+) -> Result<Option<BorrowedNames<'a>>, NoMemory>
+    ensures { IfOk result (λ denial. IsReadVerdict (scene_of scene.now) (asked_of asked.now) path.now (read_verdict_of denial)) }
+{
+    let asking = reading(arena, scene, asked);
+    let spot = at_root(&asking)?;
+    denial_along(&asking, &spot, path)
 }
 
 /// Whether a read of a path with this query is granted: what [`judge_read`] finds, where no names are
@@ -115,7 +110,90 @@ pub fn judge_write<'a>(
     }
 }
 
-// The same of one write, whose location makes no list.
+/// Why one write, which proposes this tree, is denied for write, if it is: what [`judge_write`] finds, with the names
+/// borrowed, so that it takes memory of the arena alone. (Guide "Core syntax", `.read` and `.write` rules cascade.)
+pub fn write_denial<'a>(
+    arena: &'a Bump,
+    scene: &'a Scene<'a>,
+    coming: &Option<View<'a>>,
+    write: &'a Write,
+) -> Result<Option<BorrowedNames<'a>>, NoMemory>
+    ensures { IfOk result (λ names. MatchOption names (MayWriteAll (scene_of scene.now) (tree_or_null coming.now) (location write.now ∷ [])) (λ names. IsWriteVerdict (scene_of scene.now) (tree_or_null coming.now) (location write.now ∷ []) (WriteDenied (location write.now) names))) }
+{
+    let top = root_of(arena, coming)?;
+    let asking = Asking {
+        arena,
+        scene,
+        access: Access::Writes(top),
+        kind: Kind::Write,
+    };
+    let spot = at_root(&asking)?;
+    denial_along(&asking, &spot, write.at())
+}
+
+/// The verdict on one write that is not denied for write, by its `.validate` rules: what [`judge_write`] finds. (Guide
+/// "Core syntax", `.validate` rules do not cascade.)
+pub fn judge_granted<'a>(
+    alloc: Global,
+    arena: &'a Bump,
+    scene: &'a Scene<'a>,
+    coming: &'a Option<View<'a>>,
+    write: &'a Write,
+) -> Result<Verdict, NoMemory>
+    requires { MayWriteAll (scene_of scene.now) (tree_or_null coming.now) (location write.now ∷ []) }
+    ensures { IfOk result (IsWriteVerdict (scene_of scene.now) (tree_or_null coming.now) (location write.now ∷ [])) }
+{
+    validated(alloc, arena, scene, coming, &[write.at()])
+}
+
+// The verdict on writes that are granted.
+fn validated<'a>(
+    alloc: Global,
+    arena: &'a Bump,
+    scene: &'a Scene<'a>,
+    coming: &'a Option<View<'a>>,
+    locations: &'a [&'a Path],
+) -> Result<Verdict, NoMemory>
+    requires sorted { PathsAscend (paths locations.now) }
+    requires granted { MayWriteAll (scene_of scene.now) (tree_or_null coming.now) (paths locations.now) }
+    ensures { IfOk result (IsWriteVerdict (scene_of scene.now) (tree_or_null coming.now) (paths locations.now)) }
+{
+    law_of(coming);
+    let top = root_of(arena, coming)?;
+    let asking = Asking {
+        arena,
+        scene,
+        access: Access::Writes(top),
+        kind: Kind::Validate,
+    };
+    let spot = at_root(&asking)?;
+    let mut captures = Captures::new(arena);
+    let failed = validate_denied(alloc, &asking, &spot, locations, &mut captures)?;
+    match failed {
+        Some(verdict) => Ok(verdict),
+        None => Ok(Verdict::Granted),
+    }
+}
+
+// The rules that are asked along a path from the root, where none of them holds.
+fn denial_along<'a>(
+    asking: &Asking<'a>,
+    spot: &Spot<'a>,
+    path: &'a Path,
+) -> Result<Option<BorrowedNames<'a>>, NoMemory>
+    requires { StandsAtRoot asking.now spot.now }
+    ensures { IfOk result (IsDenialAlong (ask_of asking.now) path.now) }
+{
+    let mut captures = Captures::new(asking.arena);
+    let mut asked = Vec::new(asking.arena);
+    let granted = asked_along(asking, spot, path.keys(), &mut captures, &mut asked)?;
+    if granted {
+        return Ok(None);
+    }
+    Ok(Some(BorrowedNames::of_vec(asked)))
+}
+
+// The same of one write, with names of its own.
 fn judge_one<'a>(
     alloc: Global,
     arena: &'a Bump,
@@ -125,7 +203,11 @@ fn judge_one<'a>(
 ) -> Result<Verdict, NoMemory>
     ensures { IfOk result (IsWriteVerdict (scene_of scene.now) (tree_or_null coming.now) (location write.now ∷ [])) }
 {
-    judge_ordered(alloc, arena, scene, coming, &[write.at()])
+    if let Some(names) = write_denial(arena, scene, coming, write)? {
+        let location = write.at().copy(alloc)?;
+        return Ok(Verdict::WriteDenied(location, names.copy(alloc)?));
+    }
+    judge_granted(alloc, arena, scene, coming, write)
 }
 
 // The same of writes in any order.

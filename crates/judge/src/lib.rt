@@ -4,6 +4,7 @@
 //! [`judge_write`]: each answers the verdict of the definitions, but for want of memory.
 #![tactic(auto)]
 
+mod borrowed;
 mod grant;
 mod judging;
 mod laws;
@@ -14,7 +15,8 @@ mod validate;
 mod verdict;
 mod watching;
 
-pub use judging::{judge_read, judge_write, may_read};
+pub use borrowed::{BorrowedName, BorrowedNames};
+pub use judging::{judge_granted, judge_read, judge_write, may_read, read_denial, write_denial};
 pub use laws::{
     a_grant_reaches_down, each_named_rule_does_not_hold, every_write_sees_the_whole,
     only_rules_above_grant, the_order_of_writes_changes_nothing, the_tests_decide,

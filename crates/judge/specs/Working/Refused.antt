@@ -1,5 +1,5 @@
 -- A walk that asks who may: which location is refused, and which rules it met on the way.
-use Rattle.std.specs.Prelude.{◌≡◌, ℕ, ◌||◌, ◌++◌, List, [], ◌∷◌, map, drop, reverse, find, Bool, false, not, Option, Some, None, option_map, IsSomeAnd}
+use Rattle.std.specs.Prelude.{◌≡◌, ℕ, ◌||◌, ◌++◌, List, [], ◌∷◌, map, drop, reverse, find, Bool, true, false, not, Option, Some, None, option_map, IsSomeAnd}
 use Rattle.std.specs.List.{cons_option, list_any}
 use Rattle.tree_model.specs.Path.{Path, prefixes}
 use Rattle.judge.specs.Tests.{Answer, holds, failing, name_of}
@@ -53,3 +53,13 @@ IsToldOf location told = IsSomeAnd told (λ d. (d.location.now ≡ location) × 
 abbrev pub IsToldWith : Named → Option Denial → Option Denial → Type 0
 IsToldWith name None next = next ≡ None
 IsToldWith name (Some d) next = IsSomeAnd next (λ n. (n.location.now ≡ d.location.now) × (seen_names n.seen.items ≡ name ∷ seen_names d.seen.items))
+
+-- whether a rule holds at `from` or on the way along the rest; where none does, the names of those that were asked are listed behind what a list has
+abbrev pub IsAskedAlong : Ask → Path → Path → List Named → List Named → Bool → Type 0
+IsAskedAlong ask from rest old new true = granted_from ask from rest ≡ true
+IsAskedAlong ask from rest old new false = (granted_from ask from rest ≡ false) × (new ≡ old ++ names_from ask from rest)
+
+-- what a walk from the root along a path comes to: none where a rule holds on the way, else the names of all that were asked
+abbrev pub IsDenialAlong : Ask → Path → Option (List Named) → Type 0
+IsDenialAlong ask path None = granted_from ask [] path ≡ true
+IsDenialAlong ask path (Some names) = (granted_from ask [] path ≡ false) × (names ≡ names_from ask [] path)
