@@ -3,7 +3,7 @@ ghost use Rattle.std.specs.Prelude.{◌≡◌, ◌++◌, map, codes, true, false
 ghost use Rattle.json.specs.Print.{quoted};
 ghost use Rattle.json.specs.Tree.{json_tokens};
 ghost use Rattle.serde_json.specs.Written.{outline, compact_text, items_text, members_text};
-ghost use Rattle.messages.specs.AnswerText.{plain_data, named_data, items_of, read_denied_data, write_denied_data, validate_denied_data, refusal_data};
+ghost use Rattle.messages.specs.AnswerText.{text, plain_data, named_data, items_of, read_denied_data, write_denied_data, validate_denied_data, refusal_data};
 ghost use Rattle.messages.specs.Working.Writing.{named_rule_data, why_members};
 
 use crate::answer_writer::AnswerWriter;
@@ -11,7 +11,7 @@ use crate::code::Code;
 use json::Writer;
 use json_tree::NoMemory;
 use path_capture::{Path, Pattern};
-use rtdb_core::{Named, Refusal, Why};
+use rtdb_core::{BorrowedName, BorrowedNames, Named, Refusal, Reply, Why};
 
 // For how many bytes the text of a pattern has room at first.
 const PATTERN_ROOM: usize = 128;
@@ -75,6 +75,31 @@ impl AnswerWriter {
         self.piece(b"]}")
     }
 
+    /// Writes the text of the reply to a read that is denied with these names, with no copy of a pattern.
+    #[tactic(auto, unfolding(crate::specs::AnswerText::text))]
+    pub fn put_read_denied(&mut self, names: &BorrowedNames<'_>) -> Result<(), NoMemory>
+        ensures before { self.new.before ≡ self.old.before }
+        ensures text { OnOk result (self.new.text ≡ self.old.text ++ text (Reply.Refused (Refusal.ReadDenied names.now))) }
+    {
+        self.piece(b"{\"code\":501,\"name\":\"ReadDenied\",\"ok\":false,\"rules\":[")?;
+        self.borrowed_rules(names.as_slice())?;
+        self.piece(b"]}")
+    }
+
+    /// Writes the text of the reply to a write at this location that is denied with these names, with no copy of a
+    /// pattern. It takes memory for the text of the location.
+    #[tactic(auto, unfolding(crate::specs::AnswerText::text))]
+    pub fn put_write_denied(&mut self, at: &Path, names: &BorrowedNames<'_>) -> Result<(), NoMemory>
+        ensures before { self.new.before ≡ self.old.before }
+        ensures text { OnOk result (self.new.text ≡ self.old.text ++ text (Reply.Refused (Refusal.WriteDenied at.now names.now))) }
+    {
+        let place = at.print(self.alloc())?;
+        self.at(place.as_str())?;
+        self.piece(b",\"code\":502,\"name\":\"WriteDenied\",\"ok\":false,\"rules\":[")?;
+        self.borrowed_rules(names.as_slice())?;
+        self.piece(b"]}")
+    }
+
     fn validate_denied(&mut self, at: &Path, pattern: &Pattern, why: Why) -> Result<(), NoMemory>
         ensures before { self.new.before ≡ self.old.before }
         ensures text { OnOk result (self.new.text ≡ self.old.text ++ compact_text (validate_denied_data at.now pattern.now why)) }
@@ -107,6 +132,18 @@ impl AnswerWriter {
             rule.pattern.append_to(&mut pattern)?;
             self.comma(index > 0)?;
             self.rule(pattern.as_str(), rule.why)?;
+        }
+        Ok(())
+    }
+
+    // The same of rules that are borrowed, whose patterns have their texts.
+    fn borrowed_rules(&mut self, names: &[BorrowedName<'_>]) -> Result<(), NoMemory>
+        ensures before { self.new.before ≡ self.old.before }
+        ensures told { OnOk result (self.new.text ++ codes "]" ≡ self.old.text ++ items_text false (items_of (map named_data names.now))) }
+    {
+        for (place, name) in names.iter().enumerate() {
+            self.comma(place > 0)?;
+            self.rule(name.pattern_text(), name.why())?;
         }
         Ok(())
     }

@@ -176,5 +176,9 @@ pub poll_heard : (old new : State) (now session : ℕ) (result : Result ⊤ NoMe
 poll_heard old new now session (Ok x) heard done kept = subst AllHeard (sym done) (outcome_heard old now session heard Poll)
 poll_heard old new now session (Err e) heard done kept = subst AllHeard (sym kept) heard
 
+pub made_heard : (old new : State) (now session : ℕ) (write : Write) (result : Result ⊤ NoMemory) → AllHeard old → OnOk result (new ≡ (sets old now session write).after) → OnErr result (new ≡ old) → AllHeard new
+made_heard old new now session write (Ok x) heard done kept = subst AllHeard (sym done) (outcome_heard old now session heard (Set write))
+made_heard old new now session write (Err e) heard done kept = subst AllHeard (sym kept) heard
+
 pub opening_heard : (rules : Book) (tree : Tree) → AllHeard (opening rules tree)
 opening_heard rules tree n = subst (AreHeard rules tree (identity_of (opening rules tree) n)) (sym (ap listeners_in (map_of.get-empty nat_cmp n))) (All-nil (IsHeard rules tree (identity_of (opening rules tree) n)))

@@ -1,5 +1,6 @@
 -- Why reads and writes are refused, from their verdicts.
-use Rattle.std.proofs.Common.{◌≡◌, ◌∷◌, [], ℕ, Bool, List, map, true, not, cond, Some, None, Option, option_map, sym, ap, subst, ◌∙◌}
+use Rattle.std.proofs.Common.{◌≡◌, ◌∷◌, [], ℕ, Bool, List, map, true, false, not, cond, Some, None, Option, inl, inr, option_map, sym, ap, subst, refl, ◌∙◌}
+use Rattle.std.specs.Prelude.{MatchOption}
 use Rattle.std.specs.Borrow.{Bor}
 use Rattle.tree_model.specs.Path.{Path}
 use Rattle.tree_model.specs.Tree.{Tree, non_null}
@@ -10,18 +11,21 @@ use Rattle.rules_reader.specs.Place.{HasOneCapture}
 use Rattle.evaluator.specs.Asked.{Asked}
 use Rattle.judge.specs.Question.{Scene}
 use Rattle.evaluator.specs.Identity.{Identity}
-use Rattle.judge.specs.Judging.{IsReadVerdict, IsWriteVerdict}
-use Rattle.judge.specs.Tests.{read_verdict}
+use Rattle.judge.specs.Judging.{IsReadVerdict, IsWriteVerdict, read_verdict_of}
+use Rattle.judge.specs.Tests.{read_verdict, write_verdict}
+use Rattle.judge.specs.declared.verdict.Named.{Named}
 use Rattle.judge.specs.declared.verdict.Verdict.{Verdict}
+use Rattle.judge.specs.declared.verdict.Verdict.TheVariants as verdicts
 use Rattle.judge.proofs.Coming.{is_proposed}
 use Rattle.judge.proofs.Verdicts.{reads_decided, one_verdict}
 use Rattle.listeners.specs.Query.{Query}
+use Rattle.rtdb_core.specs.declared.event.Event.TheVariants.{Set}
 use Rattle.rtdb_core.specs.declared.reply.Refusal.{Refusal}
-use Rattle.rtdb_core.specs.declared.reply.Refusal.TheVariants.{NoSession}
-use Rattle.rtdb_core.specs.declared.reply.Reply.TheVariants.{Done}
+use Rattle.rtdb_core.specs.declared.reply.Refusal.TheVariants.{NoSession, NoMemory, ReadDenied, WriteDenied}
+use Rattle.rtdb_core.specs.declared.reply.Reply.TheVariants.{Done, Refused}
 use Rattle.rtdb_core.specs.State.{State, is_open, identity_of, scene_for}
 use Rattle.rtdb_core.specs.Rejudged.{asked_for}
-use Rattle.rtdb_core.specs.Step.{refused, unless_refused, denial, full, or_full, tree_with, written_to, read_refusal, write_refusal, value_at, gets, sets, makes}
+use Rattle.rtdb_core.specs.Step.{refused, unless_refused, denial, full, or_full, tree_with, written_to, read_refusal, write_refusal, value_at, gets, sets, makes, Step}
 use Rattle.rtdb_core.specs.Working.Fates.{read_refusal_for, verdict_for, write_refusal_for}
 
 -- ---- reads
@@ -30,6 +34,11 @@ use Rattle.rtdb_core.specs.Working.Fates.{read_refusal_for, verdict_for, write_r
 pub reads_as : (old : State) (now session : ℕ) (who : Option Identity) (path : Path) (query : Option Query) → who ≡ identity_of old session → read_refusal_for old now who path query ≡ read_refusal old now session path query
 unfolding read_refusal read_refusal_for
 reads_as old now session who path query is = ap (λ (w : Option Identity). denial (read_verdict (scene_for old now w) (asked_for query) path)) is
+
+-- a verdict on a read is a denial where names are there
+pub denied_so : (names : Option (List Named)) → option_map ReadDenied names ≡ denial (read_verdict_of names)
+denied_so None = refl
+denied_so (Some names) = refl
 
 pub read_is : (old : State) (now : ℕ) (who : Option Identity) (scene : Scene) (asked : Asked) (path : Path) (query : Option Query) (v : Verdict) → scene ≡ scene_for old now who → asked ≡ asked_for query → IsReadVerdict scene asked path v → denial v ≡ read_refusal_for old now who path query
 unfolding read_refusal_for
@@ -90,3 +99,61 @@ module _ (old : State) (now session : ℕ) (who : Option Identity) (ws : List Wr
 
     pub set_granted : (write : Write) → ws ≡ write ∷ [] → (new : State) → write_refusal_for old now who ws ≡ None → new ≡ written_to old now ws → sets old now session write ≡ record { reply = Done; after = new }
     set_granted write one new h made = sets_as write ∙ ap (makes old now session) (sym one) ∙ granted_write new h made
+
+-- a write that is done: no rule refuses it, and this is the state after it
+pub set_done : (old : State) (now session : ℕ) (write : Write) → (sets old now session write).reply ≡ Done → (write_refusal old now session (write ∷ []) ≡ None) × ((sets old now session write).after ≡ written_to old now (write ∷ []))
+set_done old now session write done =
+    opened (is_open old session) done
+  where
+    judged : (o : Option Refusal) → (unless_refused old o (record { reply = Done; after = written_to old now (write ∷ []) })).reply ≡ Done → (o ≡ None) × ((unless_refused old o (record { reply = Done; after = written_to old now (write ∷ []) })).after ≡ written_to old now (write ∷ []))
+    judged None h = (refl, refl)
+    judged (Some refusal) h = cc
+
+    opened : (b : Bool) → (cond (not b) (refused old NoSession) (makes old now session (write ∷ []))).reply ≡ Done → (write_refusal old now session (write ∷ []) ≡ None) × ((cond (not b) (refused old NoSession) (makes old now session (write ∷ []))).after ≡ written_to old now (write ∷ []))
+    opened true h = judged (write_refusal old now session (write ∷ [])) h
+    opened false h = cc
+
+-- the same for who is signed in on the session
+pub not_refused : (old : State) (now session : ℕ) (write : Write) → write_refusal old now session (write ∷ []) ≡ None → write_refusal_for old now (identity_of old session) (write ∷ []) ≡ None
+not_refused old now session write h = writes_as old now session (identity_of old session) (write ∷ []) refl ∙ h
+
+-- ---- one write, whose denial is borrowed
+
+pub match_none : {A : Type 0} (N : Type 0) (P : A → Type 0) (o : Option A) → o ≡ None → MatchOption o N P → N
+match_none N P o is h = subst (λ p. MatchOption p N P) is h
+
+-- a verdict by itself, as a refusal
+pub alone_denied : (scene : Scene) (t : Tree) (ls : List Path) (v : Verdict) (refusal : Refusal) → HasOneCapture scene.book → IsWriteVerdict scene t ls v → denial v ≡ Some refusal → Some refusal ≡ or_full (denial (write_verdict scene t ls)) t
+alone_denied scene t ls v refusal one h denied = ap (λ (o : Option Refusal). or_full o t) (sym denied ∙ ap denial (one_verdict scene t ls v one h))
+
+pub alone_granted : (scene : Scene) (t : Tree) (ls : List Path) (v : Verdict) → HasOneCapture scene.book → IsWriteVerdict scene t ls v → denial v ≡ None → full t ≡ or_full (denial (write_verdict scene t ls)) t
+alone_granted scene t ls v one h none = ap (λ (o : Option Refusal). or_full o t) (sym none ∙ ap denial (one_verdict scene t ls v one h))
+
+module _ (old : State) (now : ℕ) (who : Option Identity) (scene : Scene) (t : Tree) (write : Write) (scene_is : scene ≡ scene_for old now who) (tree_is : t ≡ tree_with old (write ∷ [])) where
+  pub set_judged : or_full (denial (write_verdict scene t (location write ∷ []))) t ≡ write_refusal_for old now who (write ∷ [])
+  unfolding write_refusal_for
+  set_judged = λ i. or_full (denial (write_verdict (scene_is i) (tree_is i) (location write ∷ []))) (tree_is i)
+
+  pub set_denied : (names : List Named) (o : Option (List Named)) (N : Type 0) (at : Path) → at ≡ location write → HasOneCapture scene.book → o ≡ Some names → MatchOption o N (λ all. IsWriteVerdict scene t (location write ∷ []) (verdicts.WriteDenied (location write) all)) → Some (WriteDenied at names) ≡ write_refusal_for old now who (write ∷ [])
+  set_denied names o N at there one some h =
+      ap (λ (l : Path). Some (WriteDenied l names)) there
+      ∙ alone_denied scene t (location write ∷ []) (verdicts.WriteDenied (location write) names) (WriteDenied (location write) names) one
+      (subst (λ p. MatchOption p N (λ all. IsWriteVerdict scene t (location write ∷ []) (verdicts.WriteDenied (location write) all))) some h) refl
+      ∙ set_judged
+
+-- ---- a write that is judged and made in two calls
+
+set_open : (old : State) (now session : ℕ) (write : Write) → (sets old now session write).reply ≡ Done → is_open old session ≡ true
+set_open old now session write done = opened (is_open old session) done
+  where
+    opened : (b : Bool) → (cond (not b) (refused old NoSession) (makes old now session (write ∷ []))).reply ≡ Done → b ≡ true
+    opened true h = refl
+    opened false h = cc
+
+pub set_made : (old new : State) (now session : ℕ) (write : Write) → (sets old now session write).reply ≡ Done → new ≡ (sets old now session write).after → Step old now session (Set write) Done new
+unfolding Step
+set_made old new now session write done after = inl (λ i. record { reply = done i; after = sym after i })
+
+pub set_wanting : (old new : State) (now session : ℕ) (write : Write) → (sets old now session write).reply ≡ Done → new ≡ old → Step old now session (Set write) (Refused NoMemory) new
+unfolding Step
+set_wanting old new now session write done same = inr (refl, same, ap not (set_open old now session write done))

@@ -6,19 +6,20 @@ ghost use Rattle.path_capture.specs.Write.{tree_or_null};
 ghost use Rattle.rules_reader.specs.Place.{HasOneCapture};
 ghost use Rattle.rtdb_core.specs.State.{opening, is_open};
 ghost use Rattle.rtdb_core.specs.Rejudged.{selected_at};
-ghost use Rattle.rtdb_core.specs.Step.{polls, Step};
+ghost use Rattle.rtdb_core.specs.Borrowed.{refusal_of_read, refusal_of_write};
+ghost use Rattle.rtdb_core.specs.Step.{polls, outcome, Step};
 
 use crate::event::Event;
 use crate::limits::MAX_LOCATIONS;
 use crate::machine::Machine;
-use crate::reply::{Refusal, Reply};
+use crate::reply::{ReadRefusal, Refusal, Reply, WriteRefusal};
 use crate::tidings::Tidings;
 use arena_snapshot::View;
 use bumpalo::Bump;
 use evaluator::MAX_MOMENT;
 use json_tree::{NoMemory, Node};
 use listeners::Query;
-use path_capture::Path;
+use path_capture::{Path, Write};
 use rules_reader::Rules;
 use std::alloc::Global;
 use std::marker::Model;
@@ -84,16 +85,16 @@ impl Core {
     /// Answers a read as [`Core::step`] does, by the tree that stands there, which is borrowed: so a read
     /// costs one step for each key of its path, log w of w children each, and the rules on the way, and
     /// nothing grows with what it answers.
-    pub fn read(
-        &self,
-        arena: &mut Bump,
+    pub fn read<'a>(
+        &'a self,
+        arena: &'a mut Bump,
         now: u64,
         session: u64,
-        path: &Path,
-    ) -> Result<Option<&Node>, Refusal>
+        path: &'a Path,
+    ) -> Result<Option<&'a Node>, ReadRefusal<'a>>
         requires { now ≤ MAX_MOMENT }
         ensures found { IfOk result (λ found. Step self.now now session (Event.Get path.now None) (Reply.Value (option_map (λ node. node.now) found)) self.now) }
-        ensures refused { IfErr result (λ refusal. Step self.now now session (Event.Get path.now None) (Reply.Refused refusal) self.now) }
+        ensures refused { IfErr result (λ refusal. Step self.now now session (Event.Get path.now None) (Reply.Refused (refusal_of_read refusal)) self.now) }
     {
         self.machine.read(arena, now, session, path)
     }
@@ -101,20 +102,57 @@ impl Core {
     /// Judges a read as [`Core::step`] does, and does all that a step does before it answers. Where the read is
     /// granted, [`Core::selected`] lends the answer over the same arena, and where that wants memory, the read is
     /// refused for want of memory. It costs one step for each key of its path, log w of w children each, and the rules on the way.
-    pub fn grant(
-        &self,
-        arena: &mut Bump,
+    pub fn grant<'a>(
+        &'a self,
+        arena: &'a mut Bump,
         now: u64,
         session: u64,
-        path: &Path,
-        query: Option<&Query>,
-    ) -> Result<(), Refusal>
+        path: &'a Path,
+        query: Option<&'a Query>,
+    ) -> Result<(), ReadRefusal<'a>>
         requires { now ≤ MAX_MOMENT }
         ensures granted { OnOk result (Step self.now now session (Event.Get path.now (option_map (λ query. query.now) query.entry)) (Reply.Value (non_null (selected_at self.now.tree path.now (option_map (λ query. query.now) query.entry)))) self.now) }
         ensures for_want_of_memory { OnOk result (Step self.now now session (Event.Get path.now (option_map (λ query. query.now) query.entry)) (Reply.Refused Refusal.NoMemory) self.now) }
-        ensures refused { IfErr result (λ refusal. Step self.now now session (Event.Get path.now (option_map (λ query. query.now) query.entry)) (Reply.Refused refusal) self.now) }
+        ensures refused { IfErr result (λ refusal. Step self.now now session (Event.Get path.now (option_map (λ query. query.now) query.entry)) (Reply.Refused (refusal_of_read refusal)) self.now) }
     {
         self.machine.grant(arena, now, session, path, query)
+    }
+
+    /// Judges a write of one location as [`Core::step`] does, and does all that a step does before it changes
+    /// anything: the names of a denial for write are borrowed. Where it is allowed, [`Core::make`] makes it. It costs
+    /// one step for each key of its location, log w of w children each, the rules on the way, and what is written.
+    pub fn allow<'a>(
+        &'a self,
+        arena: &'a mut Bump,
+        now: u64,
+        session: u64,
+        write: &'a Write,
+    ) -> Result<(), WriteRefusal<'a>>
+        requires { now ≤ MAX_MOMENT }
+        ensures allowed { OnOk result ((outcome self.now now session (Event.Set write.now)).reply ≡ Reply.Done) }
+        ensures refused { IfErr result (λ refusal. Step self.now now session (Event.Set write.now) (Reply.Refused (refusal_of_write refusal)) self.now) }
+    {
+        self.machine.allow(arena, now, session, write)
+    }
+
+    /// Makes a write that [`Core::allow`] has allowed, at the same moment and in the same session: together they are
+    /// the step of the write. Where it wants memory, nothing has changed, and that is the refusal. It costs one step
+    /// for each key of its location, and a look at the listeners, for which the arena is made free, as a step does;
+    /// where anybody listens, the write is laid over the tree once more.
+    pub fn make(
+        &mut self,
+        arena: &mut Bump,
+        now: u64,
+        session: u64,
+        write: Write,
+    ) -> Result<(), NoMemory>
+        requires moment { now ≤ MAX_MOMENT }
+        requires allowed { (outcome self.old now session (Event.Set write)).reply ≡ Reply.Done }
+        ensures ok { OnOk result (Step self.old now session (Event.Set write) Reply.Done self.new) }
+        ensures err { OnErr result (Step self.old now session (Event.Set write) (Reply.Refused Refusal.NoMemory) self.new) }
+        ensures unchanged { OnErr result (self.new ≡ self.old) }
+    {
+        self.machine.make_allowed(arena, now, session, write)
     }
 
     /// What a query selects of what stands at a path, without a query all of it, borrowed from the stored tree

@@ -1,18 +1,24 @@
 //! The state machine: one event in, one reply out.
 ghost use Rattle.std.specs.Prelude.{◌≡◌, true, ◌↔◌, ◌^◌, map, ℕ, ◌≤◌, ◌<◌, ◌∷◌, [], length, None, Some, Option, false, IsErr, IfOk, IfErr, IfSome, OnOk, OnErr, is_some, option_map};
 ghost use Rattle.std.specs.FinMap as map_of;
+ghost use Rattle.std.specs.List.{list_any};
 ghost use Rattle.tree_model.specs.PathMap.{sub};
 ghost use Rattle.tree_model.specs.Tree.{non_null, count};
 ghost use Rattle.tree_model.specs.Write.{overlaps};
 ghost use Rattle.path_capture.specs.Write.{tree_or_null};
 ghost use Rattle.rules_reader.specs.Place.{HasOneCapture};
+ghost use Rattle.tree_model.specs.Write.{location};
+ghost use Rattle.judge.specs.Judging.{MayWriteAll};
+ghost use Rattle.judge.specs.Tests.{write_verdict};
 ghost use Rattle.judge.specs.Question.{scene_of};
 ghost use Rattle.evaluator.specs.Identity.{Identity};
 ghost use Rattle.listeners.specs.Table.{has_id, without_id, taken};
 ghost use Rattle.rtdb_core.specs.State.{opening, is_open, identity_of, listeners_of, is_admin, scene_for};
 ghost use Rattle.rtdb_core.specs.Rejudged.{selected_at};
-ghost use Rattle.rtdb_core.specs.Step.{opened, closed, closes, with_session, signs, tree_with, listening, unlistens, polls, news_of, ticks, deployed, deploys, outcome, takes_no_memory, Step};
-ghost use Rattle.rtdb_core.specs.Working.Fates.{sparse, settled, fate_of, fates_of, all_sessions, with_settled, with_tree, with_rules, read_refusal_for, write_refusal_for, IsJudgedWrite};
+ghost use Rattle.rtdb_core.specs.Step.{opened, closed, closes, with_session, signs, tree_with, listening, unlistens, polls, news_of, ticks, deployed, deploys, written_to, denial, or_full, outcome, takes_no_memory, Step};
+ghost use Rattle.rtdb_core.specs.Working.Fates.{sparse, settled, fate_of, fates_of, all_sessions, listens, with_settled, with_tree, with_rules, read_refusal_for, write_refusal_for, IsJudgedWrite};
+ghost use Rattle.rtdb_core.specs.Borrowed.{refusal_of_read, refusal_of_write};
+ghost use Rattle.rtdb_core.specs.declared.reply.Refusal.TheVariants.{ReadDenied};
 ghost use Rattle.rtdb_core.specs.Working.Heard.{AreHeard, AllHeardIn, AllHeard};
 ghost use Rattle.rtdb_core.specs.Working.Passages.{IsPassage, tree_before, tree_after, who_of};
 
@@ -24,8 +30,8 @@ use crate::limits::{MAX_LOCATIONS, MAX_SESSIONS};
 use crate::news::News;
 use crate::passage::{Passage, shared};
 use crate::refusals::{denial, full, listen_refusal, reset};
-use crate::rejudging::{decide_all, decide_own, settle_all};
-use crate::reply::{Refusal, Reply};
+use crate::rejudging::{decide_all, decide_own, settle_all, somebody_listens};
+use crate::reply::{ReadRefusal, Refusal, Reply, WriteRefusal};
 use crate::selected::{asked_for, selected_in, view_in};
 use crate::session::Session;
 use crate::telling::tidings_of;
@@ -35,7 +41,9 @@ use arena_snapshot::{View, overlaps, overlay};
 use bumpalo::Bump;
 use evaluator::{Identity, MAX_MOMENT, Moment};
 use json_tree::{Key, NoMemory, Node};
-use judge::{Scene, judge_read, judge_write};
+use judge::{
+    BorrowedNames, Scene, judge_granted, judge_read, judge_write, read_denial, write_denial,
+};
 use listeners::{ListenerId, Query};
 use path_capture::{Path, Write, make_all};
 use rules_reader::Rules;
@@ -105,16 +113,16 @@ impl Machine {
 
     /// Answers a read as [`Core::read`](crate::Core::read) does.
     #[tactic(auto, unfolding(crate::specs::Step::Step, listeners::specs::Selection::selection))]
-    pub(crate) fn read(
-        &self,
-        arena: &mut Bump,
+    pub(crate) fn read<'a>(
+        &'a self,
+        arena: &'a mut Bump,
         now: u64,
         session: u64,
-        path: &Path,
-    ) -> Result<Option<&Node>, Refusal>
+        path: &'a Path,
+    ) -> Result<Option<&'a Node>, ReadRefusal<'a>>
         requires { now ≤ MAX_MOMENT }
         ensures found { IfOk result (λ found. Step self.now now session (Event.Get path.now None) (Reply.Value (option_map (λ node. node.now) found)) self.now) }
-        ensures refused { IfErr result (λ refusal. Step self.now now session (Event.Get path.now None) (Reply.Refused refusal) self.now) }
+        ensures refused { IfErr result (λ refusal. Step self.now now session (Event.Get path.now None) (Reply.Refused (refusal_of_read refusal)) self.now) }
     {
         self.grant(arena, now, session, path, None)?;
         Ok(self.value_at(path.keys()))
@@ -122,27 +130,73 @@ impl Machine {
 
     /// Judges a read as [`Core::grant`](crate::Core::grant) does.
     #[tactic(auto, unfolding(crate::specs::Step::Step))]
-    pub(crate) fn grant(
-        &self,
-        arena: &mut Bump,
+    pub(crate) fn grant<'a>(
+        &'a self,
+        arena: &'a mut Bump,
         now: u64,
         session: u64,
-        path: &Path,
-        query: Option<&Query>,
-    ) -> Result<(), Refusal>
+        path: &'a Path,
+        query: Option<&'a Query>,
+    ) -> Result<(), ReadRefusal<'a>>
         requires { now ≤ MAX_MOMENT }
         ensures granted { OnOk result (Step self.now now session (Event.Get path.now (option_map (λ query. query.now) query.entry)) (Reply.Value (non_null (selected_at self.now.tree path.now (option_map (λ query. query.now) query.entry)))) self.now) }
         ensures for_want_of_memory { OnOk result (Step self.now now session (Event.Get path.now (option_map (λ query. query.now) query.entry)) (Reply.Refused Refusal.NoMemory) self.now) }
-        ensures refused { IfErr result (λ refusal. Step self.now now session (Event.Get path.now (option_map (λ query. query.now) query.entry)) (Reply.Refused refusal) self.now) }
+        ensures refused { IfErr result (λ refusal. Step self.now now session (Event.Get path.now (option_map (λ query. query.now) query.entry)) (Reply.Refused (refusal_of_read refusal)) self.now) }
     {
         let Some(open) = self.open_session(session) else {
-            return Err(Refusal::NoSession);
+            return Err(ReadRefusal::Other(Refusal::NoSession));
         };
         reset(arena)?;
-        match self.read_refusal(arena, now, open.identity(), path, query)? {
+        match self.read_denial(arena, now, open.identity(), path, query)? {
+            Some(names) => Err(ReadRefusal::Denied(names)),
+            None => Ok(()),
+        }
+    }
+
+    /// Judges a write as [`Core::allow`](crate::Core::allow) does.
+    #[tactic(auto, unfolding(crate::specs::Step::Step))]
+    pub(crate) fn allow<'a>(
+        &'a self,
+        arena: &'a mut Bump,
+        now: u64,
+        session: u64,
+        write: &'a Write,
+    ) -> Result<(), WriteRefusal<'a>>
+        requires { now ≤ MAX_MOMENT }
+        ensures allowed { OnOk result ((outcome self.now now session (Event.Set write.now)).reply ≡ Reply.Done) }
+        ensures refused { IfErr result (λ refusal. Step self.now now session (Event.Set write.now) (Reply.Refused (refusal_of_write refusal)) self.now) }
+    {
+        let Some(open) = self.open_session(session) else {
+            return Err(WriteRefusal::Other(Refusal::NoSession));
+        };
+        reset(arena)?;
+        match self.set_refusal(arena, now, open.identity(), write)? {
             Some(refusal) => Err(refusal),
             None => Ok(()),
         }
+    }
+
+    /// Makes a write as [`Core::make`](crate::Core::make) does.
+    #[tactic(auto, unfolding(crate::specs::Step::Step))]
+    pub(crate) fn make_allowed(
+        &mut self,
+        arena: &mut Bump,
+        now: u64,
+        session: u64,
+        write: Write,
+    ) -> Result<(), NoMemory>
+        requires moment { now ≤ MAX_MOMENT }
+        requires heard { AllHeard self.old }
+        requires allowed { (outcome self.old now session (Event.Set write)).reply ≡ Reply.Done }
+        ensures ok { OnOk result (self.new ≡ (outcome self.old now session (Event.Set write)).after) }
+        ensures err { OnErr result (self.new ≡ self.old) }
+    {
+        let _session = session;
+        reset(arena)?;
+        let decisions = self.decide_written(&*arena, now, slice::from_ref(&write))?;
+        self.make(write)?;
+        self.settle_all(&decisions.made);
+        Ok(())
     }
 
     /// What a query selects, as [`Core::selected`](crate::Core::selected) lends it.
@@ -703,6 +757,101 @@ impl Machine {
         let scene = self.scene(now, who);
         let verdict = judge_read(self.alloc, arena, &scene, path, &asked)?;
         Ok(denial(verdict))
+    }
+
+    // The same, where a denial is borrowed from the rules and the arena.
+    fn read_denial<'a>(
+        &'a self,
+        arena: &'a Bump,
+        now: u64,
+        who: Option<&'a Identity>,
+        path: &'a Path,
+        query: Option<&'a Query>,
+    ) -> Result<Option<BorrowedNames<'a>>, NoMemory>
+        requires { now ≤ MAX_MOMENT }
+        ensures { IfOk result (λ denial. option_map ReadDenied denial ≡ read_refusal_for self.now now (who_of who.entry) path.now (option_map (λ query. query.now) query.entry)) }
+    {
+        let asked = arena.try_alloc(asked_for(query))?;
+        let scene = arena.try_alloc(self.scene(now, who))?;
+        read_denial(arena, scene, path, asked)
+    }
+
+    // Why a write is refused for whoever is signed in, if it is, where a denial for write is borrowed.
+    fn set_refusal<'a>(
+        &'a self,
+        arena: &'a Bump,
+        now: u64,
+        who: Option<&'a Identity>,
+        write: &'a Write,
+    ) -> Result<Option<WriteRefusal<'a>>, NoMemory>
+        requires { now ≤ MAX_MOMENT }
+        ensures { IfOk result (λ refusal. option_map refusal_of_write refusal ≡ write_refusal_for self.now now (who_of who.entry) (write.now ∷ [])) }
+    {
+        self.rules();
+        let coming = overlay(arena, self.tree.as_ref(), slice::from_ref(write))?;
+        let scene = arena.try_alloc(self.scene(now, who))?;
+        if let Some(names) = write_denial(arena, scene, &coming, write)? {
+            return Ok(Some(WriteRefusal::Denied(write.at(), names)));
+        }
+        match self.granted_refusal(arena, scene, &coming, write)? {
+            Some(refusal) => Ok(Some(WriteRefusal::Other(refusal))),
+            None => Ok(None),
+        }
+    }
+
+    // Why a write is refused that is not denied for write, if it is.
+    fn granted_refusal<'a>(
+        &self,
+        arena: &'a Bump,
+        scene: &'a Scene<'a>,
+        coming: &'a Option<View<'a>>,
+        write: &'a Write,
+    ) -> Result<Option<Refusal>, NoMemory>
+        requires one { HasOneCapture (scene_of scene.now).book }
+        requires granted { MayWriteAll (scene_of scene.now) (tree_or_null coming.now) (location write.now ∷ []) }
+        ensures { IfOk result (λ refusal. refusal ≡ or_full (denial (write_verdict (scene_of scene.now) (tree_or_null coming.now) (location write.now ∷ []))) (tree_or_null coming.now)) }
+    {
+        let locations = count_in(coming);
+        let verdict = judge_granted(self.alloc, arena, scene, coming, write)?;
+        match denial(verdict) {
+            Some(denial) => Ok(Some(denial)),
+            None => Ok(full(locations)),
+        }
+    }
+
+    // What becomes of all listeners where these writes are made, which the rules grant.
+    fn decide_written<'a>(
+        &self,
+        arena: &'a Bump,
+        now: u64,
+        writes: &[Write],
+    ) -> Result<Decisions<'a>, NoMemory>
+        requires moment { now ≤ MAX_MOMENT }
+        requires heard { AllHeard self.now }
+        requires apart { overlaps writes.now ≡ false }
+        ensures { IfOk result (λ decisions. with_settled (with_tree self.now writes.now) decisions.made.items ≡ written_to self.now now writes.now) }
+    {
+        if !self.has_listeners() {
+            return Ok(Decisions::new(arena));
+        }
+        let coming = overlay(arena, self.tree.as_ref(), writes)?;
+        let passage = Passage {
+            rules: &self.rules,
+            base: self.tree.as_ref(),
+            writes,
+            coming,
+            moment: now,
+            was_heard: true,
+        };
+        let decided = self.decide_all(arena, &passage)?;
+        Ok(decided)
+    }
+
+    // Whether somebody listens to something.
+    fn has_listeners(&self) -> bool
+        ensures { result ≡ list_any listens (all_sessions self.now.sessions) }
+    {
+        somebody_listens(&self.sessions)
     }
 
     // Why writes are refused for whoever is signed in, or what becomes of all listeners where they are made.

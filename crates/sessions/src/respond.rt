@@ -3,6 +3,8 @@ ghost use Rattle.std.specs.Prelude.{◌≡◌, ◌≢◌, ◌≤◌, ℕ, List, 
 ghost use Rattle.messages.specs.AnswerText.{text, fault_text, rules_fault_text, line_fault_text};
 ghost use Rattle.sessions.specs.Said.{unopened, refused, running, as_line, IsAnsweredBy, header_fault_text};
 ghost use Rattle.sessions.specs.Working.Follow.{phase_of, bytes_of, rest_of, AnswersAt};
+ghost use Rattle.rtdb_core.specs.Borrowed.{refusal_of_read, refusal_of_write};
+ghost use Rattle.rtdb_core.specs.Step.{outcome};
 ghost use Rattle.rtdb_core.specs.declared.reply.Reply.TheVariants as replies;
 ghost use Rattle.rtdb_core.specs.declared.reply.Refusal.TheVariants as refusals;
 ghost use Rattle.rules_reader.specs.declared.fault.RulesFault.TheVariants as rules_faults;
@@ -15,8 +17,8 @@ use messages::{
     AnswerWriter, Asked, Form, HeaderFault, LineFault, MessageFault, MessageReader, Opened, Stamp,
     read_header,
 };
-use path_capture::Path;
-use rtdb_core::{Core, Event, MAX_MOMENT, Refusal, Reply};
+use path_capture::{Path, Write};
+use rtdb_core::{Core, Event, MAX_MOMENT, ReadRefusal, Refusal, Reply, WriteRefusal};
 use rules_reader::RulesFault;
 use std::alloc::Global;
 
@@ -116,6 +118,7 @@ fn answer_asked(
     let stamp = asked.stamp;
     match asked.event {
         Event::Get(path, query) => answer_read(core, arena, stamp, &path, query.as_ref(), out),
+        Event::Set(write) => answer_set(core, arena, stamp, write, out),
         Event::Poll => answer_poll(core, arena, stamp, out),
         event => {
             let reply = core.step(arena, stamp.now, stamp.session, event);
@@ -162,7 +165,7 @@ fn answer_plain_read(
             out.put_value(found)?;
             Ok(Answer::Written)
         }
-        Err(refusal) => say_refusal(&refusal, out),
+        Err(refusal) => say_read_refusal(&refusal, out),
     }
 }
 
@@ -181,7 +184,7 @@ fn answer_query(
     ensures answered { IfOk result (λ answer. (said : List ℕ) × IsAnsweredBy core.now (Ok (record { stamp = stamp; event = Event.Get path.now (Some query.now) })) said core.now × (bytes_of answer out.new.text ≡ as_line said)) }
 {
     if let Err(refusal) = core.grant(arena, stamp.now, stamp.session, path, Some(query)) {
-        return say_refusal(&refusal, out);
+        return say_read_refusal(&refusal, out);
     }
     match core.selected(arena, path, Some(query)) {
         Ok(found) => {
@@ -189,6 +192,43 @@ fn answer_query(
             Ok(Answer::Written)
         }
         Err(_) => say_refusal(&Refusal::NoMemory, out),
+    }
+}
+
+// Answers a write of one location, of which the rules are asked before it is made: the names of a denial are written
+// from where they stand.
+fn answer_set(
+    core: &mut Core,
+    arena: &mut Bump,
+    stamp: Stamp,
+    write: Write,
+    out: &mut AnswerWriter,
+) -> Result<Answer, NoMemory>
+    requires moment { stamp.now ≤ MAX_MOMENT }
+    requires none { out.old.text ≡ [] }
+    ensures before { out.new.before ≡ out.old.before }
+    ensures answered { IfOk result (λ answer. (said : List ℕ) × IsAnsweredBy core.old (Ok (record { stamp = stamp; event = Event.Set write })) said core.new × (bytes_of answer out.new.text ≡ as_line said)) }
+{
+    if let Err(refusal) = core.allow(arena, stamp.now, stamp.session, &write) {
+        return say_write_refusal(&refusal, out);
+    }
+    make_set(core, arena, stamp, write)
+}
+
+// Makes a write that is allowed.
+fn make_set(
+    core: &mut Core,
+    arena: &mut Bump,
+    stamp: Stamp,
+    write: Write,
+) -> Result<Answer, NoMemory>
+    requires moment { stamp.now ≤ MAX_MOMENT }
+    requires allowed { (outcome core.old stamp.now stamp.session (Event.Set write)).reply ≡ Reply.Done }
+    ensures answered { IfOk result (λ answer. (text : List ℕ) → (said : List ℕ) × IsAnsweredBy core.old (Ok (record { stamp = stamp; event = Event.Set write })) said core.new × (bytes_of answer text ≡ as_line said)) }
+{
+    match core.make(arena, stamp.now, stamp.session, write) {
+        Ok(()) => Ok(Answer::Done),
+        Err(_) => Ok(Answer::NoMemory),
     }
 }
 
@@ -294,6 +334,35 @@ fn say_refusal(refusal: &Refusal, out: &mut AnswerWriter) -> Result<Answer, NoMe
             out.put_refusal(refusal)?;
             Ok(Answer::Written)
         }
+    }
+}
+
+// The names of a denial are written from where they stand.
+fn say_read_refusal(refusal: &ReadRefusal<'_>, out: &mut AnswerWriter) -> Result<Answer, NoMemory>
+    requires none { out.old.text ≡ [] }
+    ensures before { out.new.before ≡ out.old.before }
+    ensures line { IfOk result (λ answer. bytes_of answer out.new.text ≡ as_line (text (replies.Refused (refusal_of_read refusal.now)))) }
+{
+    match refusal {
+        ReadRefusal::Denied(names) => {
+            out.put_read_denied(names)?;
+            Ok(Answer::Written)
+        }
+        ReadRefusal::Other(refusal) => say_refusal(refusal, out),
+    }
+}
+
+fn say_write_refusal(refusal: &WriteRefusal<'_>, out: &mut AnswerWriter) -> Result<Answer, NoMemory>
+    requires none { out.old.text ≡ [] }
+    ensures before { out.new.before ≡ out.old.before }
+    ensures line { IfOk result (λ answer. bytes_of answer out.new.text ≡ as_line (text (replies.Refused (refusal_of_write refusal.now)))) }
+{
+    match refusal {
+        WriteRefusal::Denied(at, names) => {
+            out.put_write_denied(at, names)?;
+            Ok(Answer::Written)
+        }
+        WriteRefusal::Other(refusal) => say_refusal(refusal, out),
     }
 }
 

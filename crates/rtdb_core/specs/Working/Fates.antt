@@ -1,5 +1,5 @@
 -- What events are refused for, and what becomes of listeners, as the code decides and makes it. No public clause stands on these words.
-use Rattle.std.specs.Prelude.{◌≡◌, ℕ, suc, ◌+◌, ◌-◌, ◌^◌, ◌==◌, List, [], ◌∷◌, ◌++◌, map, length, min, nat_le, Bool, if◌then◌else◌, Option, None, Some}
+use Rattle.std.specs.Prelude.{◌≡◌, ℕ, suc, ◌+◌, ◌-◌, ◌^◌, ◌==◌, List, [], ◌∷◌, ◌++◌, map, length, min, nat_le, nat_lt, Bool, if◌then◌else◌, Option, None, Some}
 use Rattle.std.specs.FinMap as map_of
 use Rattle.evaluator.specs.Identity.{Identity}
 use Rattle.tree_model.specs.Tree.{Tree}
@@ -91,6 +91,10 @@ fates_of old rules new now (one ∷ others) = map (fate_of old rules new now one
 
 abbrev pub all_sessions : Sessions → List Session
 all_sessions sessions = map (λ e. e.1) (map_of.entries sessions)
+
+-- somebody listens to something on the session
+abbrev pub listens : Session → Bool
+listens one = nat_lt 0 (length one.listeners)
 
 -- the state once this is made that was decided
 abbrev pub with_settled : State → List Decision → State

@@ -1,4 +1,4 @@
-use Rattle.std.proofs.Common.{◌∙◌, ◌++◌, ap, refl, sym}
+use Rattle.std.proofs.Common.{◌∙◌, ◌++◌, ap, refl}
 use Rattle.rtdb_core.specs.declared.reply.Reply.TheVariants.{News, Refused}
 use Rattle.rtdb_core.specs.declared.reply.Refusal.TheVariants as refusals
 use Rattle.messages.specs.AnswerText.{text}

@@ -1,4 +1,4 @@
-use Rattle.std.proofs.Common.{◌≡◌, ◌++◌, ℕ, List, [], subst, arith}
+use Rattle.std.proofs.Common.{◌≡◌, ℕ, List, [], subst, arith}
 use Rattle.std.proofs.lemmas.Result.{err_from_is_err_and}
 use Rattle.sessions.specs.Working.Sent.{Passes, Breaks}
 use Rattle.sessions.proofs.Sending.{Passes-then-Appends, Passes-then-Breaks, Breaks-before}
