@@ -10,3 +10,4 @@ pub mod Placed
 pub mod Sorted
 pub mod Beneath
 pub mod Depends
+pub mod Leading

@@ -26,7 +26,7 @@ value_of_places : (o : Option Snapshot) → as_value (option_map snapshot o) ≡
 value_of_places None = refl
 value_of_places (Some s) = refl
 
-value_of_values : (o : Option Value) → as_value (option_map value o) ≡ o
+pub value_of_values : (o : Option Value) → as_value (option_map value o) ≡ o
 value_of_values None = refl
 value_of_values (Some v) = refl
 

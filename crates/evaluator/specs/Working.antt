@@ -2,3 +2,4 @@
 pub mod Known
 pub mod Parts
 pub mod Places
+pub mod Seams

@@ -1,6 +1,7 @@
 //! The evaluator: what an expression means, and whether a rule holds.
-ghost use Rattle.std.specs.Prelude.{◌≡◌, Some, None, IfOk, OnOk, IsErrOf, true, option_map, pos};
+ghost use Rattle.std.specs.Prelude.{◌≡◌, ◌≤◌, Some, None, IfOk, OnOk, IsErrOf, true, option_map, pos};
 ghost use Rattle.std.specs.Option.{option_and_then};
+ghost use Rattle.tree_model.specs.declared.limits.TheConstants.{MAX_TEXT_BYTES};
 ghost use Rattle.expr_tokens.specs.Known.{text_of};
 ghost use Rattle.expr_parser.specs.View.{view, view_argument, views, arguments};
 ghost use Rattle.expr_parser.specs.Tree.{Null, argument, no_argument};
@@ -14,6 +15,7 @@ ghost use Rattle.evaluator.specs.Env.{env_of, variable, capture, Suits};
 ghost use Rattle.evaluator.specs.Mean.{mean, given as meant, values};
 ghost use Rattle.evaluator.specs.Holds.{outcome};
 ghost use Rattle.evaluator.specs.Working.Parts.{value_of, part_of, argument_value, as_place, result_of};
+ghost use Rattle.evaluator.specs.Working.Seams.{IsSeam, led_by};
 
 use crate::calls::{
     below_of, called_with, called_with_nothing, called_with_two, child_of, has_child, holder,
@@ -22,6 +24,7 @@ use crate::calls::{
 use crate::env::Env;
 use crate::members::{auth_value, capture, member, member_value as member_value_of, variable};
 use crate::operators::{in_truth, is_something, literal, minus_of, of_both};
+use crate::seams::{is_seam, literal_below, value_below};
 use crate::snapshot::{Found, Snapshot, child_at};
 use crate::value::{Part, Stop, Value, in_place, in_value, put_part, put_truth, put_value, wanted};
 use bumpalo::Bump;
@@ -29,6 +32,7 @@ use expr_parser::{Argument, Expr, Operator};
 use expr_tokens::{KnownName, Name};
 use expr_types::Checked;
 use json_tree::NoMemory;
+use tree_model::MAX_TEXT_BYTES;
 
 // A function below that is marked `inline(never)` is not made one with the functions that call it: room for what it
 // needs on its way would be made and cleared at each call of these.
@@ -406,7 +410,7 @@ fn value_place<'a>(
     }
 }
 
-// The child by a text that an operator makes, which mostly is several keys.
+// The child by a text that an operator makes, which mostly is several keys with slashes between them.
 #[cycle(evaluation)]
 #[inline(never)]
 fn made_place<'a>(
@@ -418,9 +422,115 @@ fn made_place<'a>(
     ensures value { IfOk (result_of result) (λ found. option_and_then (child_of at.now) (as_value (mean (view key.now) (env_of env.now))) ≡ Some found.now) }
     ensures erred { IsErrOf (result_of result) Stop.Erred → option_and_then (child_of at.now) (as_value (mean (view key.now) (env_of env.now))) ≡ None }
 {
+    if !is_seam(key) {
+        return joined_place(arena, at, key, env);
+    }
+    let mut room = MAX_TEXT_BYTES;
+    sum_place(arena, at, key, env, &mut room)
+}
+
+// The child by a text that has to be made.
+#[cycle(evaluation)]
+#[inline(never)]
+fn joined_place<'a>(
+    arena: &'a Bump,
+    at: &'a Snapshot<'a>,
+    key: &'a Expr,
+    env: &Env<'a, '_>,
+) -> Found<'a>
+    ensures value { IfOk (result_of result) (λ found. option_and_then (child_of at.now) (as_value (mean (view key.now) (env_of env.now))) ≡ Some found.now) }
+    ensures erred { IsErrOf (result_of result) Stop.Erred → option_and_then (child_of at.now) (as_value (mean (view key.now) (env_of env.now))) ≡ None }
+{
     let mut found = Value::Null;
     match value(arena, key, env, &mut found) {
         Ok(()) => below_of(arena, at, found),
+        Err(stop) => Found::stopped(stop),
+    }
+}
+
+// Where the text of a sum with a slash between its operands leads: the right one leads on from where the left one does.
+#[cycle(evaluation)]
+#[inline(always)]
+fn sum_place<'a>(
+    arena: &'a Bump,
+    at: &'a Snapshot<'a>,
+    sum: &'a Expr,
+    env: &Env<'a, '_>,
+    room: &mut usize,
+) -> Found<'a>
+    requires seam { IsSeam (view sum.now) }
+    requires room { room.old ≤ MAX_TEXT_BYTES }
+    ensures value { IfOk (result_of result) (λ found. led_by (at.now, room.old) (as_value (mean (view sum.now) (env_of env.now))) ≡ Some (found.now, room.new)) }
+    ensures erred { IsErrOf (result_of result) Stop.Erred → led_by (at.now, room.old) (as_value (mean (view sum.now) (env_of env.now))) ≡ None }
+{
+    // No other expression is a sum.
+    let Expr::Operation(_, left, right) = sum else {
+        return text_place(arena, at, sum, env, room);
+    };
+    match operand_place(arena, at, left, env, room) {
+        Found::At(next) => operand_place(arena, next, right, env, room),
+        Found::Erred => Found::Erred,
+        Found::NoMemory => Found::NoMemory,
+    }
+}
+
+// The same of a sum that is an operand.
+#[cycle(evaluation)]
+#[inline(never)]
+fn inner_place<'a>(
+    arena: &'a Bump,
+    at: &'a Snapshot<'a>,
+    sum: &'a Expr,
+    env: &Env<'a, '_>,
+    room: &mut usize,
+) -> Found<'a>
+    requires seam { IsSeam (view sum.now) }
+    requires room { room.old ≤ MAX_TEXT_BYTES }
+    ensures value { IfOk (result_of result) (λ found. led_by (at.now, room.old) (as_value (mean (view sum.now) (env_of env.now))) ≡ Some (found.now, room.new)) }
+    ensures erred { IsErrOf (result_of result) Stop.Erred → led_by (at.now, room.old) (as_value (mean (view sum.now) (env_of env.now))) ≡ None }
+{
+    sum_place(arena, at, sum, env, room)
+}
+
+// Where the text of an operand leads.
+#[cycle(evaluation)]
+#[inline(always)]
+fn operand_place<'a>(
+    arena: &'a Bump,
+    at: &'a Snapshot<'a>,
+    expr: &'a Expr,
+    env: &Env<'a, '_>,
+    room: &mut usize,
+) -> Found<'a>
+    requires { room.old ≤ MAX_TEXT_BYTES }
+    ensures value { IfOk (result_of result) (λ found. led_by (at.now, room.old) (as_value (mean (view expr.now) (env_of env.now))) ≡ Some (found.now, room.new)) }
+    ensures erred { IsErrOf (result_of result) Stop.Erred → led_by (at.now, room.old) (as_value (mean (view expr.now) (env_of env.now))) ≡ None }
+{
+    if let Expr::Text(text) = expr {
+        return literal_below(arena, at, text.as_str(), room);
+    }
+    if is_seam(expr) {
+        return inner_place(arena, at, expr, env, room);
+    }
+    text_place(arena, at, expr, env, room)
+}
+
+// Where the text leads that has to be evaluated.
+#[cycle(evaluation)]
+#[inline(always)]
+fn text_place<'a>(
+    arena: &'a Bump,
+    at: &'a Snapshot<'a>,
+    expr: &'a Expr,
+    env: &Env<'a, '_>,
+    room: &mut usize,
+) -> Found<'a>
+    ensures value { IfOk (result_of result) (λ found. led_by (at.now, room.old) (as_value (mean (view expr.now) (env_of env.now))) ≡ Some (found.now, room.new)) }
+    ensures erred { IsErrOf (result_of result) Stop.Erred → led_by (at.now, room.old) (as_value (mean (view expr.now) (env_of env.now))) ≡ None }
+{
+    let mut found = Value::Null;
+    match value(arena, expr, env, &mut found) {
+        Ok(()) => value_below(arena, at, found, room),
         Err(stop) => Found::stopped(stop),
     }
 }
@@ -775,8 +885,9 @@ pub enum Outcome {
 
 /// Whether a rule of this expression holds: Yes exactly where it means true, No exactly where it means
 /// false, and Erred in every other case. Each part is evaluated at most once, and only where it is
-/// looked at. Growths are taken for a text that `+` or `replace` makes, and one for each key that `child` goes
-/// down, as `hasChild` and `hasChildren` do where no child has the key; every other text is borrowed.
+/// looked at. Growths are taken for a text that `+` or `replace` makes, unless `child` goes down by what is joined
+/// with a slash between, and one for each key that `child` goes down, as `hasChild` and `hasChildren` do where no
+/// child has the key; every other text is borrowed.
 /// (Reference, rules types.)
 pub fn evaluate<'a>(
     arena: &'a Bump,

@@ -13,6 +13,7 @@ mod identity;
 mod laws;
 mod members;
 mod operators;
+mod seams;
 mod snapshot;
 mod texts;
 mod value;

@@ -8,7 +8,7 @@ use std::test::Fail;
 use std::thread;
 
 // Each as long as a text may be, 4,096 bytes, or a few bytes shorter.
-const DEEPEST: [LongRow; 9] = [
+const DEEPEST: [LongRow; 10] = [
     ("1", "+1", 2_047, "", "erred"),
     ("1", "-1", 2_044, "<0", "yes"),
     ("1<2", "&&1<2", 818, "", "yes"),
@@ -17,6 +17,7 @@ const DEEPEST: [LongRow; 9] = [
     ("1", "<1", 2_047, "", "erred"),
     ("now", ".length", 584, "", "erred"),
     ("root", ".parent()", 453, ".val()", "erred"),
+    ("root.child('/'", "+'/'", 1_018, ").exists()", "no"),
     ("a", ".a", 2_047, "", "refused"),
 ];
 

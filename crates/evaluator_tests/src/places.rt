@@ -97,8 +97,112 @@ fn where_child_and_parent_lead(rt: HostRuntime) -> Result<(), Fail> {
     Ok(())
 }
 
+// Texts that are joined: what is joined is a text with and without slashes, the empty text, a number, and what is none.
+const PARTS: &str =
+    "{\"1\":{\"y\":1},\"g\":{\"-1\":{\"y\":1},\"1\":{\"y\":1},\"x\":{\"y\":1}},\"gx\":1,\"n\":1,\"o\":\"\",\"s\":\"/x/\",\"t\":\"x\",\"u\":\"a.b\"}";
+
+const JOINED: [Row; 26] = [
+    (
+        "root.child('g/' + root.child('t').val() + '/y').val() == 1",
+        "yes",
+    ),
+    (
+        "root.child('g/' + root.child('s').val() + '/y').val() == 1",
+        "yes",
+    ),
+    (
+        "root.child('g/' + root.child('o').val() + '/x/y').val() == 1",
+        "yes",
+    ),
+    (
+        "root.child('g/' + root.child('n').val() + '/y').val() == 1",
+        "yes",
+    ),
+    ("root.child('g/' + (0 - 1) + '/y').val() == 1", "yes"),
+    (
+        "root.child('g/' + root.child('z').val() + '/y').exists()",
+        "erred",
+    ),
+    (
+        "root.child('g/' + root.child('g').val() + '/y').exists()",
+        "erred",
+    ),
+    ("root.child('g/' + true + '/y').exists()", "erred"),
+    ("root.child('g/' + (1 < 'a') + '/y').exists()", "erred"),
+    (
+        "root.child('g/' + root.child('u').val() + '/y').exists()",
+        "erred",
+    ),
+    (
+        "root.child('u.v/' + root.child('t').val()).exists()",
+        "erred",
+    ),
+    (
+        "root.child('g/' + root.child('t').val() + '/u.v').exists()",
+        "erred",
+    ),
+    (
+        "root.child('g/' + root.child('t').val()).hasChild('y')",
+        "yes",
+    ),
+    (
+        "root.child('g/' + root.child('s').val()).hasChild('y')",
+        "yes",
+    ),
+    (
+        "root.child('g').child(root.child('t').val() + '/y').val() == 1",
+        "yes",
+    ),
+    (
+        "root.child('g').child(root.child('n').val() + '/y').val() == 1",
+        "yes",
+    ),
+    (
+        "root.child('g').child(root.child('z').val() + '/y').exists()",
+        "erred",
+    ),
+    ("root.child('g' + root.child('t').val()).val() == 1", "yes"),
+    (
+        "root.child('g' + root.child('t').val() + '/y').exists()",
+        "no",
+    ),
+    (
+        "root.child('g/' + root.child('t').val() + 'y').exists()",
+        "no",
+    ),
+    (
+        "root.child('g' + root.child('s').val() + 'y').val() == 1",
+        "yes",
+    ),
+    (
+        "root.child('g/' + (root.child('t').val() + '/y')).val() == 1",
+        "yes",
+    ),
+    (
+        "root.child('/' + 'g' + '/' + root.child('t').val() + '/' + 'y' + '/').val() == 1",
+        "yes",
+    ),
+    (
+        "root.child('g/' + root.child('z').val() + '').exists()",
+        "erred",
+    ),
+    (
+        "root.child(0 + root.child('n').val() + '/y').val() == 1",
+        "yes",
+    ),
+    ("root.child(0 + root.child('n').val()).exists()", "erred"),
+];
+
+#[test]
+fn where_joined_texts_lead(rt: HostRuntime) -> Result<(), Fail> {
+    let scene = asked_by_nobody(rt.alloc(), PARTS)?;
+    let other = first_other(rt.alloc(), &scene, &JOINED)?;
+    assert_eq!(rt; other.as_str(), "");
+    Ok(())
+}
+
 // A path has at most 32 keys, also where it is made in two steps, and a key at most 768 bytes.
-const LONG_PATHS: [LongRow; 8] = [
+const LONG_PATHS: [LongRow; 12] = [
     ("root.hasChild('", "k/", 32, "')", "no"),
     ("root.hasChild('", "k/", 33, "')", "erred"),
     ("root.child('k').hasChild('", "k/", 31, "')", "no"),
@@ -107,7 +211,44 @@ const LONG_PATHS: [LongRow; 8] = [
     ("root.hasChild('", "k", 769, "')", "erred"),
     ("root.hasChild('", "\u{20ac}", 256, "')", "no"),
     ("root.hasChild('k", "\u{20ac}", 256, "')", "erred"),
+    ("root.child('", "k/", 31, "' + 'k').exists()", "no"),
+    ("root.child('", "k/", 32, "' + 'k').exists()", "erred"),
+    ("root.child('k' + '", "/k", 31, "').exists()", "no"),
+    ("root.child('k' + '", "/k", 32, "').exists()", "erred"),
 ];
+
+// A joined text has at most 65,536 bytes, also where nearly all of them are slashes.
+const LONG_JOINED: [LongRow; 3] = [
+    (
+        "root.child('p/' + '",
+        "/",
+        1_023,
+        "'.replace('/', '////////////////////////////////////////////////////////////////') + '/////////////////////////////////////////////////////////////q').val() == 1",
+        "yes",
+    ),
+    (
+        "root.child('p/' + '",
+        "/",
+        1_023,
+        "'.replace('/', '////////////////////////////////////////////////////////////////') + '//////////////////////////////////////////////////////////////q').val() == 1",
+        "erred",
+    ),
+    (
+        "root.child('p/' + '",
+        "/",
+        1_024,
+        "'.replace('/', '////////////////////////////////////////////////////////////////')).exists()",
+        "erred",
+    ),
+];
+
+#[test]
+fn the_longest_joined_texts(rt: HostRuntime) -> Result<(), Fail> {
+    let scene = asked_by_nobody(rt.alloc(), TREE)?;
+    let other = first_other_of_long(rt.alloc(), &scene, &LONG_JOINED)?;
+    assert_eq!(rt; other.as_str(), "");
+    Ok(())
+}
 
 #[test]
 fn the_longest_paths(rt: HostRuntime) -> Result<(), Fail> {

@@ -1,4 +1,4 @@
-use Rattle.std.proofs.Common.{◌≡◌, ◌<◌, length, ◌∙◌, ap, sym, subst, refl, arith, rules, Some, None, IfOk, IsErrOf, Option, Result}
+use Rattle.std.proofs.Common.{◌≡◌, ℕ, ◌<◌, length, ◌∙◌, ap, sym, subst, refl, arith, rules, Some, None, IfOk, IsErrOf, Option, Result}
 use Rattle.std.specs.Borrow.{Bor}
 use Rattle.std.proofs.lemmas.Result.{on_ok_weaker}
 use Rattle.std.specs.Prelude.{option_map, codes}
@@ -15,6 +15,7 @@ use Rattle.evaluator.specs.Mean.{mean, given, values}
 use Rattle.evaluator.specs.Working.Parts.{value_of, part_of, argument_value, as_place, result_of}
 use Rattle.evaluator.proofs.Lists.{call_is, two_are, many_are, one_is, list_is, element_errs, child_errs, all_found, no_holder, some_holder}
 use Rattle.evaluator.proofs.Placed.{value_with_nothing, child_with, has_child_with, have_children_with, given_nothing, given_value, given_list, found_at, part_with_nothing}
+use Rattle.evaluator.proofs.Leading.{made_found, made_errs, by_right, no_left}
 use Rattle.evaluator.proofs.evaluation.+evaluation.Goals.{place-in-At, place-in-Erred, place-in-NoMemory}
 use Rattle.evaluator.proofs.evaluation.+evaluation.Goals as goal
 
@@ -232,3 +233,30 @@ receiver_of-returns-in-Call-clause-erred t c =
     let few : length c.in-Call.given.items < 1 = search rules in
     let e = part_with_nothing c.args.expr.now c.deref.result.now c.in-Call.receiver c.in-Call.name c.in-Call.name c.in-Call.given c.in-Call.given.items env c.in-Call.is c.deref.ensures refl refl (given_nothing c.in-Call.given.items env few) in
     λ h. e ∙ c.call_with_nothing.ensures.erred h
+
+-- ---- keys with slashes between their texts
+
+pub made_place-returns-clause-value : goal.made_place-returns-clause-value
+made_place-returns-clause-value t c =
+    made_found c.args.at.now (view c.args.key.now) (env_of c.args.env.now) _ (result_of c.sum_place.result) (c.is_seam.ensures c.if-not-is_seam.false) c.sum_place.ensures.value
+
+pub made_place-returns-clause-erred : goal.made_place-returns-clause-erred
+made_place-returns-clause-erred t c =
+    λ h. made_errs c.args.at.now (view c.args.key.now) (env_of c.args.env.now) (c.is_seam.ensures c.if-not-is_seam.false) (c.sum_place.ensures.erred h)
+
+pub sum_place-returns-in-At-clause-value : goal.sum_place-returns-in-At-clause-value
+sum_place-returns-in-At-clause-value t c =
+    let at = c.in-Operation in
+    let e = by_right (c.args.at.now, c.args.room.now) c.requires.room c.args.sum.now c.deref.result.now at.field-0 at.left at.right (env_of c.args.env.now) c.requires.seam at.is c.deref.ensures c.deref-in-At.result.now (c.in-At.next.now, c.operand_place.new.room) c.deref-in-At.ensures c.in-At.ensures.value in
+    subst (λ (o : Option (Snapshot × ℕ)). IfOk (result_of c.operand_place-in-At.result) (λ (found : Bor Snapshot). o ≡ Some (found.now, c.operand_place-in-At.new.room))) (sym e) c.operand_place-in-At.ensures.value
+
+pub sum_place-returns-in-At-clause-erred : goal.sum_place-returns-in-At-clause-erred
+sum_place-returns-in-At-clause-erred t c =
+    let at = c.in-Operation in
+    let e = by_right (c.args.at.now, c.args.room.now) c.requires.room c.args.sum.now c.deref.result.now at.field-0 at.left at.right (env_of c.args.env.now) c.requires.seam at.is c.deref.ensures c.deref-in-At.result.now (c.in-At.next.now, c.operand_place.new.room) c.deref-in-At.ensures c.in-At.ensures.value in
+    λ h. e ∙ c.operand_place-in-At.ensures.erred h
+
+pub sum_place-returns-in-Erred-clause-erred : goal.sum_place-returns-in-Erred-clause-erred
+sum_place-returns-in-Erred-clause-erred t c =
+    let at = c.in-Operation in
+    λ h. no_left (c.args.at.now, c.args.room.now) c.requires.room c.args.sum.now c.deref.result.now at.field-0 at.left at.right (env_of c.args.env.now) c.requires.seam at.is c.deref.ensures (c.in-Erred.ensures.erred refl)
