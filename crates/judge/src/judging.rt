@@ -111,7 +111,8 @@ pub fn judge_write<'a>(
 }
 
 /// Why one write, which proposes this tree, is denied for write, if it is: what [`judge_write`] finds, with the names
-/// borrowed, so that it takes memory of the arena alone. (Guide "Core syntax", `.read` and `.write` rules cascade.)
+/// borrowed, so that it takes memory of the arena alone. Of d keys, d · log w in nodes of w children, and each rule on
+/// the way at most once, none behind the first that holds. (Guide "Core syntax", `.read` and `.write` rules cascade.)
 pub fn write_denial<'a>(
     arena: &'a Bump,
     scene: &'a Scene<'a>,
@@ -131,8 +132,9 @@ pub fn write_denial<'a>(
     denial_along(&asking, &spot, write.at())
 }
 
-/// The verdict on one write that is not denied for write, by its `.validate` rules: what [`judge_write`] finds. (Guide
-/// "Core syntax", `.validate` rules do not cascade.)
+/// The verdict on one write that is not denied for write, by its `.validate` rules: what [`judge_write`] finds. Of d
+/// keys, d · log w in nodes of w children, and what is written; the arena takes what [`judge_write`] takes of it, other
+/// memory the place and the pattern of a failure. (Guide "Core syntax", `.validate` rules do not cascade.)
 pub fn judge_granted<'a>(
     alloc: Global,
     arena: &'a Bump,
@@ -185,8 +187,9 @@ fn denial_along<'a>(
     ensures { IfOk result (IsDenialAlong (ask_of asking.now) path.now) }
 {
     let mut captures = Captures::new(asking.arena);
-    let mut asked = Vec::new(asking.arena);
-    let granted = asked_along(asking, spot, path.keys(), &mut captures, &mut asked)?;
+    let keys = path.keys();
+    let mut asked = Vec::with_capacity(asking.arena, keys.len().saturating_add(1))?;
+    let granted = asked_along(asking, spot, keys, &mut captures, &mut asked)?;
     if granted {
         return Ok(None);
     }
