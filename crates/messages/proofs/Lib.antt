@@ -5,6 +5,9 @@ pub mod Headers
 pub mod Members
 pub mod Plain
 pub mod Reading
+pub mod Lexing
+pub mod Sixteens
+pub mod Escaping
 pub mod Naming
 pub mod Items
 pub mod Notices

@@ -6,4 +6,5 @@ pub mod TreeMembers
 pub mod Children
 pub mod MemberName
 pub mod Outline
+pub mod Tokens
 pub mod Writing

@@ -1,6 +1,6 @@
 //! The names that members of messages have.
 ghost use Rattle.std.specs.Prelude.{◌≡◌, ◌≢◌, IfSome, IfNone};
-ghost use Rattle.messages.specs.Working.MemberName.{name_text};
+ghost use Rattle.messages.specs.Working.MemberName.{name_text, IsNamed, IsBegun};
 
 /// The name of a member of a message.
 #[derive(Clone, Copy, Debug, PartialEq, Eq)]
@@ -34,6 +34,38 @@ impl MemberName {
             b"id" => Some(MemberName::Id),
             b"token" => Some(MemberName::Token),
             b"rules" => Some(MemberName::Rules),
+            _ => None,
+        }
+    }
+
+    /// The name whose text comes first, in quotes and with a colon behind it, and what follows.
+    #[inline(always)]
+    pub fn in_front(text: &str) -> Option<(MemberName, &str)>
+        ensures { IfSome result (λ parts. IsNamed text.now parts.0 parts.1.now) }
+    {
+        let (name, length) = MemberName::begun(text.as_bytes())?;
+        Some((name, text.split_at(length).1))
+    }
+
+    // The same, and how many bytes it takes.
+    #[inline(always)]
+    fn begun(bytes: &[u8]) -> Option<(MemberName, usize)>
+        ensures { IfSome result (λ parts. IsBegun bytes.now parts.0 parts.1) }
+    {
+        match bytes {
+            [b'"', b'd', b'o', b'"', b':', ..] => Some((MemberName::Do, 5)),
+            [b'"', b'n', b'o', b'w', b'"', b':', ..] => Some((MemberName::Now, 6)),
+            [b'"', b's', b'"', b':', ..] => Some((MemberName::Session, 4)),
+            [b'"', b'p', b'a', b't', b'h', b'"', b':', ..] => Some((MemberName::Path, 7)),
+            [b'"', b'q', b'u', b'e', b'r', b'y', b'"', b':', ..] => Some((MemberName::Query, 8)),
+            [b'"', b'v', b'a', b'l', b'u', b'e', b'"', b':', ..] => Some((MemberName::Value, 8)),
+            [b'"', b'v', b'a', b'l', b'u', b'e', b's', b'"', b':', ..] => Some((
+                MemberName::Values,
+                9,
+            )),
+            [b'"', b'i', b'd', b'"', b':', ..] => Some((MemberName::Id, 5)),
+            [b'"', b't', b'o', b'k', b'e', b'n', b'"', b':', ..] => Some((MemberName::Token, 8)),
+            [b'"', b'r', b'u', b'l', b'e', b's', b'"', b':', ..] => Some((MemberName::Rules, 8)),
             _ => None,
         }
     }

@@ -9,10 +9,11 @@ ghost use Rattle.messages.specs.Working.MemberName.{name_text};
 ghost use Rattle.messages.specs.Working.Outline.{said_data, part_data, put_all, IsRead, Gives};
 
 use crate::member_name::MemberName;
+use crate::token_reader::TokenReader;
 use crate::tree_members::TreeMembers;
 use crate::trees::{named_from, negative_of, whole_of};
 use bumpalo::Bump;
-use json::{Reader, Scratch, Token};
+use json::{Scratch, Token};
 use serde_json::Value;
 use std::alloc::Global;
 
@@ -93,12 +94,12 @@ impl<'a> Outline<'a> {
     ) -> Option<Outline<'a>>
         ensures { IfSome result (λ outline. read text.now ≡ Some (object (put_all outline.members.items no_members))) }
     {
-        let mut reader = Reader::new(text, scratch).ok()?;
+        let mut reader = TokenReader::new(text, scratch);
         let Some(Token::BeginObject) = reader.next() else {
             return None;
         };
         let members = read_members(alloc, arena, &mut reader)?;
-        if reader.next().is_some() {
+        if !reader.is_at_end() {
             return None;
         }
         Some(Outline { members })
@@ -127,13 +128,12 @@ impl<'a> Outline<'a> {
 fn read_members<'a>(
     alloc: Global,
     arena: &'a Bump,
-    reader: &mut Reader<'a>,
+    reader: &mut TokenReader<'a>,
 ) -> Option<Vec<Member<'a>, &'a Bump>>
     ensures { IfSome result (λ members. Gives MAX_MEMBER_LEVELS reader.old (put_all members.items no_members) reader.new) }
 {
     let mut members = Vec::with_capacity(arena, FIRST_MEMBERS).ok()?;
-    'members: while let Some(text) = reader.next_key().ok()? {
-        let name = MemberName::of(text)?;
+    'members: while let Some(name) = reader.next_name()? {
         let token = reader.next()?;
         let said = said_from(alloc, reader, token)?;
         members.push(Member { name, said }).ok()?;
@@ -142,7 +142,7 @@ fn read_members<'a>(
 }
 
 // What begins with a token and goes on in the reader.
-fn said_from<'a>(alloc: Global, reader: &mut Reader<'a>, token: Token<'a>) -> Option<Said<'a>>
+fn said_from<'a>(alloc: Global, reader: &mut TokenReader<'a>, token: Token<'a>) -> Option<Said<'a>>
     ensures value { IfSome result (λ said. IsRead MAX_MEMBER_LEVELS (token_of token.entry) reader.old (said_data said) reader.new) }
     ensures shorter { IfSome result (λ said. length reader.new ≤ length reader.old) }
 {

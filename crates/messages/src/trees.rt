@@ -13,9 +13,10 @@ ghost use Rattle.messages.specs.Working.TreeMembers.{members_named};
 ghost use Rattle.messages.specs.Working.Outline.{IsRead, Gives};
 
 use crate::children::Children;
+use crate::token_reader::TokenReader;
 use crate::tree_members::TreeMembers;
 use fast_float::Numeral;
-use json::{Reader, Token};
+use json::Token;
 use json_tree::{Leaf, Node, Number};
 use std::alloc::Global;
 use tree_model::MAX_TEXT_BYTES;
@@ -27,14 +28,14 @@ const MAX_POSITIVE: u64 = i64::MAX as u64;
 /// where one of them is no tree, where a name stands twice, and where memory is wanted.
 pub(crate) fn named_from<'a>(
     alloc: Global,
-    reader: &mut Reader<'a>,
+    reader: &mut TokenReader<'a>,
     depth: usize,
 ) -> Option<TreeMembers<'a>>
     ensures value { IfSome result (λ named. Gives depth reader.old (members_named named) reader.new) }
     ensures shorter { IfSome result (λ named. length reader.new ≤ length reader.old) }
 {
     let mut named = TreeMembers::new(alloc);
-    'members: while let Some(name) = reader.next_key().ok()? {
+    'members: while let Some(name) = reader.next_key()? {
         let token = reader.next()?;
         let tree = tree_from(alloc, reader, token, depth)?;
         named.put(name, tree)?;
@@ -45,7 +46,7 @@ pub(crate) fn named_from<'a>(
 // The tree that begins with a token and goes on in the reader, None inside for null.
 fn tree_from<'a>(
     alloc: Global,
-    reader: &mut Reader<'a>,
+    reader: &mut TokenReader<'a>,
     token: Token<'a>,
     depth: usize,
 ) -> Option<Option<Node>>
@@ -64,7 +65,7 @@ fn tree_from<'a>(
 #[inline(always)]
 fn node_from<'a>(
     alloc: Global,
-    reader: &mut Reader<'a>,
+    reader: &mut TokenReader<'a>,
     token: Token<'a>,
     depth: usize,
 ) -> Option<Node>
@@ -88,12 +89,12 @@ fn node_from<'a>(
 // The children that tokens go on with, up to the closing brace. None where one of them is none, where a
 // key stands twice, and where memory is wanted.
 #[cycle(nested)]
-fn children_from<'a>(alloc: Global, reader: &mut Reader<'a>, depth: usize) -> Option<Children>
+fn children_from<'a>(alloc: Global, reader: &mut TokenReader<'a>, depth: usize) -> Option<Children>
     ensures value { IfSome result (λ children. Gives depth reader.old (members_named children) reader.new) }
     ensures shorter { IfSome result (λ children. length reader.new ≤ length reader.old) }
 {
     let mut children = Children::new(alloc);
-    'children: while let Some(name) = reader.next_key().ok()? {
+    'children: while let Some(name) = reader.next_key()? {
         let token = reader.next()?;
         let node = node_from(alloc, reader, token, depth)?;
         children.put(alloc, name, node)?;

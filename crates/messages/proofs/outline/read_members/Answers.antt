@@ -17,8 +17,8 @@ members-init c =
 pub members-preserved : goal.members-preserved
 members-preserved c =
     let l = c.members in
-    let name = c.in_ok-name.name in
-    let after_key = c.next_key.new.self in
+    let name = c.in-Some.name in
+    let after_key = c.next_name.new.self in
     let token = c.in_ok-token.token in
     let key : read_key l.reader ≡ Some (Some (name_text name), after_key) = grind arith in
     let first : after_key ≡ token_of token ∷ c.next.new.self = grind arith in
@@ -30,4 +30,4 @@ members-preserved c =
 pub returns : goal.returns
 returns c =
     let l = c.members in
-    at_last 126 c.args.reader.now l.reader c.next_key.new.self (put_all l.members.items no_members) l.invariant (grind arith)
+    at_last 126 c.args.reader.now l.reader c.next_name.new.self (put_all l.members.items no_members) l.invariant (grind arith)
