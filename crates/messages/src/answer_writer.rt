@@ -1,13 +1,16 @@
 //! Answers, each written behind others.
-ghost use Rattle.std.specs.Prelude.{◌≡◌, ◌++◌, [], option_map, OnOk};
+ghost use Rattle.std.specs.Prelude.{◌≡◌, ◌++◌, [], true, option_map, OnOk};
+ghost use Rattle.std.specs.List.{list_all};
 ghost use Rattle.json.specs.Print.{quoted};
 ghost use Rattle.serde_json.specs.Written.{compact_text, comma_if};
 ghost use Rattle.json_tree.specs.Json.{value_of};
 ghost use Rattle.path_capture.specs.Write.{tree_or_null};
 ghost use Rattle.messages.specs.AnswerText.{plain_data};
+ghost use Rattle.messages.specs.Working.Tokens.{is_plain};
 
 use crate::code::Code;
 use crate::refusal::put_plain;
+use crate::runs::plain_run;
 use arena_snapshot::{View, write_view};
 use json::Writer;
 use json_tree::{NoMemory, Node, write_json};
@@ -112,6 +115,29 @@ impl AnswerWriter {
 
     /// Writes a text as JSON has it.
     pub(crate) fn string(&mut self, text: &str) -> Result<(), NoMemory>
+        ensures before { self.new.before ≡ self.old.before }
+        ensures text { OnOk result (self.new.text ≡ self.old.text ++ quoted text.now) }
+    {
+        if plain_run(text.as_bytes()) == text.len() {
+            self.plain_string(text)
+        } else {
+            self.escaped_string(text)
+        }
+    }
+
+    // Writes a text that has nothing to be escaped.
+    fn plain_string(&mut self, text: &str) -> Result<(), NoMemory>
+        requires { list_all is_plain text.now ≡ true }
+        ensures before { self.new.before ≡ self.old.before }
+        ensures text { OnOk result (self.new.text ≡ self.old.text ++ quoted text.now) }
+    {
+        self.piece(b"\"")?;
+        self.piece(text.as_bytes())?;
+        self.piece(b"\"")
+    }
+
+    // Writes any text: by itself first, into kept room.
+    fn escaped_string(&mut self, text: &str) -> Result<(), NoMemory>
         ensures before { self.new.before ≡ self.old.before }
         ensures text { OnOk result (self.new.text ≡ self.old.text ++ quoted text.now) }
     {

@@ -1,6 +1,6 @@
 use Rattle.serde_json.specs.Data.{string}
 use Rattle.messages.proofs.Behind.{value_put}
-use Rattle.messages.proofs.answer_writer.AnswerWriter.string.Goals as goal
+use Rattle.messages.proofs.answer_writer.AnswerWriter.escaped_string.Goals as goal
 
 pub returns-clause-text : goal.returns-clause-text
 returns-clause-text c =
