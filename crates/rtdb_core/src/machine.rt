@@ -835,6 +835,24 @@ impl Machine {
             return Ok(Decisions::new(arena));
         }
         let coming = overlay(arena, self.tree.as_ref(), writes)?;
+        let decided = self.decide_proposed(arena, now, writes, coming)?;
+        Ok(decided)
+    }
+
+    // The same, where this is the tree that they propose.
+    fn decide_proposed<'a>(
+        &self,
+        arena: &'a Bump,
+        now: u64,
+        writes: &[Write],
+        coming: Option<View<'_>>,
+    ) -> Result<Decisions<'a>, NoMemory>
+        requires moment { now ≤ MAX_MOMENT }
+        requires heard { AllHeard self.now }
+        requires apart { overlaps writes.now ≡ false }
+        requires proposes { tree_or_null coming ≡ tree_with self.now writes.now }
+        ensures { IfOk result (λ decisions. with_settled (with_tree self.now writes.now) decisions.made.items ≡ written_to self.now now writes.now) }
+    {
         let passage = Passage {
             rules: &self.rules,
             base: self.tree.as_ref(),
@@ -843,8 +861,7 @@ impl Machine {
             moment: now,
             was_heard: true,
         };
-        let decided = self.decide_all(arena, &passage)?;
-        Ok(decided)
+        self.decide_all(arena, &passage)
     }
 
     // Whether somebody listens to something.
@@ -871,15 +888,7 @@ impl Machine {
         if let Some(refusal) = self.write_refusal(arena, now, who, writes, &coming)? {
             return Ok(Judged::Refused(refusal));
         }
-        let passage = Passage {
-            rules: &self.rules,
-            base: self.tree.as_ref(),
-            writes,
-            coming,
-            moment: now,
-            was_heard: true,
-        };
-        let decisions = self.decide_all(arena, &passage)?;
+        let decisions = self.decide_proposed(arena, now, writes, coming)?;
         Ok(Judged::Granted(decisions))
     }
 
