@@ -13,7 +13,7 @@ use Rattle.json.specs.Text.{content, plain, prepend}
 use Rattle.json.specs.Word.{is_operator, is_space, after_digits, after_fraction, after_exponent, after_number, number_before, word}
 use Rattle.json.specs.Json.{read_key}
 use Rattle.json.specs.Lex.{Lexeme, token, comma, colon, operator, space, other, class, string_token, Mode, lex_byte, between, in_word, in_string, lex, begins_colon, place_token, fresh, after_value, after_comma, punctuate}
-use Rattle.messages.specs.Working.Tokens.{tokens_at, MayBegin, MayClose, is_plain, IsQuoted, EndsValue, AreDigits}
+use Rattle.messages.specs.Working.Tokens.{tokens_at, BeginsWith, MayBegin, MayClose, is_plain, IsQuoted, EndsValue, AreDigits, IsNegative}
 use Rattle.messages.specs.Working.MemberName.{name_text, in_quotes, IsBegun, IsNamed}
 use Rattle.messages.specs.declared.member_name.MemberName.{MemberName}
 use Rattle.messages.specs.declared.member_name.MemberName.TheVariants.{Do, Now, Session, Path, Query, Value, Values, Id, Token as TokenName, Rules}
@@ -123,7 +123,7 @@ string_placed : (s : List ℕ) (ls : List Lexeme) → begins_colon ls ≡ false 
 unfolding punctuate
 string_placed s ls h = ap (λ b. place_token fresh (tokens.string s) b (λ next. punctuate next ls)) h
 
-pub string_first : (text s rest : List ℕ) → IsQuoted text s rest → EndsValue rest → tokens_at Fresh text ≡ tokens.string s ∷ tokens_at AfterValue rest
+pub string_first : (text s rest : List ℕ) → IsQuoted text s rest → EndsValue rest → BeginsWith (tokens.string s) text rest
 string_first text s rest q ends =
     ap (λ t. punctuate fresh (lex between t)) q.whole
     ∙ ap (punctuate fresh) (lex_quoted s rest q.bytes)
@@ -259,6 +259,10 @@ number_after d c ds r e all first =
     let no_minus : (d == 45) ≡ false = ne_eqb d 45 (λ same. absurd (omega (arith, low, same))) in
     rw no_minus (ap (λ o. option_and_then after_exponent (option_and_then after_fraction o)) (after_whole_digits d c ds r e all first (d == 48) refl) ∙ after_ended c r e)
 
+negative_after : (d c : ℕ) (ds r : List ℕ) → EndsNumber c → list_all is_ascii_digit (d ∷ ds) ≡ true → (1 < length (d ∷ ds) → d ≢ 48) → after_number (45 ∷ ((d ∷ ds) ++ c ∷ r)) ≡ Some (c ∷ r)
+unfolding after_number
+negative_after d c ds r e all first = ap (λ o. option_and_then after_exponent (option_and_then after_fraction o)) (after_whole_digits d c ds r e all first (d == 48) refl) ∙ after_ended c r e
+
 word_digits : (d c : ℕ) (ds r : List ℕ) → EndsNumber c → list_all is_ascii_digit (d ∷ ds) ≡ true → (1 < length (d ∷ ds) → d ≢ 48) → word ((d ∷ ds) ++ c ∷ r) ≡ tokens.number (d ∷ ds)
 unfolding word
 word_digits d c ds r e all first =
@@ -285,27 +289,96 @@ lex_digits d c ds r e all first =
     ap (λ k. lex_byte between k d (ds ++ c ∷ r) (λ m. lex m (ds ++ c ∷ r))) (class_digit d parts.0)
     ∙ (λ i. token (word_digits d c ds r e all first i) ∷ lex_in_word ds r c e parts.1 i)
 
+-- ---- words: numbers and literals
+
+-- a word that is this token wherever a value ends behind it
+record IsWord (name : List ℕ) (t : Token) : Type 0 where
+  lexed : (c : ℕ) (r : List ℕ) → EndsNumber c → lex between (name ++ c ∷ r) ≡ token t ∷ lex between (c ∷ r)
+  placed : (ls : List Lexeme) → punctuate fresh (token t ∷ ls) ≡ t ∷ punctuate after_value ls
+
 number_placed : (s : List ℕ) (ls : List Lexeme) → punctuate fresh (token (tokens.number s) ∷ ls) ≡ tokens.number s ∷ punctuate after_value ls
 unfolding punctuate
 number_placed s ls = refl
 
-some_digits : (c : ℕ) (digits r : List ℕ) → EndsNumber c → list_all is_ascii_digit digits ≡ true → 0 < length digits → (1 < length digits → get_or digits 0 0 ≢ 48) → lex between (digits ++ c ∷ r) ≡ token (tokens.number digits) ∷ lex between (c ∷ r)
-some_digits c [] r e all some first = absurd (omega (arith, some))
-some_digits c (d ∷ ds) r e all some first = lex_digits d c ds r e all first
+truth_placed : (b : Bool) (ls : List Lexeme) → punctuate fresh (token (tokens.boolean b) ∷ ls) ≡ tokens.boolean b ∷ punctuate after_value ls
+unfolding punctuate
+truth_placed b ls = refl
 
-lex_number : (digits rest : List ℕ) → list_all is_ascii_digit digits ≡ true → 0 < length digits → (1 < length digits → get_or digits 0 0 ≢ 48) → EndsValue rest → lex between (digits ++ rest) ≡ token (tokens.number digits) ∷ lex between rest
-lex_number digits rest all some first (inl h) =
-    let is = split_first rest 43 h in
-    ap (λ t. lex between (digits ++ t)) is ∙ some_digits 44 digits (drop 1 rest) comma_ends all some first ∙ ap (λ t. token (tokens.number digits) ∷ lex between t) (sym is)
-lex_number digits rest all some first (inr h) =
-    let is = split_first rest 124 h in
-    ap (λ t. lex between (digits ++ t)) is ∙ some_digits 125 digits (drop 1 rest) brace_ends all some first ∙ ap (λ t. token (tokens.number digits) ∷ lex between t) (sym is)
+null_placed : (ls : List Lexeme) → punctuate fresh (token tokens.null ∷ ls) ≡ tokens.null ∷ punctuate after_value ls
+unfolding punctuate
+null_placed ls = refl
 
-pub number_first : (text digits rest : List ℕ) → AreDigits text digits rest → EndsValue rest → tokens_at Fresh text ≡ tokens.number digits ∷ tokens_at AfterValue rest
-number_first text digits rest are ends =
-    ap (λ t. punctuate fresh (lex between t)) are.whole
-    ∙ ap (punctuate fresh) (lex_number digits rest are.bytes are.some are.first ends)
-    ∙ number_placed digits (lex between rest)
+word_true : (c : ℕ) (r : List ℕ) → EndsNumber c → word (116 ∷ 114 ∷ 117 ∷ 101 ∷ c ∷ r) ≡ tokens.boolean true
+unfolding word
+word_true c r e = ap (λ b. cond b (tokens.boolean true) tokens.bad) e.word
+
+word_false : (c : ℕ) (r : List ℕ) → EndsNumber c → word (102 ∷ 97 ∷ 108 ∷ 115 ∷ 101 ∷ c ∷ r) ≡ tokens.boolean false
+unfolding word
+word_false c r e = ap (λ b. cond b (tokens.boolean false) tokens.bad) e.word
+
+word_null : (c : ℕ) (r : List ℕ) → EndsNumber c → word (110 ∷ 117 ∷ 108 ∷ 108 ∷ c ∷ r) ≡ tokens.null
+unfolding word
+word_null c r e = ap (λ b. cond b tokens.null tokens.bad) e.word
+
+true_is_word : IsWord (116 ∷ 114 ∷ 117 ∷ 101 ∷ []) (tokens.boolean true)
+unfolding lex
+true_is_word = record { lexed = λ c r e i. token (word_true c r e i) ∷ e.mode r i; placed = truth_placed true }
+
+false_is_word : IsWord (102 ∷ 97 ∷ 108 ∷ 115 ∷ 101 ∷ []) (tokens.boolean false)
+unfolding lex
+false_is_word = record { lexed = λ c r e i. token (word_false c r e i) ∷ e.mode r i; placed = truth_placed false }
+
+null_is_word : IsWord (110 ∷ 117 ∷ 108 ∷ 108 ∷ []) tokens.null
+unfolding lex
+null_is_word = record { lexed = λ c r e i. token (word_null c r e i) ∷ e.mode r i; placed = null_placed }
+
+digits_are_word : (digits : List ℕ) → list_all is_ascii_digit digits ≡ true → 0 < length digits → (1 < length digits → get_or digits 0 0 ≢ 48) → IsWord digits (tokens.number digits)
+digits_are_word [] all some first = absurd (omega (arith, some))
+digits_are_word (d ∷ ds) all some first = record { lexed = λ c r e. lex_digits d c ds r e all first; placed = number_placed (d ∷ ds) }
+
+word_negative : (d c : ℕ) (ds r : List ℕ) → EndsNumber c → list_all is_ascii_digit (d ∷ ds) ≡ true → (1 < length (d ∷ ds) → d ≢ 48) → word (45 ∷ ((d ∷ ds) ++ c ∷ r)) ≡ tokens.number (45 ∷ d ∷ ds)
+unfolding word
+word_negative d c ds r e all first =
+    let t = (45 ∷ d ∷ ds) ++ c ∷ r in
+    let cut : length t - length (c ∷ r) ≡ length (45 ∷ d ∷ ds) = ap (λ n. n - length (c ∷ r)) (length-append (45 ∷ d ∷ ds) (c ∷ r)) ∙ add-sub_cancel (length (45 ∷ d ∷ ds)) (length (c ∷ r)) in
+    ap (number_before t) (negative_after d c ds r e all first)
+    ∙ ap (λ b. cond b (tokens.number (take (length t - length (c ∷ r)) t)) tokens.bad) e.word
+    ∙ ap tokens.number (ap (λ n. take n t) cut ∙ take-append_seam (45 ∷ d ∷ ds) (c ∷ r))
+
+negative_is_word : (digits : List ℕ) → list_all is_ascii_digit digits ≡ true → 0 < length digits → (1 < length digits → get_or digits 0 0 ≢ 48) → IsWord (45 ∷ digits) (tokens.number (45 ∷ digits))
+unfolding lex
+negative_is_word [] all some first = absurd (omega (arith, some))
+negative_is_word (d ∷ ds) all some first = record { lexed = λ c r e i. token (word_negative d c ds r e all first i) ∷ lex_in_word (d ∷ ds) r c e all i; placed = number_placed (45 ∷ d ∷ ds) }
+
+-- what holds before a comma and before a brace that closes holds where a value ends
+where_it_ends : (P : List ℕ → Type 0) → ((c : ℕ) (r : List ℕ) → EndsNumber c → P (c ∷ r)) → (rest : List ℕ) → EndsValue rest → P rest
+where_it_ends P holds rest (inl h) = subst P (sym (split_first rest 43 h)) (holds 44 (drop 1 rest) comma_ends)
+where_it_ends P holds rest (inr h) = subst P (sym (split_first rest 124 h)) (holds 125 (drop 1 rest) brace_ends)
+
+word_first : (text name rest : List ℕ) (t : Token) → IsWord name t → text ≡ name ++ rest → EndsValue rest → BeginsWith t text rest
+word_first text name rest t w whole ends =
+    ap (λ (b : List ℕ). punctuate fresh (lex between b)) whole
+    ∙ ap (punctuate fresh) (where_it_ends (λ r. lex between (name ++ r) ≡ token t ∷ lex between r) w.lexed rest ends)
+    ∙ w.placed (lex between rest)
+
+pub number_first : (text digits rest : List ℕ) → AreDigits text digits rest → EndsValue rest → BeginsWith (tokens.number digits) text rest
+number_first text digits rest are ends = word_first text digits rest (tokens.number digits) (digits_are_word digits are.bytes are.some are.first) are.whole ends
+
+pub negative_first : (text number rest : List ℕ) → IsNegative text number rest → BeginsWith (tokens.number number) text rest
+negative_first text number rest is =
+    let digits = is.digits in
+    let whole : text ≡ (45 ∷ digits) ++ rest = is.whole ∙ ap (λ n. n ++ rest) is.signed in
+    subst (λ n. BeginsWith (tokens.number n) text rest) (sym is.signed)
+    (word_first text (45 ∷ digits) rest (tokens.number (45 ∷ digits)) (negative_is_word digits is.behind.bytes is.behind.some is.behind.first) whole is.ends)
+
+pub true_first : (text rest : List ℕ) → text ≡ 116 ∷ 114 ∷ 117 ∷ 101 ∷ rest → EndsValue rest → BeginsWith (tokens.boolean true) text rest
+true_first text rest whole ends = word_first text _ rest (tokens.boolean true) true_is_word whole ends
+
+pub false_first : (text rest : List ℕ) → text ≡ 102 ∷ 97 ∷ 108 ∷ 115 ∷ 101 ∷ rest → EndsValue rest → BeginsWith (tokens.boolean false) text rest
+false_first text rest whole ends = word_first text _ rest (tokens.boolean false) false_is_word whole ends
+
+pub null_first : (text rest : List ℕ) → text ≡ 110 ∷ 117 ∷ 108 ∷ 108 ∷ rest → EndsValue rest → BeginsWith tokens.null text rest
+null_first text rest whole ends = word_first text _ rest tokens.null null_is_word whole ends
 
 -- ---- names
 

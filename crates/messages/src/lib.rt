@@ -16,6 +16,7 @@ mod member_name;
 mod message;
 mod news;
 mod outline;
+mod plain_scalars;
 mod plain_text;
 mod plain_tokens;
 mod reader;

@@ -1,5 +1,5 @@
 //! What is plain in a text of JSON: what stands in quotes without an escape, and digits.
-ghost use Rattle.std.specs.Prelude.{◌≡◌, ◌<◌, ◌≤◌, ◌∷◌, ◌++◌, true, false, IfSome, length, take, get_or};
+ghost use Rattle.std.specs.Prelude.{◌≡◌, ◌↔◌, ◌<◌, ◌≤◌, ◌∷◌, ◌++◌, true, false, IfSome, length, take, get_or};
 ghost use Rattle.std.specs.Char.{is_ascii_digit};
 ghost use Rattle.std.specs.List.{list_all};
 ghost use Rattle.json.specs.Lex.{between, lex};
@@ -41,7 +41,7 @@ fn behind_blanks(text: &str) -> &str
 }
 
 fn begins_blank(bytes: &[u8]) -> bool
-    ensures { result ≡ true → BeginsBlank bytes.now }
+    ensures { result ≡ true ↔ BeginsBlank bytes.now }
 {
     matches!(bytes, [b' ' | b'\t' | b'\n' | b'\r', ..])
 }
@@ -81,7 +81,7 @@ pub(crate) fn plain_digits(text: &str) -> Option<(&str, &str)>
 /// Whether a value ends before these bytes: a comma comes, or the brace that closes an object.
 #[inline(always)]
 pub(crate) fn ends_value(bytes: &[u8]) -> bool
-    ensures { result ≡ true → EndsValue bytes.now }
+    ensures { result ≡ true ↔ EndsValue bytes.now }
 {
     matches!(bytes, [b',' | b'}', ..])
 }

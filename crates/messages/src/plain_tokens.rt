@@ -1,5 +1,5 @@
-//! Tokens that are plain: texts without an escape, whole numbers without a sign, and braces.
-ghost use Rattle.std.specs.Prelude.{◌≡◌, ◌∷◌, [], true, false, Some, None, IfSome, IfNone, option_map};
+//! Tokens that are plain: texts without an escape, whole numbers, literals, and braces.
+ghost use Rattle.std.specs.Prelude.{◌≡◌, ◌↔◌, ◌∷◌, [], true, false, Some, None, IfSome, IfNone, option_map};
 ghost use Rattle.json.specs.Json.{read_key};
 ghost use Rattle.json.specs.Lex.{tokens};
 ghost use Rattle.json.specs.Reads.{token_of};
@@ -7,7 +7,8 @@ ghost use Rattle.messages.specs.Working.MemberName.{name_text};
 ghost use Rattle.messages.specs.Working.Tokens.{MayBegin, MayClose};
 
 use crate::member_name::MemberName;
-use crate::plain_text::{ends_value, past_blanks, past_first, plain_digits, quoted};
+use crate::plain_scalars::plain_scalar;
+use crate::plain_text::{past_blanks, past_first, quoted};
 use json::Token;
 use std::marker::Model;
 
@@ -23,7 +24,7 @@ pub(crate) enum Place {
 impl Place {
     // Whether a key or a value may begin there.
     fn may_begin(self) -> bool
-        ensures { result ≡ true → MayBegin self }
+        ensures { result ≡ true ↔ MayBegin self }
     {
         match self {
             Place::Fresh | Place::AfterComma => true,
@@ -33,7 +34,7 @@ impl Place {
 
     // Whether an object may end there.
     fn may_close(self) -> bool
-        ensures { result ≡ true → MayClose self }
+        ensures { result ≡ true ↔ MayClose self }
     {
         match self {
             Place::Fresh | Place::AfterValue => true,
@@ -118,7 +119,7 @@ impl<'a> PlainTokens<'a> {
         Some(Some(name))
     }
 
-    /// A plain text or number where a value ends behind it, or the brace that opens an object. None where another
+    /// A plain value that is no object, where it ends behind it, or the brace that opens an object. None where another
     /// token comes, and then all are still to come.
     #[inline(always)]
     pub fn next_value(&mut self) -> Option<Token<'a>>
@@ -129,28 +130,14 @@ impl<'a> PlainTokens<'a> {
             return None;
         };
         let rest = past_blanks(self.rest);
-        match rest.as_bytes() {
-            [b'"', ..] => {
-                let (text, behind) = quoted(rest)?;
-                if !ends_value(behind.as_bytes()) {
-                    return None;
-                }
-                self.rest = behind;
-                self.place = Place::AfterValue;
-                Some(Token::String(text))
-            }
-            [b'0'..=b'9', ..] => {
-                let (digits, behind) = plain_digits(rest)?;
-                self.rest = behind;
-                self.place = Place::AfterValue;
-                Some(Token::Number(digits))
-            }
-            [b'{', ..] => {
-                self.rest = past_first(rest);
-                Some(Token::BeginObject)
-            }
-            _ => None,
+        if let [b'{', ..] = rest.as_bytes() {
+            self.rest = past_first(rest);
+            return Some(Token::BeginObject);
         }
+        let (token, behind) = plain_scalar(rest)?;
+        self.rest = behind;
+        self.place = Place::AfterValue;
+        Some(token)
     }
 
     /// Whether it is known that no token is left.

@@ -13,8 +13,9 @@ use json::Scratch;
 use rtdb_core::MAX_MOMENT;
 use std::alloc::Global;
 
-/// What reads messages. It keeps the memory that reading their text takes: four bytes for each of 4,096
-/// places, and as many as the longest message has; and an arena for the list of a message's members.
+/// What reads messages. It keeps an arena for the list of a message's members; and, from the first message on
+/// that has a token which is not plain, the memory that the kit's reader of JSON takes: four bytes for each of
+/// 4,096 places, or of as many as the longest such message has.
 #[derive(Drop)]
 pub struct MessageReader {
     alloc: Global,

@@ -16,6 +16,10 @@ tokens_at places.Fresh text = punctuate fresh (lex between text)
 tokens_at places.AfterValue text = punctuate after_value (lex between text)
 tokens_at places.AfterComma text = punctuate after_comma (lex between text)
 
+-- the text begins with a value that is one token, and goes on with the rest
+abbrev pub BeginsWith : Token → List ℕ → List ℕ → Type 0
+BeginsWith token text rest = tokens_at places.Fresh text ≡ token ∷ tokens_at places.AfterValue rest
+
 -- a key or a value may begin there
 abbrev pub MayBegin : Place → Type 0
 MayBegin places.Fresh = ⊤
@@ -49,6 +53,7 @@ is_stop x = ((x == 34) || (x == 92)) || nat_lt x 32
 abbrev pub is_plain : ℕ → Bool
 is_plain x = not (is_stop x)
 
+-- a byte that is no digit
 abbrev pub is_no_digit : ℕ → Bool
 is_no_digit x = nat_lt x 48 || nat_lt 57 x
 
@@ -67,3 +72,11 @@ pub record AreDigits (text digits rest : List ℕ) : Type 0 where
   pub bytes : list_all is_ascii_digit digits ≡ true
   pub some : 0 < length digits
   pub first : 1 < length digits → get_or digits 0 0 ≢ 48
+
+-- a minus stands before such digits, which end a value
+pub record IsNegative (text number rest : List ℕ) : Type 0 where
+  pub digits : List ℕ
+  pub signed : number ≡ 45 ∷ digits
+  pub behind : AreDigits (digits ++ rest) digits rest
+  pub whole : text ≡ number ++ rest
+  pub ends : EndsValue rest

@@ -9,4 +9,4 @@ returns-clause-closed c closed =
     let rest = c.past_first-self-inside.result.now in
     let byte : get_or c.as_bytes.result.now 0 0 ≡ 125 = omega arith in
     let first : get_or text 0 0 ≡ 125 = ap (λ t. get_or t 0 0) (sym c.as_bytes.ensures.value) ∙ byte in
-    end_read c.args.self.now inside.place text rest (sym c.self.view_is) (c.may_close.ensures c.if-not-may_close.false) (first_is text rest 125 c.past_first-self-inside.ensures first)
+    end_read c.args.self.now inside.place text rest (sym c.self.view_is) (c.may_close.ensures.0 c.if-not-may_close.false) (first_is text rest 125 c.past_first-self-inside.ensures first)
