@@ -13,6 +13,11 @@ use json_tree::NoMemory;
 use path_capture::{Path, Pattern};
 use rtdb_core::{BorrowedName, BorrowedNames, Named, Refusal, Reply, Why};
 
+// A denied read up to its rules, and a denied write from its place up to them.
+const READ_DENIED: &[u8] = b"{\"code\":501,\"name\":\"ReadDenied\",\"ok\":false,\"rules\":[";
+
+const WRITE_DENIED: &[u8] = b",\"code\":502,\"name\":\"WriteDenied\",\"ok\":false,\"rules\":[";
+
 // For how many bytes the text of a pattern has room at first.
 const PATTERN_ROOM: usize = 128;
 
@@ -59,7 +64,7 @@ impl AnswerWriter {
         ensures before { self.new.before ≡ self.old.before }
         ensures text { OnOk result (self.new.text ≡ self.old.text ++ compact_text (read_denied_data named.now)) }
     {
-        self.piece(b"{\"code\":501,\"name\":\"ReadDenied\",\"ok\":false,\"rules\":[")?;
+        self.piece(READ_DENIED)?;
         self.rules(named)?;
         self.piece(b"]}")
     }
@@ -70,7 +75,7 @@ impl AnswerWriter {
     {
         let place = at.print(self.alloc())?;
         self.at(place.as_str())?;
-        self.piece(b",\"code\":502,\"name\":\"WriteDenied\",\"ok\":false,\"rules\":[")?;
+        self.piece(WRITE_DENIED)?;
         self.rules(named)?;
         self.piece(b"]}")
     }
@@ -81,7 +86,7 @@ impl AnswerWriter {
         ensures before { self.new.before ≡ self.old.before }
         ensures text { OnOk result (self.new.text ≡ self.old.text ++ text (Reply.Refused (Refusal.ReadDenied names.now))) }
     {
-        self.piece(b"{\"code\":501,\"name\":\"ReadDenied\",\"ok\":false,\"rules\":[")?;
+        self.piece(READ_DENIED)?;
         self.borrowed_rules(names.as_slice())?;
         self.piece(b"]}")
     }
@@ -95,7 +100,7 @@ impl AnswerWriter {
     {
         let place = at.print(self.alloc())?;
         self.at(place.as_str())?;
-        self.piece(b",\"code\":502,\"name\":\"WriteDenied\",\"ok\":false,\"rules\":[")?;
+        self.piece(WRITE_DENIED)?;
         self.borrowed_rules(names.as_slice())?;
         self.piece(b"]}")
     }
