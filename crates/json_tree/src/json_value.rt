@@ -58,14 +58,22 @@ pub fn from_json(alloc: Global, value: &Value) -> Result<Option<Node>, ValueFaul
     ensures too_deep { IsErrOf result ValueFault.TooDeep ↔
         ((is_lawful (view value.now) ≡ true) × (MAX_DEPTH < depth (of_json (view value.now)))) }
 {
-    match levels(value) {
-        None => Err(ValueFault::BadValue),
-        Some(count) => if MAX_DEPTH + 1 < count {
-            Err(ValueFault::TooDeep)
-        } else {
-            Ok(build(alloc, value)?)
-        },
-    }
+    check(value)?;
+    Ok(build(alloc, value)?)
+}
+
+/// The same of a value that is given away: what an object takes is given back as its members are built, so that the
+/// value and its tree hardly ever take memory at once.
+pub fn from_value(alloc: Global, value: Value) -> Result<Option<Node>, ValueFault>
+    ensures lawful { OnOk result (is_lawful (view value) ≡ true) }
+    ensures depth { OnOk result (depth (of_json (view value)) ≤ MAX_DEPTH) }
+    ensures tree { IfOk result (λ node. node ≡ non_null (of_json (view value))) }
+    ensures bad_value { IsErrOf result ValueFault.BadValue ↔ (is_lawful (view value) ≡ false) }
+    ensures too_deep { IsErrOf result ValueFault.TooDeep ↔
+        ((is_lawful (view value) ≡ true) × (MAX_DEPTH < depth (of_json (view value)))) }
+{
+    check(&value)?;
+    Ok(build_owned(alloc, value)?)
 }
 
 /// The value of a tree, null for None: objects alone, with the primitives below them. One pass.
@@ -81,6 +89,26 @@ pub fn to_json(alloc: Global, tree: Option<&Node>) -> Result<Value, NoMemory>
 }
 
 // ---- the first pass: whether all is lawful, and how deep it goes
+
+// Whether a value gives a tree, and why not.
+fn check(value: &Value) -> Result<(), ValueFault>
+    ensures lawful { OnOk result (is_lawful (view value.now) ≡ true) }
+    ensures room { OnOk result (levels (view value.now) ≤ MAX_DEPTH + 1) }
+    ensures depth { OnOk result (depth (of_json (view value.now)) ≤ MAX_DEPTH) }
+    ensures bad_value { IsErrOf result ValueFault.BadValue ↔ (is_lawful (view value.now) ≡ false) }
+    ensures too_deep { IsErrOf result ValueFault.TooDeep ↔
+        ((is_lawful (view value.now) ≡ true) × (MAX_DEPTH < depth (of_json (view value.now)))) }
+    ensures memory { IsErrOf result ValueFault.NoMemory → ⊥ }
+{
+    match levels(value) {
+        None => Err(ValueFault::BadValue),
+        Some(count) => if MAX_DEPTH + 1 < count {
+            Err(ValueFault::TooDeep)
+        } else {
+            Ok(())
+        },
+    }
+}
 
 // How many levels a lawful value has, counted up to `MANY_LEVELS`; None where it is not lawful.
 #[cycle(levels)]
@@ -202,6 +230,37 @@ fn build_members(alloc: Global, members: &Map<String, Value>) -> Result<Vec<Chil
     let mut children = Vec::with_capacity(alloc, members.len())?;
     for (name, member) in members.iter() {
         let built = build(alloc, member)?;
+        if let Some(node) = built {
+            children.push(Child::new(alloc, Key::of_lawful(alloc, name.as_str())?, node)?)?;
+        }
+    }
+    Ok(children)
+}
+
+// The same of a value that is given away: objects are taken apart as their members are built.
+#[cycle(build_owned)]
+fn build_owned(alloc: Global, value: Value) -> Result<Option<Node>, NoMemory>
+    requires lawful { is_lawful (view value) ≡ true }
+    requires room { levels (view value) ≤ MAX_DEPTH + 1 }
+    ensures { IfOk result (λ node. node ≡ non_null (of_json (view value))) }
+{
+    match value {
+        Value::Object(members) => parent(build_owned_members(alloc, members)?),
+        other => build(alloc, &other),
+    }
+}
+
+#[cycle(build_owned)]
+fn build_owned_members(alloc: Global, members: Map<String, Value>) -> Result<Vec<Child>, NoMemory>
+    requires lawful { are_lawful_members (members_view members.entries) ≡ true }
+    requires room { levels_of_members (members_view members.entries) ≤ MAX_DEPTH + 1 }
+    ensures children { IfOk result
+        (λ children. children.items ≡ children_of (members_view members.entries)) }
+    ensures ascending { IfOk result (λ children. is_sorted key_cmp children.items ≡ true) }
+{
+    let mut children = Vec::with_capacity(alloc, members.len())?;
+    for (name, member) in members {
+        let built = build_owned(alloc, member)?;
         if let Some(node) = built {
             children.push(Child::new(alloc, Key::of_lawful(alloc, name.as_str())?, node)?)?;
         }

@@ -22,7 +22,7 @@ pub use json_laws::{
     what_a_tree_is_written_as, what_a_value_describes, what_is_written_is_read_back,
 };
 pub use json_text::{write_json, write_node};
-pub use json_value::{ValueFault, from_json, to_json};
+pub use json_value::{ValueFault, from_json, from_value, to_json};
 pub use key::{Key, KeyFault, copy_keys, is_lawful_key, key_front};
 pub use leaf::{Leaf, LeafText, Number};
 pub use memory::NoMemory;

@@ -4,8 +4,8 @@ ghost use Rattle.tree_model.specs.PathMap.{depth};
 ghost use Rattle.tree_model.specs.Tree.{null};
 
 use json_tree::{
-    Child, Key, Leaf, NoMemory, Node, Number, ValueFault, from_json, key_front, put, to_json,
-    write_json,
+    Child, Key, Leaf, NoMemory, Node, Number, ValueFault, from_json, from_value, key_front, put,
+    to_json, write_json,
 };
 use serde_json::Value;
 use std::alloc::Global;
@@ -15,7 +15,17 @@ use test_tables::{LongRow, Row, first_other, first_other_of_long};
 // What a JSON text is written as once it was a tree, or the fault's name.
 fn answer(alloc: Global, text: &str) -> Result<String, Fail> {
     let value = Value::from_str(alloc, text)?;
-    match from_json(alloc, &value) {
+    written_or_fault(alloc, from_json(alloc, &value))
+}
+
+// The same where the value is given away.
+fn answer_to_given(alloc: Global, text: &str) -> Result<String, Fail> {
+    let value = Value::from_str(alloc, text)?;
+    written_or_fault(alloc, from_value(alloc, value))
+}
+
+fn written_or_fault(alloc: Global, told: Result<Option<Node>, ValueFault>) -> Result<String, Fail> {
+    match told {
         Ok(tree) => Ok(to_json(alloc, tree.as_ref())?.to_string(alloc)?),
         Err(ValueFault::NoMemory) => Err(NoMemory)?,
         Err(fault) => Ok(format!(in alloc; "{fault:?}")?),
@@ -61,6 +71,13 @@ const WHOLE_NUMBERS: [Row; 10] = [
 #[test]
 fn primitives_and_arrays(rt: HostRuntime) -> Result<(), Fail> {
     let other = first_other(rt.alloc(), &PRIMITIVES_AND_ARRAYS, answer)?;
+    assert_eq!(rt; other.as_str(), "");
+    Ok(())
+}
+
+#[test]
+fn values_that_are_given_away(rt: HostRuntime) -> Result<(), Fail> {
+    let other = first_other(rt.alloc(), &PRIMITIVES_AND_ARRAYS, answer_to_given)?;
     assert_eq!(rt; other.as_str(), "");
     Ok(())
 }

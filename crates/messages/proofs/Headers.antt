@@ -1,15 +1,19 @@
 -- What a header is, from what its parts say.
-use Rattle.std.proofs.Common.{◌≡◌, ℕ, List, Some, Ok, Err, Result, inl, ap, sym, subst, ◌∙◌}
+use Rattle.std.proofs.Common.{◌≡◌, ℕ, List, Option, Some, Ok, Err, Result, refl, inl, ap, sym, subst, ◌∙◌}
 use Rattle.serde_json.specs.Data.{Data}
+use Rattle.tree_model.specs.Tree.{Tree}
 use Rattle.rules_reader.specs.declared.fault.RulesFault.{RulesFault}
 use Rattle.rules_reader.specs.Book.{Book}
 use Rattle.rules_reader.specs.File.{States}
 use Rattle.rules_reader.specs.Place.{HasOneCapture}
 use Rattle.rules_reader.specs.Refusal.{Refuses}
-use Rattle.messages.specs.Message.{Header, value_of, header_of, header_in, or_fault, unless_fault}
+use Rattle.tokens.specs.Tokens.{Tokens}
+use Rattle.tokens.specs.declared.fault.TokensFault.{TokensFault}
+use Rattle.tokens.specs.declared.fault.TokensFault.TheVariants.{BadTokens, NoMemory}
+use Rattle.messages.specs.Message.{Header, value_of, header_of, header_in, opening_tree, or_fault, unless_fault}
 use Rattle.messages.specs.declared.header.Opened.{Opened}
 use Rattle.messages.specs.Header.{HasRules, Opens}
-use Rattle.messages.specs.Working.Opening.{OpensBy}
+use Rattle.messages.specs.Working.Opening.{OpensBy, TellsTokens, fault_of_tokens}
 use Rattle.messages.specs.declared.header.HeaderFault.{HeaderFault}
 use Rattle.messages.specs.declared.header.HeaderFault.TheVariants as faults
 use Rattle.messages.specs.declared.message.MessageFault.TheVariants.{BadRequest}
@@ -36,3 +40,8 @@ opens line header book (Err (faults.Rules fault)) has o = absurd o
 
 pub refuses : (line : List ℕ) (header : Header) (fault : RulesFault) (bytes : List ℕ) → header_in line ≡ Ok header → bytes ≡ header.rules → Refuses bytes fault → Opens line (Err (faults.Rules fault))
 refuses line header fault bytes is same r = (header, is, rules_refused header bytes fault same r)
+
+-- where no tokens came of the member `tokens`
+pub no_tokens : (book : Book) (value named : Option Data) (tree : Tree) (told : Result Tokens TokensFault) (fault : TokensFault) → opening_tree value ≡ Ok tree → told ≡ Err fault → TellsTokens named told → OpensBy book value named (Err (fault_of_tokens fault))
+no_tokens book value named tree told BadTokens laid is tells = (tree, laid, subst (TellsTokens named) is tells)
+no_tokens book value named tree told NoMemory laid is tells = refl

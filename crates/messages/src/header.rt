@@ -1,6 +1,6 @@
 //! The header of a script: the rules file that its requests are judged by, the opening tree, and the
 //! tokens.
-ghost use Rattle.std.specs.Prelude.{◌≡◌, ◌∷◌, [], Ok, Some, None, codes, Option, option_map, IfOk, IsErrOf};
+ghost use Rattle.std.specs.Prelude.{◌≡◌, ◌∷◌, [], Ok, Some, None, codes, Option, option_map};
 ghost use Rattle.std.specs.List.{list_all, list_any};
 ghost use Rattle.std.specs.Str.{bytes_eq};
 ghost use Rattle.serde_json.specs.View.{view, members_view};
@@ -8,14 +8,15 @@ ghost use Rattle.path_capture.specs.Write.{tree_or_null};
 ghost use Rattle.tokens.specs.Tokens.{names_of, has_only};
 ghost use Rattle.messages.specs.Message.{Tells, header_of, opening_tree, opening_tokens};
 ghost use Rattle.messages.specs.Header.{Opens};
-ghost use Rattle.messages.specs.Working.Opening.{OpensBy, header_seen};
+ghost use Rattle.messages.specs.Working.Opening.{OpensBy, TellsTokens, fault_of_tokens, header_seen};
+ghost use Rattle.serde_json.specs.Find.{get};
 ghost use Rattle.serde_json.specs.Data.{Data as AnyData};
 ghost use Rattle.messages.specs.declared.header.HeaderFault.TheVariants.{Line as of_line, Rules as of_rules};
 
 use crate::member_name::MemberName;
 use crate::message::{MessageFault, read_value};
 use crate::source::Source;
-use crate::writes::tree_of_value;
+use crate::writes::tree_of_given;
 use json_tree::Node;
 use rtdb_core::Core;
 use rules_reader::{Rules, RulesFault, compile};
@@ -57,7 +58,6 @@ impl From<RulesFault> for HeaderFault {
 #[derive(Clone, Copy)]
 struct Header<'a> {
     rules: &'a str,
-    opening: Option<&'a Value>,
     tokens: Option<&'a Value>,
 }
 
@@ -81,20 +81,29 @@ pub fn read_header(alloc: Global, line: &[u8]) -> Result<Opened, HeaderFault>
     let rules = compile(alloc, header.rules.as_bytes())?;
     // No object of theirs has two captures.
     rules.root();
-    open(alloc, rules, header.opening, header.tokens)
+    // They are read before the value is taken apart, and their fault is told behind that of its tree.
+    let tokens = opening_tokens(alloc, header.tokens);
+    open(alloc, rules, opening_of(value), tokens)
 }
 
-// What these rules open, with the tree and the tokens of these values.
+// The member `data` of a header, of which all else is let go.
+fn opening_of(mut value: Value) -> Option<Value>
+    ensures { option_map (λ opening. view opening) result ≡ get (codes "data") (view value) }
+{
+    Some(value.get_mut("data")?.take())
+}
+
+// What these rules open, with the tree of this value and these tokens.
 fn open(
     alloc: Global,
     rules: Rules,
-    opening: Option<&Value>,
-    named: Option<&Value>,
+    opening: Option<Value>,
+    tokens: Result<Tokens, TokensFault>,
 ) -> Result<Opened, HeaderFault>
-    ensures { OpensBy rules (option_map (λ value. view value.now) opening.entry) (option_map (λ value. view value.now) named.entry) result }
+    ensures { (named : Option AnyData) → TellsTokens named tokens → OpensBy rules (option_map (λ value. view value) opening) named result }
 {
     match opening_tree(alloc, opening) {
-        Ok(tree) => with_tree(alloc, rules, tree, named),
+        Ok(tree) => with_tree(alloc, rules, tree, tokens),
         Err(fault) => Err(HeaderFault::Data(fault)),
     }
 }
@@ -103,14 +112,22 @@ fn with_tree(
     alloc: Global,
     rules: Rules,
     tree: Option<Node>,
-    named: Option<&Value>,
+    tokens: Result<Tokens, TokensFault>,
 ) -> Result<Opened, HeaderFault>
-    ensures { (value : Option AnyData) → opening_tree value ≡ Ok (tree_or_null tree) → OpensBy rules value (option_map (λ value. view value.now) named.entry) result }
+    ensures { (value named : Option AnyData) → opening_tree value ≡ Ok (tree_or_null tree) → TellsTokens named tokens → OpensBy rules value named result }
 {
-    match opening_tokens(alloc, named) {
+    match tokens {
         Ok(tokens) => with_tokens(alloc, rules, tree, tokens),
-        Err(TokensFault::BadTokens) => Err(HeaderFault::BadTokens),
-        Err(TokensFault::NoMemory) => Err(HeaderFault::Line(MessageFault::NoMemory)),
+        Err(fault) => Err(fault_of_tokens(fault)),
+    }
+}
+
+fn fault_of_tokens(fault: TokensFault) -> HeaderFault
+    ensures { result ≡ fault_of_tokens fault }
+{
+    match fault {
+        TokensFault::BadTokens => HeaderFault::BadTokens,
+        TokensFault::NoMemory => HeaderFault::Line(MessageFault::NoMemory),
     }
 }
 
@@ -130,8 +147,7 @@ fn with_tokens(
 
 // The tokens of the member `tokens`: none where there is none.
 fn opening_tokens(alloc: Global, named: Option<&Value>) -> Result<Tokens, TokensFault>
-    ensures tokens { IfOk result (λ tokens. opening_tokens (option_map (λ value. view value.now) named.entry) ≡ Some tokens) }
-    ensures bad_tokens { IsErrOf result TokensFault.BadTokens → opening_tokens (option_map (λ value. view value.now) named.entry) ≡ None }
+    ensures { TellsTokens (option_map (λ value. view value.now) named.entry) result }
 {
     match named {
         Some(value) => Tokens::from_json(alloc, value),
@@ -140,18 +156,18 @@ fn opening_tokens(alloc: Global, named: Option<&Value>) -> Result<Tokens, Tokens
 }
 
 // The tree of the member `data`: null where there is none.
-fn opening_tree(alloc: Global, opening: Option<&Value>) -> Result<Option<Node>, MessageFault>
-    ensures { Tells tree_or_null result (opening_tree (option_map (λ value. view value.now) opening.entry)) }
+fn opening_tree(alloc: Global, opening: Option<Value>) -> Result<Option<Node>, MessageFault>
+    ensures { Tells tree_or_null result (opening_tree (option_map (λ value. view value) opening)) }
 {
     match opening {
-        Some(value) => tree_of_value(alloc, value),
+        Some(value) => tree_of_given(alloc, value),
         None => Ok(None),
     }
 }
 
 // The members of a header, where it has no other.
 fn header_of(value: &Value) -> Option<Header<'_>>
-    ensures { option_map header_seen result ≡ header_of (view value.now) }
+    ensures { option_map (header_seen (get (codes "data") (view value.now))) result ≡ header_of (view value.now) }
 {
     if !has_header_alone(value) {
         return None;
@@ -159,7 +175,6 @@ fn header_of(value: &Value) -> Option<Header<'_>>
     let rules = Source::Held(value).text_at(MemberName::Rules)?;
     Some(Header {
         rules,
-        opening: value.get("data"),
         tokens: value.get("tokens"),
     })
 }

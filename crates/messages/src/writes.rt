@@ -4,14 +4,14 @@ ghost use Rattle.serde_json.specs.Data.{number, unsigned, string};
 ghost use Rattle.serde_json.specs.View.{view, members_view};
 ghost use Rattle.path_capture.specs.Write.{tree_or_null};
 ghost use Rattle.messages.specs.Message.{Tells, path_of, path_below, tree_of_value, write_at, write_below, writes_below};
-ghost use Rattle.messages.specs.Working.Faults.{fault_of_path};
+ghost use Rattle.messages.specs.Working.Faults.{fault_of_path, fault_of_value};
 ghost use Rattle.messages.specs.Working.Outline.{said_data};
 
 use crate::message::MessageFault;
 use crate::outline::Said;
 use crate::tree_members::is_read_back;
 use crate::trees::node_of_whole;
-use json_tree::{Leaf, NoMemory, Node, ValueFault, from_json};
+use json_tree::{Leaf, NoMemory, Node, ValueFault, from_json, from_value};
 use path_capture::{Path, PathFault, Write};
 use serde_json::{Map, Value};
 use std::alloc::Global;
@@ -131,9 +131,27 @@ pub(crate) fn tree_of_value(alloc: Global, value: &Value) -> Result<Option<Node>
 {
     match from_json(alloc, value) {
         Ok(tree) => Ok(tree),
-        Err(ValueFault::BadValue) => Err(MessageFault::BadValue),
-        Err(ValueFault::TooDeep) => Err(MessageFault::TooDeep),
-        Err(ValueFault::NoMemory) => Err(MessageFault::NoMemory),
+        Err(fault) => Err(fault_of_value(fault)),
+    }
+}
+
+/// The same of a value that is given away.
+pub(crate) fn tree_of_given(alloc: Global, value: Value) -> Result<Option<Node>, MessageFault>
+    ensures { Tells tree_or_null result (tree_of_value (view value)) }
+{
+    match from_value(alloc, value) {
+        Ok(tree) => Ok(tree),
+        Err(fault) => Err(fault_of_value(fault)),
+    }
+}
+
+fn fault_of_value(fault: ValueFault) -> MessageFault
+    ensures { result ≡ fault_of_value fault }
+{
+    match fault {
+        ValueFault::BadValue => MessageFault::BadValue,
+        ValueFault::TooDeep => MessageFault::TooDeep,
+        ValueFault::NoMemory => MessageFault::NoMemory,
     }
 }
 

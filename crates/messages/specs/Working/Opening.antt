@@ -1,5 +1,5 @@
 -- What is opened by the parts of a header.
-use Rattle.std.specs.Prelude.{◌≡◌, ◌≤◌, ◌<◌, ◌⊎◌, Option, Some, None, option_map, Result, Ok, Err}
+use Rattle.std.specs.Prelude.{◌≡◌, ◌≤◌, ◌<◌, ◌⊎◌, ⊤, Option, Some, None, option_map, Result, Ok, Err}
 use Rattle.serde_json.specs.Data.{Data as AnyData}
 use Rattle.serde_json.specs.View.{view}
 use Rattle.tree_model.specs.Tree.{Tree, count}
@@ -12,11 +12,24 @@ use Rattle.messages.specs.declared.header.HeaderFault.TheVariants.{Line, Rules, 
 use Rattle.messages.specs.declared.header.Header as code
 use Rattle.messages.specs.declared.header.Opened.{Opened}
 use Rattle.tokens.specs.Tokens.{Tokens}
+use Rattle.tokens.specs.declared.fault.TokensFault.{TokensFault}
+use Rattle.tokens.specs.declared.fault.TokensFault.TheVariants.{BadTokens as NoTokens, NoMemory as NoRoom}
 use Rattle.messages.specs.Message.{Header, opening_tree, opening_tokens}
 
--- what the code has read of a header
-abbrev pub header_seen : code.Header → Header
-header_seen h = record { rules = h.rules.now; opening = option_map (λ value. view value.now) h.opening; tokens = option_map (λ value. view value.now) h.tokens }
+-- what the code has read of a header with this member `data`
+abbrev pub header_seen : Option AnyData → code.Header → Header
+header_seen opening h = record { rules = h.rules.now; opening = opening; tokens = option_map (λ value. view value.now) h.tokens }
+
+-- a fault of the member `tokens` as one of the header
+abbrev pub fault_of_tokens : TokensFault → HeaderFault
+fault_of_tokens NoTokens = BadTokens
+fault_of_tokens NoRoom = Line NoMemory
+
+-- what came of the member `tokens`
+abbrev pub TellsTokens : Option AnyData → Result Tokens TokensFault → Type 0
+TellsTokens named (Ok tokens) = opening_tokens named ≡ Some tokens
+TellsTokens named (Err NoTokens) = opening_tokens named ≡ None
+TellsTokens named (Err NoRoom) = ⊤
 
 -- what these rules open with these values, if they are a tree and tokens, and the tree not too large
 abbrev pub OpensBy : Book → Option AnyData → Option AnyData → Result Opened HeaderFault → Type 0

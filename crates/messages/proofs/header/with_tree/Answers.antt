@@ -1,6 +1,10 @@
-use Rattle.std.proofs.Common.{Err, ap}
+use Rattle.std.proofs.Common.{Err, sym, subst}
 use Rattle.path_capture.specs.Write.{tree_or_null}
+use Rattle.messages.specs.Working.Opening.{OpensBy}
+use Rattle.messages.proofs.Headers.{no_tokens}
 use Rattle.messages.proofs.header.with_tree.Goals as goal
 
-pub returns-in-Err-BadTokens : goal.returns-in-Err-BadTokens
-returns-in-Err-BadTokens c = λ value is. (tree_or_null c.args.tree, is, c.in-Err-BadTokens.ensures.bad_tokens (ap Err c.in-Err-BadTokens.field-0-is))
+pub returns-in-Err : goal.returns-in-Err
+returns-in-Err c = λ value named is told.
+    subst (λ fault. OpensBy c.args.rules value named (Err fault)) (sym c.fault_of_tokens.ensures)
+    (no_tokens c.args.rules value named (tree_or_null c.args.tree) c.args.tokens c.in-Err.fault is c.in-Err.is told)
