@@ -9,12 +9,12 @@ use Rattle.tree_model.specs.Tree.{Tree, count}
 use Rattle.tree_model.specs.Children.{graft}
 use Rattle.tree_model.proofs.Counts.{count-graft}
 use Rattle.tree_model.proofs.Grafts.{depth-graft}
-use Rattle.json_tree.specs.Node.{tree_of, AreLawfulChildren, IsNode}
+use Rattle.json_tree.specs.Node.{AreLawfulChildren, IsNode}
 use Rattle.json_tree.specs.Working.Share.{deepest, IsSizeOf, Exchanges}
 use Rattle.json_tree.specs.declared.share.Exchange.{Exchange}
 use Rattle.json_tree.specs.declared.node.Kind.{Kind}
 use Rattle.json_tree.specs.declared.node.Kind.TheVariants.{Parent}
-use Rattle.json_tree.proofs.Nodes.{parts_at_parent}
+use Rattle.json_tree.proofs.Nodes.{parts_at_parent, size_at_parent}
 
 -- ---- the greatest of a list of which one element changes
 
@@ -131,12 +131,13 @@ set_there cs i c x h is = is ∙ get_or-set_same cs i c x h
 -- ---- what the parent has then
 
 -- what a parent keeps beside its children
-pub size_of_node : {k : Kind} {cs : Vec (Key × Tree) Global} {deep many : ℕ} → IsNode k deep many → k ≡ Parent cs → IsSizeOf cs.items deep many
+pub size_of_node : {k : Kind} {cs : Vec (Key × Tree) Global} {deep many : ℕ} → IsNode k → k ≡ Parent cs deep many → IsSizeOf cs.items deep many
 size_of_node {cs = cs} node is =
     let parts = parts_at_parent node.parts is in
+    let size = size_at_parent node.sized is in
     record {
-      depth = node.depth ∙ ap (λ x. depth (tree_of x)) is ∙ depth-graft cs.items parts.0;
-      count = node.count ∙ ap (λ x. min (count (tree_of x)) (2 ^ 64 - 1)) is ∙ ap (λ m. min m (2 ^ 64 - 1)) (count-graft cs.items parts.0);
+      depth = size.depth ∙ depth-graft cs.items parts.0;
+      count = size.count ∙ ap (λ m. min m (2 ^ 64 - 1)) (count-graft cs.items parts.0);
     }
 
 -- the depth of the parent where it is known

@@ -11,7 +11,7 @@ use Rattle.json_tree.specs.declared.node.Kind.TheVariants.{Primitive, Parent}
 
 abbrev pub tree_of : Kind → Tree
 tree_of (Primitive leaf) = lone (primitive_of leaf)
-tree_of (Parent children) = graft children.items
+tree_of (Parent children deep many) = graft children.items
 
 -- children that may stand together, each lawful below its key
 abbrev pub AreLawfulChildren : List (Key × Tree) → Type 0
@@ -20,11 +20,20 @@ AreLawfulChildren cs = AreChildren cs × AllByRecursion IsLawfulChild cs
 -- a leaf, or lawful children
 abbrev pub IsKind : Kind → Type 0
 IsKind (Primitive leaf) = Unit {0}
-IsKind (Parent children) = AreLawfulChildren children.items
+IsKind (Parent children deep many) = AreLawfulChildren children.items
 
--- the parts of a node: its kind, and beside it the depth and the count of its tree, the count up to the greatest `usize`
-pub record IsNode (kind : Kind) (deep many : ℕ) : Type 0 where
+-- the depth and the count of a tree, the count up to the greatest `usize`
+pub record IsSize (t : Tree) (deep many : ℕ) : Type 0 where
+  pub depth : deep ≡ depth t
+  pub count : many ≡ min (count t) (2 ^ 64 - 1)
+
+-- a parent knows the depth and the count of its tree
+abbrev pub IsSized : Kind → Type 0
+IsSized (Primitive leaf) = Unit {0}
+IsSized (Parent children deep many) = IsSize (graft children.items) deep many
+
+-- the parts of a node
+pub record IsNode (kind : Kind) : Type 0 where
   pub parts : IsKind kind
   pub lawful : IsLawful (tree_of kind)
-  pub depth : deep ≡ depth (tree_of kind)
-  pub count : many ≡ min (count (tree_of kind)) (2 ^ 64 - 1)
+  pub sized : IsSized kind

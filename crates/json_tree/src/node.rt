@@ -31,16 +31,19 @@ const AROUND_A_KEY: usize = 4;
 #[derive(Debug, Drop)]
 pub struct Node {
     pub(crate) kind: Kind,
-    pub(crate) depth: usize,
-    pub(crate) count: usize,
 }
 
 #[cycle(node)]
 #[derive(Debug, Drop)]
 pub(crate) enum Kind {
     Primitive(Leaf),
-    // Ascending by the bytes of the keys, at least one.
-    Parent(Vec<Child>),
+    Parent {
+        // Ascending by the bytes of the keys, at least one.
+        children: Vec<Child>,
+        // The depth and the count of the tree, kept so that nobody walks it for them.
+        depth: usize,
+        count: usize,
+    },
 }
 
 /// A child of a node: its key, and its tree. Both lie in a growth of their own, so that where a child comes
@@ -171,7 +174,7 @@ impl Model for Node {
 
     ghost view = { λ node. tree_of node.kind };
 
-    ghost invariant = { λ node. IsNode node.kind node.depth node.count };
+    ghost invariant = { λ node. IsNode node.kind };
 
     ghost use Rattle.std.specs.Prelude.{◌+◌};
 
@@ -179,7 +182,7 @@ impl Model for Node {
 
     ghost use Rattle.json_tree.specs.Working.NodeFalls.{falls};
 
-    ghost size_decreases = { λ node h. falls node.kind node.depth node.count h };
+    ghost size_decreases = { λ node h. falls node.kind h };
 }
 
 impl Node {
@@ -191,8 +194,6 @@ impl Node {
         leaf.law();
         Ok(Node {
             kind: Kind::Primitive(leaf),
-            depth: 0,
-            count: 1,
         })
     }
 
@@ -206,9 +207,11 @@ impl Node {
     {
         let (depth, count) = sizes_of(&children);
         Ok(Node {
-            kind: Kind::Parent(children),
-            depth,
-            count,
+            kind: Kind::Parent {
+                children,
+                depth,
+                count,
+            },
         })
     }
 
@@ -218,7 +221,7 @@ impl Node {
     {
         match &self.kind {
             Kind::Primitive(leaf) => Some(leaf),
-            Kind::Parent(_) => None,
+            Kind::Parent { .. } => None,
         }
     }
 
@@ -229,7 +232,7 @@ impl Node {
     {
         match &self.kind {
             Kind::Primitive(_) => None,
-            Kind::Parent(children) => place_of(children, name).child,
+            Kind::Parent { children, .. } => place_of(children, name).child,
         }
     }
 
@@ -246,7 +249,7 @@ impl Node {
                 child: None,
                 before: 0,
             },
-            Kind::Parent(children) => place_of(children, name),
+            Kind::Parent { children, .. } => place_of(children, name),
         }
     }
 
@@ -256,7 +259,7 @@ impl Node {
     {
         match &self.kind {
             Kind::Primitive(_) => 0,
-            Kind::Parent(children) => children.len(),
+            Kind::Parent { children, .. } => children.len(),
         }
     }
 
@@ -266,7 +269,7 @@ impl Node {
     {
         match &self.kind {
             Kind::Primitive(_) => None,
-            Kind::Parent(children) => key_of(children, i),
+            Kind::Parent { children, .. } => key_of(children, i),
         }
     }
 
@@ -283,7 +286,10 @@ impl Node {
     pub fn depth(&self) -> usize
         ensures { result ≡ depth self.now }
     {
-        self.depth
+        match &self.kind {
+            Kind::Primitive(_) => 0,
+            Kind::Parent { depth, .. } => *depth,
+        }
     }
 
     /// How many locations exist, the root among them, in constant time. Of a tree with more than
@@ -291,7 +297,10 @@ impl Node {
     pub fn count(&self) -> usize
         ensures { result ≡ min (count self.now) usize.MAX }
     {
-        self.count
+        match &self.kind {
+            Kind::Primitive(_) => 1,
+            Kind::Parent { count, .. } => *count,
+        }
     }
 
     /// The same tree once more, in one pass: one growth for each long text, long key, child and list of
@@ -302,13 +311,17 @@ impl Node {
     {
         let kind = match &self.kind {
             Kind::Primitive(leaf) => Kind::Primitive(leaf.copy(alloc)?),
-            Kind::Parent(children) => Kind::Parent(copy_of(alloc, children)?),
+            Kind::Parent {
+                children,
+                depth,
+                count,
+            } => Kind::Parent {
+                children: copy_of(alloc, children)?,
+                depth: *depth,
+                count: *count,
+            },
         };
-        Ok(Node {
-            kind,
-            depth: self.depth,
-            count: self.count,
-        })
+        Ok(Node { kind })
     }
 
     // About how many bytes its text has, without what escapes add. So each child is looked at before the first
@@ -317,7 +330,10 @@ impl Node {
     pub(crate) fn text_room(&self) -> usize {
         match &self.kind {
             Kind::Primitive(leaf) => leaf.text_room(),
-            Kind::Parent(children) => room_of_keys(children).saturating_add(room_below(children)),
+            Kind::Parent { children, .. } => {
+                let keys = room_of_keys(children);
+                keys.saturating_add(room_below(children))
+            }
         }
     }
 
@@ -329,7 +345,7 @@ impl Node {
     {
         match &self.kind {
             Kind::Primitive(_) => &[],
-            Kind::Parent(children) => children.as_slice(),
+            Kind::Parent { children, .. } => children.as_slice(),
         }
     }
 

@@ -125,11 +125,15 @@ fn insert(
             *value = replace(node, parent);
             Ok(true)
         }
-        Kind::Parent(children) => {
+        Kind::Parent {
+            children,
+            depth,
+            count,
+        } => {
             let (exchange, stood) = insert_below(alloc, children, key, rest, value, reach)?;
-            let (depth, count) = sizes_after(children, node.depth, node.count, exchange);
-            node.depth = depth;
-            node.count = count;
+            let (depth_after, count_after) = sizes_after(children, *depth, *count, exchange);
+            *depth = depth_after;
+            *count = count_after;
             Ok(stood)
         }
     }
@@ -190,8 +194,6 @@ fn taken(value: &mut Node) -> Node
 {
     let nothing = Node {
         kind: Kind::Primitive(Leaf::Truth(false)),
-        depth: 0,
-        count: 1,
     };
     replace(value, nothing)
 }
@@ -207,13 +209,13 @@ fn chain(alloc: Global, path: &[Key], value: Node) -> Result<Node, NoMemory>
     }
 }
 
-// The node with this one child.
+// The node with this one child, in a list that has no room for more: most that are made so stay alone.
 #[inline(always)]
 fn only_child(alloc: Global, key: &Key, child: Node) -> Result<Node, NoMemory>
     requires { depth child < MAX_DEPTH }
     ensures { IfOk result (λ node. node ≡ graft ((key.now, child) ∷ [])) }
 {
-    let mut children = Vec::new(alloc);
+    let mut children = Vec::with_capacity(alloc, 1)?;
     children.push(Child::new(alloc, key.copy(alloc)?, child)?)?;
     Node::of_children(children)
 }
@@ -240,21 +242,24 @@ fn remove(node: &mut Node, path: &[Key]) -> bool
     ensures same { OnTrue result (node.new ≡ node.old) }
     ensures left { OnFalse result (node.new ≡ proposed node.old ((path.now, null) ∷ [])) }
 {
-    match path {
-        [] => true,
-        [key, rest @ ..] => match &mut node.kind {
-            Kind::Primitive(_) => false,
-            Kind::Parent(children) => {
-                let Some(exchange) = remove_below(children, key, rest) else {
-                    return true;
-                };
-                let (depth, count) = sizes_after(children, node.depth, node.count, exchange);
-                node.depth = depth;
-                node.count = count;
-                false
-            }
-        },
-    }
+    let [key, rest @ ..] = path else {
+        return true;
+    };
+    let Kind::Parent {
+        children,
+        depth,
+        count,
+    } = &mut node.kind
+    else {
+        return false;
+    };
+    let Some(exchange) = remove_below(children, key, rest) else {
+        return true;
+    };
+    let (depth_after, count_after) = sizes_after(children, *depth, *count, exchange);
+    *depth = depth_after;
+    *count = count_after;
+    false
 }
 
 // Removes what is at a path below the child of a key. None where no child is left, and then they are

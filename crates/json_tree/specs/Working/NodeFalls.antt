@@ -1,5 +1,5 @@
 -- Each child is less deep than its parent.
-use Rattle.std.specs.Prelude.{ℕ, List, [], ◌∷◌, ◌≤◌, ◌+◌, max, map}
+use Rattle.std.specs.Prelude.{List, [], ◌∷◌, ◌≤◌, ◌+◌, max, map}
 use Rattle.std.proofs.Common.{arith}
 use denote.Param.Weighed.{most}
 use Rattle.tree_model.specs.Key.{Key}
@@ -17,7 +17,7 @@ most_le-greatest (c ∷ cs) = omega (arith, most_le-greatest cs)
 
 kind_falls : (k : Kind) → IsKind k → max (deep-Kind k) 0 ≤ depth (tree_of k) + depth (tree_of k)
 kind_falls (Primitive leaf) h = omega arith
-kind_falls (Parent cs) h = omega (arith, most_le-greatest cs.items, depth-graft cs.items h.0)
+kind_falls (Parent cs deep many) h = omega (arith, most_le-greatest cs.items, depth-graft cs.items h.0)
 
-pub falls : (k : Kind) (deep many : ℕ) → IsNode k deep many → max (deep-Kind k) 0 ≤ depth (tree_of k) + depth (tree_of k)
-falls k deep many h = kind_falls k h.parts
+pub falls : (k : Kind) → IsNode k → max (deep-Kind k) 0 ≤ depth (tree_of k) + depth (tree_of k)
+falls k h = kind_falls k h.parts

@@ -29,14 +29,14 @@ insert-insert_below-requires t c =
     let long = ap length (first_and_rest c.args.path.now c.key-item.result (omega arith) c.key-item.is) in
     (omega arith, (parts_at_parent c.node.invariant.parts c.in-Parent.is, omega arith))
 
-pub insert-sizes_after-depth-requires-clause-sizes : goal.insert-sizes_after-depth-requires-clause-sizes
-insert-sizes_after-depth-requires-clause-sizes t c = (c.in-Parent.children.items, size_of_node c.node.invariant c.in-Parent.is, c.in_ok-exchange-in-Parent.ensures.exchange)
+pub insert-sizes_after-depth_after-requires-clause-sizes : goal.insert-sizes_after-depth_after-requires-clause-sizes
+insert-sizes_after-depth_after-requires-clause-sizes t c = (c.in-Parent.children.items, size_of_node c.node.invariant c.in-Parent.is, c.in_ok-exchange-in-Parent.ensures.exchange)
 
 pub insert-invariant_of-node-in-Parent : goal.insert-invariant_of-node-in-Parent
 insert-invariant_of-node-in-Parent t c =
     let children = c.in_ok-exchange-in-Parent.ensures.children in
-    let sizes = c.sizes_after-depth.ensures in
-    record { parts = children; lawful = IsLawful-graft _ children.0.ascending children.1; depth = sizes.depth; count = sizes.count }
+    let sizes = c.sizes_after-depth_after.ensures in
+    record { parts = children; lawful = IsLawful-graft _ children.0.ascending children.1; sized = record { depth = sizes.depth; count = sizes.count } }
 
 pub insert-returns-in_default-clause-ok : goal.insert-returns-in_default-clause-ok
 insert-returns-in_default-clause-ok t c =

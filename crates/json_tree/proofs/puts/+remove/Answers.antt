@@ -25,27 +25,27 @@ remove-remove_below-requires t c =
     let long = ap length (first_and_rest c.args.path.now c.key-item.result (omega arith) c.key-item.is) in
     (omega arith, parts_at_parent c.node.invariant.parts c.in-Parent.is)
 
-pub remove-sizes_after-depth-requires-clause-sizes : goal.remove-sizes_after-depth-requires-clause-sizes
-remove-sizes_after-depth-requires-clause-sizes t c = (c.in-Parent.children.items, size_of_node c.node.invariant c.in-Parent.is, c.in-Some.ensures.exchange)
+pub remove-sizes_after-depth_after-requires-clause-sizes : goal.remove-sizes_after-depth_after-requires-clause-sizes
+remove-sizes_after-depth_after-requires-clause-sizes t c = (c.in-Parent.children.items, size_of_node c.node.invariant c.in-Parent.is, c.in-Some.ensures.exchange)
 
-pub remove-invariant_of-node-in-Parent : goal.remove-invariant_of-node-in-Parent
-remove-invariant_of-node-in-Parent t c =
+pub remove-invariant_of-node-2 : goal.remove-invariant_of-node-2
+remove-invariant_of-node-2 t c =
     let children = c.remove_below.ensures.children in
-    let sizes = c.sizes_after-depth.ensures in
-    record { parts = children; lawful = IsLawful-graft _ children.0.ascending children.1; depth = sizes.depth; count = sizes.count }
+    let sizes = c.sizes_after-depth_after.ensures in
+    record { parts = children; lawful = IsLawful-graft _ children.0.ascending children.1; sized = record { depth = sizes.depth; count = sizes.count } }
 
-pub remove-returns-in-empty-clause-gone : goal.remove-returns-in-empty-clause-gone
-remove-returns-in-empty-clause-gone t c =
+pub remove-returns-in_default-clause-gone : goal.remove-returns-in_default-clause-gone
+remove-returns-in_default-clause-gone t c =
     let none = nil_from_length c.args.path.now (omega arith) in
     ap (λ p. proposed c.args.node.now ((p, null) ∷ [])) none ∙ proposed-root c.args.node.now null
 
-pub remove-returns-in-Primitive-clause-left : goal.remove-returns-in-Primitive-clause-left
-remove-returns-in-Primitive-clause-left t c =
+pub remove-returns-in_default-kind-clause-left : goal.remove-returns-in_default-kind-clause-left
+remove-returns-in_default-kind-clause-left t c =
     let path = first_and_rest c.args.path.now c.key-item.result (omega arith) c.key-item.is in
-    let node = at_primitive c.node.view_is c.in-Primitive.is in
+    let node = at_primitive c.node.view_is c.in_default-kind.is in
     c.node.view_is
     ∙ node
-    ∙ sym (removed-lone (primitive_of c.in-Primitive.field-0) c.key-item.result _)
+    ∙ sym (removed-lone (primitive_of c.in_default-kind.field-0) c.key-item.result _)
     ∙ sym (λ i. proposed (node i) ((path i, null) ∷ []))
 
 -- ---- its children

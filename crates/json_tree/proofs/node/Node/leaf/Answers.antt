@@ -8,4 +8,4 @@ pub returns-in-Primitive : goal.returns-in-Primitive
 returns-in-Primitive c = rw (at_primitive c.self.view_is c.in-Primitive.is) (sym (get-lone-root (primitive_of c.in-Primitive.leaf)))
 
 pub returns-in-Parent : goal.returns-in-Parent
-returns-in-Parent c = rw (at_parent c.self.view_is c.in-Parent.is) (sym (get-graft-root c.in-Parent.field-0.items))
+returns-in-Parent c = rw (at_parent c.self.view_is c.in-Parent.is) (sym (get-graft-root _))
