@@ -1,5 +1,5 @@
 //! The children of a node, as they are read.
-ghost use Rattle.std.specs.Prelude.{◌≡◌, ◌≢◌, [], false, length, IfOk, OnSome};
+ghost use Rattle.std.specs.Prelude.{◌≡◌, ◌≢◌, [], false, length, IfOk, IfSome, OnSome};
 ghost use Rattle.std.specs.List.Sorted.{IsSearchInRange, IsBinarySearchResult};
 ghost use Rattle.serde_json.specs.Data.{object, put};
 ghost use Rattle.tree_model.specs.Key.{key_cmp};
@@ -11,6 +11,9 @@ use json_tree::{Child, Key, NoMemory, Node, is_lawful_key};
 use std::alloc::Global;
 use std::marker::Model;
 use tree_model::MAX_DEPTH;
+
+// For how many children a list has room when it is made: an object in a message mostly has no more.
+const USUAL_CHILDREN: usize = 3;
 
 /// Children in the byte order of their keys, of which each stands once, with room for a key above them.
 /// Contracts see keys and trees.
@@ -35,13 +38,13 @@ impl Model for Children {
 }
 
 impl Children {
-    /// No children. It takes no memory.
-    pub fn new(alloc: Global) -> Children
-        ensures { result ≡ [] }
+    /// No children, with room for as many as an object mostly has. None where memory is wanted.
+    pub fn new(alloc: Global) -> Option<Children>
+        ensures { IfSome result (λ children. children ≡ []) }
     {
-        Children {
-            held: Vec::new(alloc),
-        }
+        Some(Children {
+            held: Vec::with_capacity(alloc, USUAL_CHILDREN).ok()?,
+        })
     }
 
     /// Puts a child among the others, by a binary search. None where the name is no lawful key or is the key

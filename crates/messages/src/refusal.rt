@@ -13,9 +13,10 @@ use json_tree::NoMemory;
 use path_capture::{Path, Pattern};
 use rtdb_core::{BorrowedName, BorrowedNames, Named, Refusal, Reply, Why};
 
-// A denied read up to its rules, and a denied write from its place up to them.
+// A denied read, up to its rules.
 const READ_DENIED: &[u8] = b"{\"code\":501,\"name\":\"ReadDenied\",\"ok\":false,\"rules\":[";
 
+// A denied write, from behind its place up to its rules.
 const WRITE_DENIED: &[u8] = b",\"code\":502,\"name\":\"WriteDenied\",\"ok\":false,\"rules\":[";
 
 // For how many bytes the text of a pattern has room at first.

@@ -93,7 +93,7 @@ fn children_from<'a>(alloc: Global, reader: &mut TokenReader<'a>, depth: usize) 
     ensures value { IfSome result (λ children. Gives depth reader.old (members_named children) reader.new) }
     ensures shorter { IfSome result (λ children. length reader.new ≤ length reader.old) }
 {
-    let mut children = Children::new(alloc);
+    let mut children = Children::new(alloc)?;
     'children: while let Some(name) = reader.next_key()? {
         let token = reader.next()?;
         let node = node_from(alloc, reader, token, depth)?;

@@ -30,7 +30,7 @@ node_from-returns-in_ok-node_of-in-BeginObject-clause-value t c =
 
 pub children_from-children-init : goal.children_from-children-init
 children_from-children-init t c = record {
-  leads = subst (λ es. Leads c.args.depth c.args.reader.now c.args.reader.now (members_named es)) (sym c.new-children.ensures) (at_first c.args.depth c.args.reader.now);
+  leads = subst (λ es. Leads c.args.depth c.args.reader.now c.args.reader.now (members_named es)) (sym c.in_ok-children.ensures) (at_first c.args.depth c.args.reader.now);
   shorter = omega arith;
 }
 
