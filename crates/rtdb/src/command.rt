@@ -14,7 +14,7 @@ use bumpalo::Bump;
 use json_tree::NoMemory;
 use messages::{write_accepted, write_rules_fault};
 use rules_reader::compile;
-use sessions::{ScriptEnd, Sink, Source, run_script, send_text};
+use sessions::{ScriptEnd, Sink, Source, run_last_script, send_text};
 use std::alloc::Global;
 use std::io;
 
@@ -82,7 +82,7 @@ fn run<R: Source, W: Sink, E: io::Write>(
     ensures broken { W.failed output.new ≡ true → result ≡ failed }
 {
     let mut arena = Bump::new(alloc);
-    let end = run_script(alloc, input, output, &mut arena);
+    let end = run_last_script(alloc, input, output, &mut arena);
     if end == ScriptEnd::ReadFault || end == ScriptEnd::WriteFault {
         let _told = writeln!(faults, "rtdb: input or output failed");
     }

@@ -14,7 +14,7 @@ mod stream;
 mod streams;
 
 pub use outgoing::send_text;
-pub use script::{ScriptEnd, run_script};
+pub use script::{ScriptEnd, run_last_script, run_script};
 pub use script_laws::{
     every_line_has_an_answer, lines_are_answered_by_a_run, what_is_said_is_a_run_from_the_opening,
 };

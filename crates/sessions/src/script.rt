@@ -15,6 +15,7 @@ use bumpalo::Bump;
 use json_tree::NoMemory;
 use memchr::memchr;
 use std::alloc::Global;
+use std::mem::forget;
 
 /// How many bytes are read at a time, 64 KiB: most lines lie whole within a block, and are answered
 /// from it.
@@ -260,14 +261,60 @@ pub fn run_script<R: Source, W: Sink>(
         × Appends (W.written sink.old) (W.written sink.new) out
         × Ends result taken (record { left = R.left source.new; failed = R.failed source.new; reads = R.reads source.new }) (W.failed sink.new) out }
 {
+    let (end, _held) = run(alloc, source, sink, arena);
+    end
+}
+
+/// Runs a script as [`run_script`] does, and never gives back the memory of what it holds at its end: its tree,
+/// its rules and its sessions. For a process that ends with the script, since all its memory goes back then
+/// at once.
+pub fn run_last_script<R: Source, W: Sink>(
+    alloc: Global,
+    source: &mut R,
+    sink: &mut W,
+    arena: &mut Bump,
+) -> ScriptEnd
+    requires unread { R.reads source.old ≡ 0 }
+    requires source { R.failed source.old ≡ false }
+    requires sink { W.failed sink.old ≡ false }
+    ensures source { result ≢ ScriptEnd.ReadFault → result ≢ ScriptEnd.WriteFault → R.failed source.new ≡ false }
+    ensures sink { result ≢ ScriptEnd.WriteFault → (W.failed sink.new ≡ false) × (W.handed_on sink.old ≡ true → W.handed_on sink.new ≡ true) }
+    ensures flushed { result ≢ ScriptEnd.WriteFault → result ≢ ScriptEnd.NoMemory → W.handed_on sink.new ≡ true }
+    ensures ends { (taken out : List ℕ) × Consumes (R.left source.old) (R.left source.new) taken
+        × Appends (W.written sink.old) (W.written sink.new) out
+        × Ends result taken (record { left = R.left source.new; failed = R.failed source.new; reads = R.reads source.new }) (W.failed sink.new) out }
+{
+    let (end, held) = run(alloc, source, sink, arena);
+    forget(held);
+    end
+}
+
+// Runs a script, and hands out what it holds at its end.
+fn run<R: Source, W: Sink>(
+    alloc: Global,
+    source: &mut R,
+    sink: &mut W,
+    arena: &mut Bump,
+) -> (ScriptEnd, Option<Script>)
+    requires unread { R.reads source.old ≡ 0 }
+    requires source { R.failed source.old ≡ false }
+    requires sink { W.failed sink.old ≡ false }
+    ensures source { result.0 ≢ ScriptEnd.ReadFault → result.0 ≢ ScriptEnd.WriteFault → R.failed source.new ≡ false }
+    ensures sink { result.0 ≢ ScriptEnd.WriteFault → (W.failed sink.new ≡ false) × (W.handed_on sink.old ≡ true → W.handed_on sink.new ≡ true) }
+    ensures flushed { result.0 ≢ ScriptEnd.WriteFault → result.0 ≢ ScriptEnd.NoMemory → W.handed_on sink.new ≡ true }
+    ensures ends { (taken out : List ℕ) × Consumes (R.left source.old) (R.left source.new) taken
+        × Appends (W.written sink.old) (W.written sink.new) out
+        × Ends result.0 taken (record { left = R.left source.new; failed = R.failed source.new; reads = R.reads source.new }) (W.failed sink.new) out }
+{
     let Ok(mut block) = new_block(alloc) else {
-        return ScriptEnd::NoMemory;
+        return (ScriptEnd::NoMemory, None);
     };
     let Ok(mut script) = Script::new(alloc) else {
-        return ScriptEnd::NoMemory;
+        return (ScriptEnd::NoMemory, None);
     };
     let end = script.read_all(source, sink, arena, &mut block);
-    script.finish(sink, arena, end)
+    let end = script.finish(sink, arena, end);
+    (end, Some(script))
 }
 
 // Room for a read. Callers see that there is some, and not the zeros in it.
