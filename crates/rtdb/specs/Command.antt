@@ -6,7 +6,7 @@ use Rattle.rules_reader.specs.Book.{Book, rules}
 use Rattle.rules_reader.specs.File.{States}
 use Rattle.rules_reader.specs.Refusal.{Refuses}
 use Rattle.sessions.specs.declared.script.ScriptEnd.{ScriptEnd}
-use Rattle.messages.specs.AnswerText.{accepted_text, rules_fault_text}
+use Rattle.answers.specs.AnswerText.{accepted_text, rules_fault_text}
 use Rattle.sessions.specs.Ends.{SourceTells, Ends}
 use Rattle.sessions.specs.Said.{as_line}
 use Rattle.rtdb.specs.Order.{Wanted, checks, runs}

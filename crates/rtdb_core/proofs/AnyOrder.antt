@@ -12,12 +12,12 @@ use Rattle.judge.specs.Question.{Scene}
 use Rattle.judge.specs.Tests.{write_verdict}
 use Rattle.judge.proofs.Tops.{verdict_in_any_order}
 use Rattle.judge.proofs.Verdicts.{writes_decided, one_verdict}
-use Rattle.rtdb_core.specs.declared.event.Event.TheVariants.{Update}
-use Rattle.rtdb_core.specs.declared.reply.Refusal.TheVariants.{NoSession, EmptyUpdate, Overlap}
-use Rattle.rtdb_core.specs.declared.reply.Reply.TheVariants.{Done}
-use Rattle.rtdb_core.specs.State.{State, is_open, scene_at}
-use Rattle.rtdb_core.specs.Rejudged.{all_rejudged}
-use Rattle.rtdb_core.specs.Step.{refused, unless_refused, denial, or_full, tree_with, write_refusal, makes, updates, takes_no_memory}
+use Rattle.rtdb_model.specs.declared.event.Event.TheVariants.{Update}
+use Rattle.rtdb_model.specs.declared.reply.Refusal.TheVariants.{NoSession, EmptyUpdate, Overlap}
+use Rattle.rtdb_model.specs.declared.reply.Reply.TheVariants.{Done}
+use Rattle.rtdb_model.specs.State.{State, is_open, scene_at}
+use Rattle.rtdb_model.specs.Rejudged.{all_rejudged}
+use Rattle.rtdb_model.specs.Step.{refused, unless_refused, denial, or_full, tree_with, write_refusal, makes, updates, takes_no_memory}
 
 verdict_same : (scene : Scene) (t : Tree) (ls ms : List Path) → HasOneCapture scene.book → IsPermutation ls ms → write_verdict scene t ls ≡ write_verdict scene t ms
 verdict_same scene t ls ms one p =

@@ -2,8 +2,8 @@
 use Rattle.std.proofs.Common.{◌≡◌, ◌∙◌, ◌++◌, ◌∷◌, [], List, Option, None, Some, map, option_map, ap, append-nil, sym}
 use Rattle.std.proofs.lemmas.List.{map-append}
 use Rattle.std.specs.List.{cons_option}
-use Rattle.rtdb_core.specs.Tidings.{notice_of}
-use Rattle.rtdb_core.specs.declared.tidings.Tiding.{Tiding}
+use Rattle.rtdb_model.specs.Tidings.{notice_of}
+use Rattle.rtdb_model.specs.declared.tidings.Tiding.{Tiding}
 
 -- one tiding more is one notice more
 pub told_more : (before new : List Tiding) (t : Tiding) (o : Option Tiding) → new ≡ before ++ t ∷ [] → o ≡ Some t → map notice_of new ≡ map notice_of before ++ cons_option (option_map notice_of o) []

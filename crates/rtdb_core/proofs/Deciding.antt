@@ -8,14 +8,14 @@ use Rattle.listeners.specs.Query.{Query}
 use Rattle.listeners.specs.Table.{Listener, has_id, taken}
 use Rattle.std.specs.Prelude.{nat_le}
 use Rattle.rtdb_core.specs.declared.fates.Decision.{Decision}
-use Rattle.rtdb_core.specs.declared.news.Notice.{Notice}
-use Rattle.rtdb_core.specs.declared.reply.Refusal.{Refusal}
-use Rattle.rtdb_core.specs.declared.reply.Refusal.TheVariants.{NoSession, DuplicateId, TooManyListeners}
-use Rattle.rtdb_core.specs.declared.event.Event.TheVariants.{Listen}
-use Rattle.rtdb_core.specs.declared.reply.Reply.TheVariants.{Done, News, Value}
-use Rattle.rtdb_core.specs.State.{State, is_open, identity_of, listeners_of}
-use Rattle.rtdb_core.specs.Rejudged.{selected_at}
-use Rattle.rtdb_core.specs.Step.{Outcome, refused, unless_refused, with_session, own_again, signs, news_of, polls, listening, listens, takes_no_memory}
+use Rattle.rtdb_model.specs.declared.news.Notice.{Notice}
+use Rattle.rtdb_model.specs.declared.reply.Refusal.{Refusal}
+use Rattle.rtdb_model.specs.declared.reply.Refusal.TheVariants.{NoSession, DuplicateId, TooManyListeners}
+use Rattle.rtdb_model.specs.declared.event.Event.TheVariants.{Listen}
+use Rattle.rtdb_model.specs.declared.reply.Reply.TheVariants.{Done, News, Value}
+use Rattle.rtdb_model.specs.State.{State, is_open, identity_of, listeners_of}
+use Rattle.rtdb_model.specs.Rejudged.{selected_at}
+use Rattle.rtdb_model.specs.Step.{Outcome, refused, unless_refused, with_session, own_again, signs, news_of, polls, listening, listens, takes_no_memory}
 use Rattle.rtdb_core.specs.Working.Fates.{sparse, settled, fate_of, read_refusal_for, listen_refusal}
 use Rattle.rtdb_core.proofs.Refusing.{reads_as}
 use Rattle.rtdb_core.proofs.Fatings.{own_made}

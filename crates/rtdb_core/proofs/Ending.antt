@@ -4,11 +4,11 @@ use Rattle.std.proofs.lemmas.Bool.{false≢true, eqb-true}
 use Rattle.std.specs.FinMap as map_of
 use Rattle.std.specs.Cmp.{nat_cmp_total}
 use Rattle.listeners.specs.Table.{has_id, without_id}
-use Rattle.rtdb_core.specs.declared.reply.Refusal.TheVariants.{NoSession, NoListener}
-use Rattle.rtdb_core.specs.declared.reply.Reply.TheVariants.{Done, Refused}
-use Rattle.rtdb_core.specs.State.{State, Session, Sessions, is_open, identity_of, listeners_in, listeners_of}
-use Rattle.rtdb_core.specs.Step.{Outcome, refused, with_session, unlistens}
-use Rattle.rtdb_core.proofs.Slots.{is_same, who_in}
+use Rattle.rtdb_model.specs.declared.reply.Refusal.TheVariants.{NoSession, NoListener}
+use Rattle.rtdb_model.specs.declared.reply.Reply.TheVariants.{Done, Refused}
+use Rattle.rtdb_model.specs.State.{State, Session, Sessions, is_open, identity_of, listeners_in, listeners_of}
+use Rattle.rtdb_model.specs.Step.{Outcome, refused, with_session, unlistens}
+use Rattle.rtdb_model.proofs.Slots.{is_same, who_in}
 use Rattle.rtdb_core.proofs.Without.{all_stay}
 
 -- a session that is put as it is

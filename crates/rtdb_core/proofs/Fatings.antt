@@ -11,14 +11,14 @@ use Rattle.tree_model.specs.Tree.{Tree}
 use Rattle.rules_reader.specs.Book.{Book}
 use Rattle.listeners.specs.Query.{Query}
 use Rattle.listeners.specs.Table.{Listener}
-use Rattle.rtdb_core.specs.State.{State, Session, scene_for}
-use Rattle.rtdb_core.specs.Rejudged.{hears, moves, judged, judged_again, rejudged, all_rejudged}
+use Rattle.rtdb_model.specs.State.{State, Session, scene_for}
+use Rattle.rtdb_model.specs.Rejudged.{hears, moves, judged, judged_again, rejudged, all_rejudged}
 use Rattle.rtdb_core.specs.Working.Fates.{fate_by, fated_live, fated, fate_of, sparse, front, behind, next_place, settled, left_of, with_listeners, settled_all, fates_of, all_sessions, listens, with_settled}
-use Rattle.rtdb_core.specs.Step.{told, news_of}
-use Rattle.rtdb_core.specs.declared.news.Notice.{Notice}
+use Rattle.rtdb_model.specs.Step.{told, news_of}
+use Rattle.rtdb_model.specs.declared.news.Notice.{Notice}
 use Rattle.rtdb_core.specs.declared.fates.Fate.{Fate}
 use Rattle.rtdb_core.specs.declared.fates.Decision.{Decision}
-use Rattle.rtdb_core.proofs.Slots.{changed}
+use Rattle.rtdb_model.proofs.Slots.{changed}
 
 -- ---- one listener
 

@@ -3,7 +3,7 @@ use Rattle.std.proofs.Common.{◌≡◌, ◌<◌, ℕ, List, length, get_or, Som
 use Rattle.tree_model.specs.Path.{Path}
 use Rattle.tree_model.specs.Tree.{Tree}
 use Rattle.listeners.specs.Query.{Query}
-use Rattle.rtdb_core.specs.Rejudged.{moves}
+use Rattle.rtdb_model.specs.Rejudged.{moves}
 use Rattle.rtdb_core.specs.Working.Moved.{IsFound, AreFound}
 use Rattle.rtdb_core.specs.declared.moved.Found.{Found}
 

@@ -22,19 +22,19 @@ use Rattle.judge.proofs.Verdicts.{grants_decided, reads_decided}
 use Rattle.listeners.specs.declared.limits.TheConstants.{MAX_LISTENERS}
 use Rattle.listeners.specs.Query.{Query}
 use Rattle.listeners.specs.Table.{Listener, begun, has_id, without_id, unmarked, taken}
-use Rattle.rtdb_core.specs.declared.limits.TheConstants.{MAX_SESSIONS}
-use Rattle.rtdb_core.specs.declared.event.Event.{Event}
-use Rattle.rtdb_core.specs.declared.event.Event.TheVariants.{Open, Close, SignIn, SignOut, Get, Set, Remove, Update, Listen, Unlisten, Poll, Tick, Deploy}
-use Rattle.rtdb_core.specs.declared.reply.Refusal.{Refusal}
-use Rattle.rtdb_core.specs.declared.reply.Refusal.TheVariants.{SessionOpen, TooManySessions, NoSession, NotAdmin, EmptyUpdate, Overlap, DuplicateId, TooManyListeners, NoListener}
-use Rattle.rtdb_core.specs.declared.reply.Reply.{Reply}
-use Rattle.rtdb_core.specs.State.{State, opening, is_open, identity_of, listeners_in, listeners_of, is_admin, scene_at}
-use Rattle.rtdb_core.specs.Rejudged.{asked_for, hears, moves, judged, judged_again, all_rejudged}
-use Rattle.rtdb_core.specs.Step.{Outcome, refused, unless_refused, denial, read_refusal, write_refusal, closed, with_session, own_again, signs, tree_with, makes, polls, sets, removal, listens, outcome, Step}
+use Rattle.rtdb_model.specs.declared.limits.TheConstants.{MAX_SESSIONS}
+use Rattle.rtdb_model.specs.declared.event.Event.{Event}
+use Rattle.rtdb_model.specs.declared.event.Event.TheVariants.{Open, Close, SignIn, SignOut, Get, Set, Remove, Update, Listen, Unlisten, Poll, Tick, Deploy}
+use Rattle.rtdb_model.specs.declared.reply.Refusal.{Refusal}
+use Rattle.rtdb_model.specs.declared.reply.Refusal.TheVariants.{SessionOpen, TooManySessions, NoSession, NotAdmin, EmptyUpdate, Overlap, DuplicateId, TooManyListeners, NoListener}
+use Rattle.rtdb_model.specs.declared.reply.Reply.{Reply}
+use Rattle.rtdb_model.specs.State.{State, opening, is_open, identity_of, listeners_in, listeners_of, is_admin, scene_at}
+use Rattle.rtdb_model.specs.Rejudged.{asked_for, hears, moves, judged, judged_again, all_rejudged}
+use Rattle.rtdb_model.specs.Step.{Outcome, refused, unless_refused, denial, read_refusal, write_refusal, closed, with_session, own_again, signs, tree_with, makes, polls, sets, removal, listens, outcome, Step}
 use Rattle.rtdb_core.specs.Working.Fates.{scene_by}
 use Rattle.rtdb_core.specs.Working.Heard.{IsHeard, AreHeard, AllHeard}
-use Rattle.rtdb_core.proofs.Slots.{listeners-with, identity-with, listeners-without, identity-without, listeners-again, identity-again}
-use Rattle.rtdb_core.proofs.Histories.{judged_is}
+use Rattle.rtdb_model.proofs.Slots.{listeners-with, identity-with, listeners-without, identity-without, listeners-again, identity-again}
+use Rattle.rtdb_model.proofs.Histories.{judged_is}
 
 -- ---- one listener
 

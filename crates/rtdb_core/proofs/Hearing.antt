@@ -9,7 +9,7 @@ use Rattle.judge.specs.Judging.{MayRead}
 use Rattle.judge.specs.Tests.{is_granted}
 use Rattle.judge.proofs.Verdicts.{grants_decided}
 use Rattle.listeners.specs.Query.{Query}
-use Rattle.rtdb_core.specs.Rejudged.{asked_for, hears}
+use Rattle.rtdb_model.specs.Rejudged.{asked_for, hears}
 
 -- two tests of one thing agree
 agree : (P : Type 0) (a b : Bool) → (a ≡ true) ↔ P → (b ≡ true) ↔ P → a ≡ b

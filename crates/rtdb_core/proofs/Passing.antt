@@ -11,8 +11,8 @@ use Rattle.path_capture.specs.Write.{tree_or_null}
 use Rattle.arena_snapshot.specs.View.{node_or_null}
 use Rattle.listeners.specs.Query.{Query}
 use Rattle.listeners.specs.Selection.{selection}
-use Rattle.rtdb_core.specs.Rejudged.{selected_at, same_tree, moves}
-use Rattle.rtdb_core.proofs.Sameness.{same_decides}
+use Rattle.rtdb_model.specs.Rejudged.{selected_at, same_tree, moves}
+use Rattle.rtdb_model.proofs.Sameness.{same_decides}
 
 pub nothing_below : (p : Path) → non_null (sub null p) ≡ None
 nothing_below p = ap non_null (sub-null p) ∙ non_null-null

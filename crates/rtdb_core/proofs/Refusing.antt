@@ -19,13 +19,13 @@ use Rattle.judge.specs.declared.verdict.Verdict.TheVariants as verdicts
 use Rattle.judge.proofs.Coming.{is_proposed}
 use Rattle.judge.proofs.Verdicts.{reads_decided, one_verdict}
 use Rattle.listeners.specs.Query.{Query}
-use Rattle.rtdb_core.specs.declared.event.Event.TheVariants.{Set}
-use Rattle.rtdb_core.specs.declared.reply.Refusal.{Refusal}
-use Rattle.rtdb_core.specs.declared.reply.Refusal.TheVariants.{NoSession, NoMemory, ReadDenied, WriteDenied}
-use Rattle.rtdb_core.specs.declared.reply.Reply.TheVariants.{Done, Refused}
-use Rattle.rtdb_core.specs.State.{State, is_open, identity_of, scene_for}
-use Rattle.rtdb_core.specs.Rejudged.{asked_for}
-use Rattle.rtdb_core.specs.Step.{refused, unless_refused, denial, full, or_full, tree_with, written_to, read_refusal, write_refusal, value_at, gets, sets, makes, Step}
+use Rattle.rtdb_model.specs.declared.event.Event.TheVariants.{Set}
+use Rattle.rtdb_model.specs.declared.reply.Refusal.{Refusal}
+use Rattle.rtdb_model.specs.declared.reply.Refusal.TheVariants.{NoSession, NoMemory, ReadDenied, WriteDenied}
+use Rattle.rtdb_model.specs.declared.reply.Reply.TheVariants.{Done, Refused}
+use Rattle.rtdb_model.specs.State.{State, is_open, identity_of, scene_for}
+use Rattle.rtdb_model.specs.Rejudged.{asked_for}
+use Rattle.rtdb_model.specs.Step.{refused, unless_refused, denial, full, or_full, tree_with, written_to, read_refusal, write_refusal, value_at, gets, sets, makes, Step}
 use Rattle.rtdb_core.specs.Working.Fates.{read_refusal_for, verdict_for, write_refusal_for}
 
 -- ---- reads

@@ -13,11 +13,11 @@ use Rattle.tree_model.specs.Primitive.{Primitive}
 use Rattle.tree_model.specs.Tree.{Tree, null, count, existing}
 use Rattle.tree_model.specs.Write.{Write}
 use Rattle.evaluator.specs.Identity.{Identity}
-use Rattle.rtdb_core.specs.declared.limits.TheConstants.{MAX_LOCATIONS}
-use Rattle.rtdb_core.specs.declared.reply.Refusal.{Refusal}
-use Rattle.rtdb_core.specs.declared.reply.Refusal.TheVariants.{TreeFull}
-use Rattle.rtdb_core.specs.State.{State}
-use Rattle.rtdb_core.specs.Step.{denial, or_full, tree_with}
+use Rattle.rtdb_model.specs.declared.limits.TheConstants.{MAX_LOCATIONS}
+use Rattle.rtdb_model.specs.declared.reply.Refusal.{Refusal}
+use Rattle.rtdb_model.specs.declared.reply.Refusal.TheVariants.{TreeFull}
+use Rattle.rtdb_model.specs.State.{State}
+use Rattle.rtdb_model.specs.Step.{denial, or_full, tree_with}
 use Rattle.rtdb_core.specs.Working.Fates.{verdict_for, write_refusal_for}
 
 nil : {A : Type 0} (xs : List A) → length xs ≡ 0 → xs ≡ []

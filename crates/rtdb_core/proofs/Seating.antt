@@ -6,7 +6,7 @@ use Rattle.std.specs.Ordering.{nat_cmp}
 use Rattle.std.specs.Cmp.{nat_cmp_total}
 use Rattle.std.proofs.lemmas.Bool.{eqb-true}
 use Rattle.listeners.specs.Table.{Listener}
-use Rattle.rtdb_core.specs.State.{Session, Sessions, State}
+use Rattle.rtdb_model.specs.State.{Session, Sessions, State}
 use Rattle.rtdb_core.specs.Working.Fates.{next_place, settled, left_of, with_listeners, settled_all, with_settled}
 use Rattle.rtdb_core.specs.declared.fates.Decision.{Decision}
 

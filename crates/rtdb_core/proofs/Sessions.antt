@@ -18,8 +18,8 @@ use Rattle.evaluator.specs.Identity.{Identity}
 use Rattle.tree_model.specs.Tree.{Tree}
 use Rattle.rules_reader.specs.Book.{Book}
 use Rattle.listeners.specs.Table.{Listener}
-use Rattle.rtdb_core.specs.State.{Session, Sessions, State, is_open, identity_of, listeners_in, listeners_of}
-use Rattle.rtdb_core.specs.Step.{closed, with_session}
+use Rattle.rtdb_model.specs.State.{Session, Sessions, State, is_open, identity_of, listeners_in, listeners_of}
+use Rattle.rtdb_model.specs.Step.{closed, with_session}
 
 -- the sessions of these entries
 abbrev pub sessions_of : List (ℕ × Session) → Sessions

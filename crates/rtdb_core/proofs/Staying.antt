@@ -20,8 +20,8 @@ use Rattle.judge.proofs.Looking.{left_below}
 use Rattle.judge.proofs.Depending.{may_read_same}
 use Rattle.listeners.specs.Query.{Query}
 use Rattle.listeners.specs.Table.{Listener}
-use Rattle.rtdb_core.specs.State.{Session, listeners_in}
-use Rattle.rtdb_core.specs.Rejudged.{asked_for, hears}
+use Rattle.rtdb_model.specs.State.{Session, listeners_in}
+use Rattle.rtdb_model.specs.Rejudged.{asked_for, hears}
 use Rattle.rtdb_core.specs.Working.Fates.{scene_by, fate_by, fate_of}
 use Rattle.rtdb_core.specs.Working.Heard.{IsHeard, AreHeard, AllHeardIn, IsAsBefore}
 use Rattle.rtdb_core.proofs.Passing.{stays}

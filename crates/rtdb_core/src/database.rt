@@ -4,22 +4,19 @@ ghost use Rattle.std.specs.FinMap as map_of;
 ghost use Rattle.tree_model.specs.Tree.{non_null, count};
 ghost use Rattle.path_capture.specs.Write.{tree_or_null};
 ghost use Rattle.rules_reader.specs.Place.{HasOneCapture};
-ghost use Rattle.rtdb_core.specs.State.{opening, is_open};
-ghost use Rattle.rtdb_core.specs.Rejudged.{selected_at};
-ghost use Rattle.rtdb_core.specs.Borrowed.{refusal_of_read, refusal_of_write};
-ghost use Rattle.rtdb_core.specs.Step.{polls, outcome, Step};
+ghost use Rattle.rtdb_model.specs.State.{opening, is_open};
+ghost use Rattle.rtdb_model.specs.Rejudged.{selected_at};
+ghost use Rattle.rtdb_model.specs.Borrowed.{refusal_of_read, refusal_of_write};
+ghost use Rattle.rtdb_model.specs.Step.{polls, outcome, Step};
 
-use crate::event::Event;
-use crate::limits::MAX_LOCATIONS;
 use crate::machine::Machine;
-use crate::reply::{ReadRefusal, Refusal, Reply, WriteRefusal};
-use crate::tidings::Tidings;
 use arena_snapshot::View;
 use bumpalo::Bump;
 use evaluator::MAX_MOMENT;
 use json_tree::{NoMemory, Node};
 use listeners::Query;
 use path_capture::{Path, Write};
+use rtdb_model::{Event, MAX_LOCATIONS, ReadRefusal, Refusal, Reply, Tidings, WriteRefusal};
 use rules_reader::Rules;
 use std::alloc::Global;
 use std::marker::Model;
@@ -39,7 +36,7 @@ pub struct TooLarge {
 }
 
 impl Model for Core {
-    ghost use Rattle.rtdb_core.specs.State.{State, state_code};
+    ghost use Rattle.rtdb_model.specs.State.{State, state_code};
     ghost use Rattle.rtdb_core.specs.Working.Heard.{AllHeard};
 
     ghost Value = { State };

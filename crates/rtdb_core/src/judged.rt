@@ -1,7 +1,7 @@
 //! What writes come to before they are made.
 
 use crate::fates::Decisions;
-use crate::reply::Refusal;
+use rtdb_model::Refusal;
 
 /// What writes come to: they are refused, or they can be made, and this becomes of all listeners.
 #[derive(Drop)]

@@ -13,29 +13,24 @@ ghost use Rattle.judge.specs.Tests.{write_verdict};
 ghost use Rattle.judge.specs.Question.{scene_of};
 ghost use Rattle.evaluator.specs.Identity.{Identity};
 ghost use Rattle.listeners.specs.Table.{has_id, without_id, taken};
-ghost use Rattle.rtdb_core.specs.State.{opening, is_open, identity_of, listeners_of, is_admin, scene_for};
-ghost use Rattle.rtdb_core.specs.Rejudged.{selected_at};
-ghost use Rattle.rtdb_core.specs.Step.{opened, closed, closes, with_session, signs, tree_with, listening, unlistens, polls, news_of, ticks, deployed, deploys, written_to, denial, or_full, outcome, takes_no_memory, Step};
+ghost use Rattle.rtdb_model.specs.State.{opening, is_open, identity_of, listeners_of, is_admin, scene_for};
+ghost use Rattle.rtdb_model.specs.Rejudged.{selected_at};
+ghost use Rattle.rtdb_model.specs.Step.{opened, closed, closes, with_session, signs, tree_with, listening, unlistens, polls, news_of, ticks, deployed, deploys, written_to, denial, or_full, outcome, takes_no_memory, Step};
 ghost use Rattle.rtdb_core.specs.Working.Fates.{sparse, settled, fate_of, fates_of, all_sessions, listens, with_settled, with_tree, with_rules, read_refusal_for, write_refusal_for, IsJudgedWrite};
-ghost use Rattle.rtdb_core.specs.Borrowed.{refusal_of_read, refusal_of_write};
-ghost use Rattle.rtdb_core.specs.declared.reply.Refusal.TheVariants.{ReadDenied};
+ghost use Rattle.rtdb_model.specs.Borrowed.{refusal_of_read, refusal_of_write};
+ghost use Rattle.rtdb_model.specs.declared.reply.Refusal.TheVariants.{ReadDenied};
 ghost use Rattle.rtdb_core.specs.Working.Heard.{AreHeard, AllHeardIn, AllHeard};
 ghost use Rattle.rtdb_core.specs.Working.Passages.{IsPassage, tree_before, tree_after, who_of};
 
 use crate::database::TooLarge;
-use crate::event::{Event, Writes};
 use crate::fates::{Decision, Decisions, Docket};
 use crate::judged::Judged;
-use crate::limits::{MAX_LOCATIONS, MAX_SESSIONS};
-use crate::news::News;
 use crate::passage::{Passage, shared};
 use crate::refusals::{denial, full, listen_refusal, reset};
 use crate::rejudging::{decide_all, decide_own, settle_all, somebody_listens};
-use crate::reply::{ReadRefusal, Refusal, Reply, WriteRefusal};
 use crate::selected::{asked_for, selected_in, view_in};
 use crate::session::Session;
 use crate::telling::tidings_of;
-use crate::tidings::Tidings;
 use crate::trees::{count_in, count_of, node_at, removal, sort};
 use arena_snapshot::{View, overlaps, overlay};
 use bumpalo::Bump;
@@ -46,6 +41,10 @@ use judge::{
 };
 use listeners::{ListenerId, Query};
 use path_capture::{Path, Write, make_all};
+use rtdb_model::{
+    Event, MAX_LOCATIONS, MAX_SESSIONS, News, ReadRefusal, Refusal, Reply, Tidings, WriteRefusal,
+    Writes,
+};
 use rules_reader::Rules;
 use std::alloc::Global;
 use std::collections::BTreeMap;
@@ -67,9 +66,9 @@ impl Model for Machine {
     ghost use Rattle.std.specs.Prelude.{◌≤◌};
     ghost use Rattle.std.specs.FinMap as map_of;
     ghost use Rattle.path_capture.specs.Write.{tree_or_null};
-    ghost use Rattle.rtdb_core.specs.State.{State, state_code};
+    ghost use Rattle.rtdb_model.specs.State.{State, state_code};
     ghost use Rattle.tree_model.specs.Tree.{count};
-    ghost use Rattle.rtdb_core.specs.declared.limits.TheConstants.{MAX_LOCATIONS};
+    ghost use Rattle.rtdb_model.specs.declared.limits.TheConstants.{MAX_LOCATIONS};
 
     ghost Value = { State };
 
@@ -99,7 +98,7 @@ impl Machine {
     }
 
     /// Answers an event as [`Core::step`](crate::Core::step) does.
-    #[tactic(auto, unfolding(crate::specs::Step::Step))]
+    #[tactic(auto, unfolding(rtdb_model::specs::Step::Step))]
     pub(crate) fn step(&mut self, arena: &mut Bump, now: u64, session: u64, event: Event) -> Reply
         requires moment { now ≤ MAX_MOMENT }
         requires heard { AllHeard self.old }
@@ -112,7 +111,7 @@ impl Machine {
     }
 
     /// Answers a read as [`Core::read`](crate::Core::read) does.
-    #[tactic(auto, unfolding(crate::specs::Step::Step, listeners::specs::Selection::selection))]
+    #[tactic(auto, unfolding(rtdb_model::specs::Step::Step, listeners::specs::Selection::selection))]
     pub(crate) fn read<'a>(
         &'a self,
         arena: &'a mut Bump,
@@ -129,7 +128,7 @@ impl Machine {
     }
 
     /// Judges a read as [`Core::grant`](crate::Core::grant) does.
-    #[tactic(auto, unfolding(crate::specs::Step::Step))]
+    #[tactic(auto, unfolding(rtdb_model::specs::Step::Step))]
     pub(crate) fn grant<'a>(
         &'a self,
         arena: &'a mut Bump,
@@ -154,7 +153,7 @@ impl Machine {
     }
 
     /// Judges a write as [`Core::allow`](crate::Core::allow) does.
-    #[tactic(auto, unfolding(crate::specs::Step::Step))]
+    #[tactic(auto, unfolding(rtdb_model::specs::Step::Step))]
     pub(crate) fn allow<'a>(
         &'a self,
         arena: &'a mut Bump,
@@ -177,7 +176,7 @@ impl Machine {
     }
 
     /// Makes a write as [`Core::make`](crate::Core::make) does.
-    #[tactic(auto, unfolding(crate::specs::Step::Step))]
+    #[tactic(auto, unfolding(rtdb_model::specs::Step::Step))]
     pub(crate) fn make_allowed(
         &mut self,
         arena: &mut Bump,
@@ -212,7 +211,7 @@ impl Machine {
     }
 
     /// Begins a poll as [`Core::begin_poll`](crate::Core::begin_poll) does.
-    #[tactic(auto, unfolding(crate::specs::Step::Step))]
+    #[tactic(auto, unfolding(rtdb_model::specs::Step::Step))]
     pub(crate) fn begin_poll(&self, arena: &mut Bump, session: u64) -> Result<(), Refusal>
         ensures open { OnOk result (is_open self.now session ≡ true) }
         ensures refused { IfErr result (λ refusal. (now : ℕ) → Step self.now now session Event.Poll (Reply.Refused refusal) self.now) }
@@ -223,7 +222,7 @@ impl Machine {
     }
 
     /// What a poll tells, as [`Core::news`](crate::Core::news) lends it.
-    #[tactic(auto, unfolding(crate::specs::Step::Step))]
+    #[tactic(auto, unfolding(rtdb_model::specs::Step::Step))]
     pub(crate) fn news<'a>(
         &'a self,
         arena: &'a Bump,

@@ -5,7 +5,7 @@ ghost use Rattle.tree_model.specs.PathMap.{sub};
 ghost use Rattle.tree_model.specs.Tree.{non_null};
 ghost use Rattle.path_capture.specs.Write.{tree_or_null};
 ghost use Rattle.listeners.specs.Selection.{selection};
-ghost use Rattle.rtdb_core.specs.Rejudged.{moves, same_tree};
+ghost use Rattle.rtdb_model.specs.Rejudged.{moves, same_tree};
 ghost use Rattle.rtdb_core.specs.Working.Passages.{IsPassage, tree_before, tree_after};
 
 use crate::passage::Passage;

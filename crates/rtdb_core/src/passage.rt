@@ -4,7 +4,7 @@ ghost use Rattle.std.specs.Bool.{OnTrue};
 ghost use Rattle.arena_snapshot.specs.View.{node_or_null};
 ghost use Rattle.listeners.specs.Listener.{seen};
 ghost use Rattle.judge.specs.Question.{scene_of};
-ghost use Rattle.rtdb_core.specs.Rejudged.{hears};
+ghost use Rattle.rtdb_model.specs.Rejudged.{hears};
 ghost use Rattle.rtdb_core.specs.Working.Fates.{scene_by, fate_of};
 ghost use Rattle.rtdb_core.specs.Working.Heard.{IsHeard, IsAsBefore};
 ghost use Rattle.rtdb_core.specs.Working.Passages.{IsPassage, tree_before, tree_after, who_of};

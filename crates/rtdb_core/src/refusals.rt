@@ -1,16 +1,15 @@
 //! Why an event is refused: what its judging comes to.
 ghost use Rattle.std.specs.Prelude.{◌≡◌, min};
 ghost use Rattle.tree_model.specs.Tree.{Tree, count};
-ghost use Rattle.rtdb_core.specs.Step.{denial, full};
+ghost use Rattle.rtdb_model.specs.Step.{denial, full};
 ghost use Rattle.rtdb_core.specs.Working.Fates.{listen_refusal};
 
-use crate::limits::MAX_LOCATIONS;
-use crate::reply::Refusal;
 use crate::session::Session;
 use bumpalo::Bump;
 use json_tree::NoMemory;
 use judge::Verdict;
 use listeners::{ListenerId, MAX_LISTENERS};
+use rtdb_model::{MAX_LOCATIONS, Refusal};
 
 /// The denial of a verdict, if it is one.
 pub(crate) fn denial(verdict: Verdict) -> Option<Refusal>

@@ -3,14 +3,15 @@ ghost use Rattle.std.specs.Prelude.{◌≡◌, option_map, Some, IfOk};
 ghost use Rattle.tree_model.specs.Tree.{non_null};
 ghost use Rattle.arena_snapshot.specs.View.{node_or_null};
 ghost use Rattle.evaluator.specs.Asked.{asked_of};
-ghost use Rattle.rtdb_core.specs.Rejudged.{asked_for, selected_at};
+ghost use Rattle.rtdb_model.specs.Rejudged.{asked_for, selected_at};
 
 use crate::trees::node_in;
-use arena_snapshot::{View, copy_out};
+use arena_snapshot::View;
 use bumpalo::Bump;
 use evaluator::Asked;
 use json_tree::{Key, NoMemory, Node};
 use listeners::{Query, select};
+use rtdb_model::copied;
 use std::alloc::Global;
 
 // What a rule sees of a query, if there is one.
@@ -55,15 +56,5 @@ pub(crate) fn stored(node: Option<&Node>) -> Option<View<'_>>
     match node {
         Some(node) => Some(View::stored(node)),
         None => None,
-    }
-}
-
-/// The tree that a view shows, copied.
-pub(crate) fn copied(alloc: Global, view: &Option<View<'_>>) -> Result<Option<Node>, NoMemory>
-    ensures { IfOk result (λ tree. tree ≡ view.now) }
-{
-    match view {
-        Some(view) => Ok(Some(copy_out(alloc, view)?)),
-        None => Ok(None),
     }
 }

@@ -2,7 +2,7 @@
 ghost use Rattle.std.specs.Prelude.{◌≡◌, ◌++◌, ◌∷◌, [], Option, option_map, OnOk, OnErr};
 ghost use Rattle.evaluator.specs.Identity.{Identity};
 ghost use Rattle.listeners.specs.Table.{begun, has_id, without_id, taken};
-ghost use Rattle.rtdb_core.specs.State.{fresh, is_admin};
+ghost use Rattle.rtdb_model.specs.State.{fresh, is_admin};
 ghost use Rattle.rtdb_core.specs.Working.Fates.{settled, left_of, with_listeners};
 
 use crate::fates::{Docket, settle};
@@ -21,7 +21,7 @@ pub(crate) struct Session {
 }
 
 impl Model for Session {
-    ghost use Rattle.rtdb_core.specs.State.{Session, session_code};
+    ghost use Rattle.rtdb_model.specs.State.{Session, session_code};
 
     ghost Value = { Session };
 

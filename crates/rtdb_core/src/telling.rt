@@ -2,16 +2,16 @@
 ghost use Rattle.std.specs.Prelude.{◌≡◌, option_map, IfOk};
 ghost use Rattle.arena_snapshot.specs.View.{node_or_null};
 ghost use Rattle.listeners.specs.Listener.{seen};
-ghost use Rattle.rtdb_core.specs.Step.{told, news_of};
-ghost use Rattle.rtdb_core.specs.Tidings.{notice_of};
+ghost use Rattle.rtdb_model.specs.Step.{told, news_of};
+ghost use Rattle.rtdb_model.specs.Tidings.{notice_of};
 ghost use Rattle.rtdb_core.specs.Working.Fates.{settled};
 
 use crate::fates::{Decision, Docket, after};
 use crate::selected::view_in;
-use crate::tidings::{Sight, Tiding, Tidings};
 use bumpalo::Bump;
 use json_tree::{NoMemory, Node};
 use listeners::{Listener, Table};
+use rtdb_model::{Sight, Tiding, Tidings};
 
 /// What is told of these listeners, once what was decided of them is made: a list in the arena.
 pub(crate) fn tidings_of<'a>(

@@ -5,7 +5,7 @@ ghost use Rattle.tree_model.specs.PathMap.{sub};
 ghost use Rattle.tree_model.specs.Tree.{non_null, count};
 ghost use Rattle.path_capture.specs.Write.{tree_or_null};
 ghost use Rattle.arena_snapshot.specs.View.{node_or_null};
-ghost use Rattle.rtdb_core.specs.Step.{removal};
+ghost use Rattle.rtdb_model.specs.Step.{removal};
 
 use arena_snapshot::View;
 use json_tree::{Key, Node};

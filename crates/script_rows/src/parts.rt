@@ -1,8 +1,9 @@
 //! Calls that no script makes, and the order of a message's faults.
+use answers::write_reply;
 use bumpalo::Bump;
 use json_tree::{Leaf, Node};
-use messages::{Form, MessageFault, Stamp, Wanted, read_request, write_reply};
 use path_capture::Pattern;
+use requests::{Form, MessageFault, Stamp, Wanted, read_request};
 use rtdb_core::{Core, Event, Named, NamedRules, Refusal, Reply, Why};
 use rules_reader::compile;
 use std::alloc::AllocError;

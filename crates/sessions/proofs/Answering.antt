@@ -4,14 +4,14 @@ use Rattle.std.proofs.lemmas.List.{append-nil}
 use Rattle.std.proofs.lemmas.Result.{IfOk-weaker}
 use Rattle.rules_reader.specs.Book.{rules}
 use Rattle.tokens.specs.Tokens.{Tokens}
-use Rattle.messages.specs.declared.message.Form.TheVariants.{Script}
-use Rattle.messages.specs.declared.ask.Asked.{Asked}
-use Rattle.messages.specs.declared.ask.LineFault.{LineFault}
-use Rattle.messages.specs.declared.header.Opened.{Opened}
-use Rattle.rtdb_core.specs.State.{State}
-use Rattle.messages.specs.Ask.{IsAsked}
-use Rattle.messages.specs.AnswerText.{line_fault_text, accepted_text}
-use Rattle.messages.specs.Header.{Opens}
+use Rattle.requests.specs.declared.message.Form.TheVariants.{Script}
+use Rattle.requests.specs.declared.ask.Asked.{Asked}
+use Rattle.requests.specs.declared.ask.LineFault.{LineFault}
+use Rattle.sessions.specs.declared.header.Opened.{Opened}
+use Rattle.rtdb_model.specs.State.{State}
+use Rattle.requests.specs.Ask.{IsAsked}
+use Rattle.answers.specs.AnswerText.{line_fault_text, accepted_text}
+use Rattle.sessions.specs.Header.{Opens}
 use Rattle.sessions.specs.declared.respond.Answer.{Answer}
 use Rattle.sessions.specs.Said.{unopened, running, as_line, IsAnsweredBy}
 use Rattle.sessions.specs.Working.Follow.{bytes_of, AnswersAt}

@@ -4,11 +4,11 @@ use Rattle.std.specs.Prelude.{codes}
 use Rattle.std.specs.Fmt.{digits}
 use Rattle.serde_json.proofs.OnLiterals.{serde_json_on_literals}
 use Rattle.rules_reader.specs.declared.fault.RulesFault.TheVariants as rules_faults
-use Rattle.messages.specs.declared.message.MessageFault.TheVariants as message_faults
-use Rattle.rtdb_core.specs.declared.reply.Reply.TheVariants as replies
-use Rattle.rtdb_core.specs.declared.reply.Refusal.TheVariants as refusals
+use Rattle.json_lines.specs.declared.fault.MessageFault.TheVariants as message_faults
+use Rattle.rtdb_model.specs.declared.reply.Reply.TheVariants as replies
+use Rattle.rtdb_model.specs.declared.reply.Refusal.TheVariants as refusals
 use Rattle.sessions.specs.Said.{as_line}
-use Rattle.messages.specs.AnswerText.{text, fault_text, rules_fault_text}
+use Rattle.answers.specs.AnswerText.{text, fault_text, rules_fault_text}
 
 pub done_is : codes "{\"ok\":true}\n" ≡ as_line (text replies.Done)
 unfolding text serde_json_on_literals

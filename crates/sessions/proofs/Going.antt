@@ -1,13 +1,13 @@
 -- Whatever lines come, they have an answer: want of memory, if no other.
 use Rattle.std.proofs.Common.{ℕ, List, [], ◌∷◌, ◌++◌, Err, refl, sym, subst, inl, append_assoc}
 use Rattle.std.proofs.lemmas.List.{append-nil}
-use Rattle.messages.specs.declared.header.HeaderFault.TheVariants.{Line}
-use Rattle.messages.specs.declared.message.MessageFault.TheVariants.{NoMemory}
-use Rattle.rtdb_core.specs.State.{State}
+use Rattle.sessions.specs.declared.header.HeaderFault.TheVariants.{Line}
+use Rattle.json_lines.specs.declared.fault.MessageFault.TheVariants.{NoMemory}
+use Rattle.rtdb_model.specs.State.{State}
 use Rattle.tokens.specs.Tokens.{Tokens}
-use Rattle.messages.specs.declared.ask.LineFault.TheVariants.{Message}
+use Rattle.requests.specs.declared.ask.LineFault.TheVariants.{Message}
 use Rattle.sessions.specs.Said.{Phase, unopened, refused, running, IsWritten, as_line}
-use Rattle.messages.specs.AnswerText.{fault_text}
+use Rattle.answers.specs.AnswerText.{fault_text}
 use Rattle.sessions.specs.Working.Follow.{AnswersAt}
 use Rattle.sessions.proofs.Standing.{IsWritten-append, IsWritten-refused}
 

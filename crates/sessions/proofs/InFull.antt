@@ -24,30 +24,31 @@ use Rattle.rules_reader.proofs.Decided.{states_one, one_reason, never_both}
 use Rattle.rules_reader.proofs.Answered.{each_file}
 use Rattle.rules_reader.proofs.OneCapture.{stated_one}
 use Rattle.tokens.specs.Tokens.{Tokens, has_only, text_at, identity_named}
-use Rattle.rtdb_core.specs.declared.event.Event.{Event}
-use Rattle.rtdb_core.specs.declared.event.Event.TheVariants as events
-use Rattle.rtdb_core.specs.declared.event.Event.TheVariants.{Get, Set, Remove, Update, Listen, Unlisten}
-use Rattle.rtdb_core.specs.State.{State}
-use Rattle.rtdb_core.proofs.StepLaws.{some_answer, one_answer}
-use Rattle.messages.specs.declared.limits.TheConstants.{MAX_MESSAGE_BYTES}
-use Rattle.messages.specs.declared.message.Form.{Form}
-use Rattle.messages.specs.declared.message.Form.TheVariants.{Script}
-use Rattle.messages.specs.declared.message.MessageFault.{MessageFault}
-use Rattle.messages.specs.declared.message.MessageFault.TheVariants.{TooLarge, BadJson, BadRequest, BadQuery, BadPath, BadValue, TooDeep, NoMemory}
-use Rattle.messages.specs.declared.message.Request.{Request}
-use Rattle.messages.specs.declared.message.Wanted.{Wanted}
-use Rattle.messages.specs.declared.message.Wanted.TheVariants as wanted
-use Rattle.messages.specs.declared.message.Wanted.TheVariants.{SignIn, Deploy}
-use Rattle.messages.specs.declared.ask.Asked.{Asked}
-use Rattle.messages.specs.declared.ask.LineFault.{LineFault}
-use Rattle.messages.specs.declared.ask.LineFault.TheVariants as line_faults
-use Rattle.messages.specs.Ask.{ComesTo, IsAsked}
-use Rattle.messages.proofs.Texts.{one_rules_text}
-use Rattle.messages.specs.declared.message.Verb.{Verb}
-use Rattle.messages.specs.declared.message.Verb.TheVariants as verbs
-use Rattle.messages.specs.Message.{or_fault, unless_fault, value_of, form_members, verb_members, stamp_of, path_of, query_at, query_said, id_at, path_in, path_below, tree_of_value, write_at, write_below, writes_below, wanted_by, verb_in, request_of, asks}
+use Rattle.rtdb_model.specs.declared.event.Event.{Event}
+use Rattle.rtdb_model.specs.declared.event.Event.TheVariants as events
+use Rattle.rtdb_model.specs.declared.event.Event.TheVariants.{Get, Set, Remove, Update, Listen, Unlisten}
+use Rattle.rtdb_model.specs.State.{State}
+use Rattle.rtdb_model.proofs.Answers.{some_answer, one_answer}
+use Rattle.json_lines.specs.declared.limits.TheConstants.{MAX_MESSAGE_BYTES}
+use Rattle.requests.specs.declared.message.Form.{Form}
+use Rattle.requests.specs.declared.message.Form.TheVariants.{Script}
+use Rattle.json_lines.specs.declared.fault.MessageFault.{MessageFault}
+use Rattle.json_lines.specs.declared.fault.MessageFault.TheVariants.{TooLarge, BadJson, BadRequest, BadQuery, BadPath, BadValue, TooDeep, NoMemory}
+use Rattle.requests.specs.declared.message.Request.{Request}
+use Rattle.requests.specs.declared.message.Wanted.{Wanted}
+use Rattle.requests.specs.declared.message.Wanted.TheVariants as wanted
+use Rattle.requests.specs.declared.message.Wanted.TheVariants.{SignIn, Deploy}
+use Rattle.requests.specs.declared.ask.Asked.{Asked}
+use Rattle.requests.specs.declared.ask.LineFault.{LineFault}
+use Rattle.requests.specs.declared.ask.LineFault.TheVariants as line_faults
+use Rattle.requests.specs.Ask.{ComesTo, IsAsked}
+use Rattle.answers.proofs.Texts.{one_rules_text}
+use Rattle.requests.specs.declared.message.Verb.{Verb}
+use Rattle.requests.specs.declared.message.Verb.TheVariants as verbs
+use Rattle.json_lines.specs.Lines.{or_fault, unless_fault, value_of, path_of, path_below, tree_of_value, write_at, write_below, writes_below}
+use Rattle.requests.specs.Message.{form_members, verb_members, stamp_of, query_at, query_said, id_at, path_in, wanted_by, verb_in, request_of, asks}
 use Rattle.sessions.specs.Said.{IsAnsweredBy, IsAnsweredInFullBy, IsAnsweredInFull, IsAnswered}
-use Rattle.messages.specs.AnswerText as answer
+use Rattle.answers.specs.AnswerText as answer
 
 -- ---- no fault of a message is want of memory
 

@@ -6,7 +6,7 @@ use Rattle.std.proofs.lemmas.List.{take_all}
 use native.Mathlib.Numerals.{unary_clauses}
 use Rattle.sessions.specs.Lines.{is_blank}
 use Rattle.sessions.specs.Working.Parts.{FRONT_BYTES, front, KeepsFront, ShowsFront}
-use Rattle.messages.specs.declared.limits.TheConstants.{MAX_MESSAGE_BYTES}
+use Rattle.json_lines.specs.declared.limits.TheConstants.{MAX_MESSAGE_BYTES}
 
 -- ---- fronts
 

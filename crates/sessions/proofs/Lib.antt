@@ -1,3 +1,4 @@
+pub mod Headers
 pub mod Sending
 pub mod Keeping
 pub mod Fixed

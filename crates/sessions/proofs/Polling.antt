@@ -1,14 +1,14 @@
 -- A poll that is answered in parts.
 use Rattle.std.proofs.Common.{◌≡◌, ℕ, true, not, List, inl, inr, sym, ap, subst, refl}
 use Rattle.std.specs.Prelude.{Ok}
-use Rattle.messages.specs.AnswerText.{text}
-use Rattle.messages.specs.declared.message.Stamp.{Stamp}
-use Rattle.rtdb_core.specs.State.{State, is_open}
-use Rattle.rtdb_core.specs.Step.{polls, Step}
-use Rattle.rtdb_core.specs.declared.event.Event.TheVariants.{Poll}
-use Rattle.rtdb_core.specs.declared.news.Notice.{Notice}
-use Rattle.rtdb_core.specs.declared.reply.Reply.TheVariants.{News, Refused}
-use Rattle.rtdb_core.specs.declared.reply.Refusal.TheVariants as refusals
+use Rattle.answers.specs.AnswerText.{text}
+use Rattle.requests.specs.declared.message.Stamp.{Stamp}
+use Rattle.rtdb_model.specs.State.{State, is_open}
+use Rattle.rtdb_model.specs.Step.{polls, Step}
+use Rattle.rtdb_model.specs.declared.event.Event.TheVariants.{Poll}
+use Rattle.rtdb_model.specs.declared.news.Notice.{Notice}
+use Rattle.rtdb_model.specs.declared.reply.Reply.TheVariants.{News, Refused}
+use Rattle.rtdb_model.specs.declared.reply.Refusal.TheVariants as refusals
 use Rattle.sessions.specs.Said.{IsAnsweredBy}
 
 -- what is told and what it changes are a step

@@ -1,16 +1,16 @@
 -- Lines that are answered, as a run.
 use Rattle.std.proofs.Common.{◌≡◌, ℕ, List, [], ◌∷◌, Result, Ok, Err, refl, sym, ap, subst}
 use Rattle.tokens.specs.Tokens.{Tokens}
-use Rattle.messages.specs.declared.message.Form.TheVariants.{Script}
-use Rattle.messages.specs.declared.ask.Asked.{Asked}
-use Rattle.messages.specs.declared.ask.LineFault.{LineFault}
-use Rattle.messages.specs.declared.header.HeaderFault.{HeaderFault}
-use Rattle.messages.specs.declared.header.Opened.{Opened}
-use Rattle.messages.specs.Ask.{IsAsked}
-use Rattle.messages.proofs.Plain.{asked_file}
-use Rattle.messages.specs.Header.{Opens}
-use Rattle.rtdb_core.specs.State.{State}
-use Rattle.rtdb_core.specs.Step.{Run}
+use Rattle.requests.specs.declared.message.Form.TheVariants.{Script}
+use Rattle.requests.specs.declared.ask.Asked.{Asked}
+use Rattle.requests.specs.declared.ask.LineFault.{LineFault}
+use Rattle.sessions.specs.declared.header.HeaderFault.{HeaderFault}
+use Rattle.sessions.specs.declared.header.Opened.{Opened}
+use Rattle.requests.specs.Ask.{IsAsked}
+use Rattle.requests.proofs.Plain.{asked_file}
+use Rattle.sessions.specs.Header.{Opens}
+use Rattle.rtdb_model.specs.State.{State}
+use Rattle.rtdb_model.specs.Step.{Run}
 use Rattle.sessions.specs.Said.{Phase, running, unopened, refused, IsAnsweredBy, AreAnswered, AreAnsweredByRun, Continues, IsWritten, IsSaidByRun, calls_of}
 
 -- one line before the others

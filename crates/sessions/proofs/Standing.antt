@@ -7,27 +7,29 @@ use Rattle.std.specs.Io.KnownBytes.{Appends}
 use Rattle.rules_reader.specs.Book.{Book, rules}
 use Rattle.sessions.specs.declared.desk.Stop.{Stop}
 use Rattle.sessions.specs.declared.desk.Stop.TheVariants as stops
-use Rattle.messages.specs.declared.header.HeaderFault.{HeaderFault}
-use Rattle.messages.specs.declared.header.HeaderFault.TheVariants.{Line, Rules, Data, BadTokens, TreeFull}
-use Rattle.messages.specs.declared.header.Opened.{Opened}
-use Rattle.messages.specs.declared.ask.Asked.{Asked}
-use Rattle.messages.specs.declared.ask.LineFault.{LineFault}
-use Rattle.messages.specs.declared.ask.LineFault.TheVariants as line_faults
-use Rattle.messages.specs.Ask.{IsAsked}
+use Rattle.sessions.specs.declared.header.HeaderFault.{HeaderFault}
+use Rattle.sessions.specs.declared.header.HeaderFault.TheVariants.{Line, Rules, Data, BadTokens, TreeFull}
+use Rattle.sessions.specs.declared.header.Opened.{Opened}
+use Rattle.requests.specs.declared.ask.Asked.{Asked}
+use Rattle.requests.specs.declared.ask.LineFault.{LineFault}
+use Rattle.requests.specs.declared.ask.LineFault.TheVariants as line_faults
+use Rattle.requests.specs.Ask.{IsAsked}
 use Rattle.tokens.specs.Tokens.{Tokens}
-use Rattle.messages.specs.declared.message.Form.TheVariants.{Script}
-use Rattle.messages.specs.declared.message.MessageFault.TheVariants.{TooLarge}
-use Rattle.messages.specs.Message.{Header, value_of, asks, header_in}
-use Rattle.messages.specs.Header.{HasRules, Opens}
+use Rattle.requests.specs.declared.message.Form.TheVariants.{Script}
+use Rattle.json_lines.specs.declared.fault.MessageFault.TheVariants.{TooLarge}
+use Rattle.json_lines.specs.Lines.{value_of}
+use Rattle.requests.specs.Message.{asks}
+use Rattle.sessions.specs.Header.{Header, header_in}
+use Rattle.sessions.specs.Header.{HasRules, Opens}
 use Rattle.sessions.specs.Lines.{non_blank, is_blank}
 use Rattle.sessions.specs.Said.{Phase, unopened, refused, running, IsAnswered, AreAnswered, Continues, IsWritten, as_line}
 use Rattle.sessions.specs.Working.Sent.{tells, Passes}
-use Rattle.rtdb_core.specs.State.{State}
-use Rattle.messages.specs.AnswerText as answer
+use Rattle.rtdb_model.specs.State.{State}
+use Rattle.answers.specs.AnswerText as answer
 use Rattle.sessions.specs.Working.Parts.{FRONT_BYTES, front, ShowsFront}
 use Rattle.sessions.specs.Working.Follow.{AnswersAt, StopsAt, HasAnswered, StopsAfter}
 use Rattle.sessions.proofs.Sending.{Appends-refl}
-use Rattle.messages.specs.declared.limits.TheConstants.{MAX_MESSAGE_BYTES}
+use Rattle.json_lines.specs.declared.limits.TheConstants.{MAX_MESSAGE_BYTES}
 
 -- ---- of a line only its front matters
 

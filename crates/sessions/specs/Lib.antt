@@ -1,3 +1,4 @@
+pub mod Header
 pub mod Lines
 pub mod Said
 pub mod Ends

@@ -1,26 +1,26 @@
 -- What a script is answered.
 use Rattle.std.specs.Prelude.{◌≡◌, ◌≢◌, ℕ, List, [], ◌∷◌, ◌++◌, length, Result, Ok, Err, ⊤, flat_map}
 use Rattle.rules_reader.specs.Book.{rules}
-use Rattle.rtdb_core.specs.declared.reply.Refusal.TheVariants as refusals
-use Rattle.rtdb_core.specs.declared.reply.Reply.{Reply}
-use Rattle.rtdb_core.specs.declared.reply.Reply.TheVariants.{Refused}
-use Rattle.messages.specs.declared.message.Form.TheVariants.{Script}
+use Rattle.rtdb_model.specs.declared.reply.Refusal.TheVariants as refusals
+use Rattle.rtdb_model.specs.declared.reply.Reply.{Reply}
+use Rattle.rtdb_model.specs.declared.reply.Reply.TheVariants.{Refused}
+use Rattle.requests.specs.declared.message.Form.TheVariants.{Script}
 use Rattle.rules_reader.specs.declared.fault.RulesFault.TheVariants as rules_faults
 use Rattle.tokens.specs.Tokens.{Tokens}
-use Rattle.messages.specs.declared.ask.Asked.{Asked}
-use Rattle.messages.specs.declared.ask.LineFault.{LineFault}
-use Rattle.messages.specs.declared.ask.LineFault.TheVariants as line_faults
-use Rattle.messages.specs.declared.message.MessageFault.TheVariants.{NoMemory}
-use Rattle.messages.specs.declared.header.Opened.{Opened}
-use Rattle.messages.specs.declared.header.HeaderFault.{HeaderFault}
-use Rattle.messages.specs.declared.header.HeaderFault.TheVariants.{Line, Rules, Data, BadTokens, TreeFull}
+use Rattle.requests.specs.declared.ask.Asked.{Asked}
+use Rattle.requests.specs.declared.ask.LineFault.{LineFault}
+use Rattle.requests.specs.declared.ask.LineFault.TheVariants as line_faults
+use Rattle.json_lines.specs.declared.fault.MessageFault.TheVariants.{NoMemory}
+use Rattle.sessions.specs.declared.header.Opened.{Opened}
+use Rattle.sessions.specs.declared.header.HeaderFault.{HeaderFault}
+use Rattle.sessions.specs.declared.header.HeaderFault.TheVariants.{Line, Rules, Data, BadTokens, TreeFull}
 use Rattle.sessions.specs.Lines.{cut, non_blank}
-use Rattle.rtdb_core.specs.State.{State}
-use Rattle.rtdb_core.specs.Step.{Step, Call, Run}
-use Rattle.rtdb_core.specs.Headline.{DeployFiles}
-use Rattle.messages.specs.Ask.{IsAsked}
-use Rattle.messages.specs.AnswerText as answer
-use Rattle.messages.specs.Header.{Opens}
+use Rattle.rtdb_model.specs.State.{State}
+use Rattle.rtdb_model.specs.Step.{Step, Call, Run}
+use Rattle.rtdb_model.specs.Headline.{DeployFiles}
+use Rattle.requests.specs.Ask.{IsAsked}
+use Rattle.answers.specs.AnswerText as answer
+use Rattle.sessions.specs.Header.{Opens}
 
 -- a text as a line of the output
 abbrev pub as_line : List ℕ → List ℕ

@@ -2,3 +2,4 @@
 pub mod Parts
 pub mod Sent
 pub mod Follow
+pub mod Opening

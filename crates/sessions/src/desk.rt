@@ -10,9 +10,10 @@ ghost use Rattle.sessions.specs.Working.Follow.{phase_of, rest_of, AnswersAt, St
 use crate::outgoing::Outgoing;
 use crate::respond::{Answer, Stage, respond};
 use crate::stream::{Broken, Sink};
+use answers::AnswerWriter;
 use bumpalo::Bump;
 use json_tree::NoMemory;
-use messages::{AnswerWriter, MessageReader};
+use requests::MessageReader;
 use std::alloc::Global;
 
 /// Why a script stops before the end of its input.

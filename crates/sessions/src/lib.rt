@@ -5,6 +5,7 @@
 #![tactic(auto)]
 
 mod desk;
+mod header;
 mod line;
 mod outgoing;
 mod respond;
@@ -13,6 +14,7 @@ mod script_laws;
 mod stream;
 mod streams;
 
+pub use header::{HeaderFault, Opened, read_header};
 pub use outgoing::send_text;
 pub use script::{ScriptEnd, run_last_script, run_script};
 pub use script_laws::{

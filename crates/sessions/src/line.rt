@@ -3,8 +3,8 @@ ghost use Rattle.std.specs.Prelude.{◌≡◌, ℕ, ◌≤◌, ◌++◌, ◌↔�
 ghost use Rattle.sessions.specs.Lines.{is_blank};
 ghost use Rattle.sessions.specs.Working.Parts.{FRONT_BYTES, front, KeepsFront};
 
+use json_lines::MAX_MESSAGE_BYTES;
 use json_tree::NoMemory;
-use messages::MAX_MESSAGE_BYTES;
 use std::alloc::{AllocError, Global};
 
 /// Of a line that is not complete yet, what its answer rests on: its first 1,048,577 bytes, one more

@@ -1,23 +1,23 @@
 //! What a line is answered: a header by its acceptance or its refusal, a request by a reply.
 ghost use Rattle.std.specs.Prelude.{◌≡◌, ◌≢◌, ◌≤◌, ℕ, List, [], Ok, Some, None, option_map, IfOk, IsOk, OnErr};
-ghost use Rattle.messages.specs.AnswerText.{text, fault_text, rules_fault_text, line_fault_text};
+ghost use Rattle.answers.specs.AnswerText.{text, fault_text, rules_fault_text, line_fault_text};
 ghost use Rattle.sessions.specs.Said.{unopened, refused, running, as_line, IsAnsweredBy, header_fault_text};
 ghost use Rattle.sessions.specs.Working.Follow.{phase_of, bytes_of, rest_of, AnswersAt};
-ghost use Rattle.rtdb_core.specs.Borrowed.{refusal_of_read, refusal_of_write};
-ghost use Rattle.rtdb_core.specs.Step.{outcome};
-ghost use Rattle.rtdb_core.specs.declared.reply.Reply.TheVariants as replies;
-ghost use Rattle.rtdb_core.specs.declared.reply.Refusal.TheVariants as refusals;
+ghost use Rattle.rtdb_model.specs.Borrowed.{refusal_of_read, refusal_of_write};
+ghost use Rattle.rtdb_model.specs.Step.{outcome};
+ghost use Rattle.rtdb_model.specs.declared.reply.Reply.TheVariants as replies;
+ghost use Rattle.rtdb_model.specs.declared.reply.Refusal.TheVariants as refusals;
 ghost use Rattle.rules_reader.specs.declared.fault.RulesFault.TheVariants as rules_faults;
-ghost use Rattle.messages.specs.declared.message.MessageFault.TheVariants as message_faults;
+ghost use Rattle.json_lines.specs.declared.fault.MessageFault.TheVariants as message_faults;
 
+use crate::header::{HeaderFault, Opened, read_header};
+use answers::AnswerWriter;
 use bumpalo::Bump;
+use json_lines::MessageFault;
 use json_tree::NoMemory;
 use listeners::Query;
-use messages::{
-    AnswerWriter, Asked, Form, HeaderFault, LineFault, MessageFault, MessageReader, Opened, Stamp,
-    read_header,
-};
 use path_capture::{Path, Write};
+use requests::{Asked, Form, LineFault, MessageReader, Stamp};
 use rtdb_core::{Core, Event, MAX_MOMENT, ReadRefusal, Refusal, Reply, WriteRefusal};
 use rules_reader::RulesFault;
 use std::alloc::Global;

@@ -1,6 +1,6 @@
 //! Laws of what a script is answered.
 ghost use Rattle.std.specs.Prelude.{◌≡◌, ◌++◌, ℕ, List};
-ghost use Rattle.rtdb_core.specs.State.{State};
+ghost use Rattle.rtdb_model.specs.State.{State};
 ghost use Rattle.tokens.specs.Tokens.{Tokens};
 ghost use Rattle.sessions.specs.Said.{Phase, running, IsAnswered, IsAnsweredInFull, AreAnswered, AreAnsweredByRun, IsWritten, IsSaidByRun};
 

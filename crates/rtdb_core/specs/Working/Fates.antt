@@ -12,13 +12,13 @@ use Rattle.judge.specs.Tests.{read_verdict, write_verdict}
 use Rattle.listeners.specs.Query.{Query}
 use Rattle.listeners.specs.Table.{Listener, with_mark, cancelled, has_id}
 use Rattle.listeners.specs.declared.limits.TheConstants.{MAX_LISTENERS}
-use Rattle.rtdb_core.specs.State.{State, Session, Sessions, scene_for}
-use Rattle.rtdb_core.specs.Rejudged.{asked_for, hears, moves}
-use Rattle.rtdb_core.specs.Step.{denial, or_full, tree_with, written_to}
+use Rattle.rtdb_model.specs.State.{State, Session, Sessions, scene_for}
+use Rattle.rtdb_model.specs.Rejudged.{asked_for, hears, moves}
+use Rattle.rtdb_model.specs.Step.{denial, or_full, tree_with, written_to}
 use Rattle.rtdb_core.specs.declared.judged.Judged.{Judged}
 use Rattle.rtdb_core.specs.declared.judged.Judged.TheVariants.{Refused, Granted}
-use Rattle.rtdb_core.specs.declared.reply.Refusal.{Refusal}
-use Rattle.rtdb_core.specs.declared.reply.Refusal.TheVariants.{DuplicateId, TooManyListeners}
+use Rattle.rtdb_model.specs.declared.reply.Refusal.{Refusal}
+use Rattle.rtdb_model.specs.declared.reply.Refusal.TheVariants.{DuplicateId, TooManyListeners}
 use Rattle.rtdb_core.specs.declared.fates.Fate.{Fate}
 use Rattle.rtdb_core.specs.declared.fates.Fate.TheVariants.{Marked, Cancelled}
 use Rattle.rtdb_core.specs.declared.fates.Decision.{Decision}

@@ -8,8 +8,8 @@ use Rattle.evaluator.specs.Identity.{Identity}
 use Rattle.rules_reader.specs.Book.{Book}
 use Rattle.judge.specs.Watching.{IsWatched}
 use Rattle.listeners.specs.Table.{Listener}
-use Rattle.rtdb_core.specs.State.{State, Session, Sessions, listeners_in}
-use Rattle.rtdb_core.specs.Rejudged.{hears}
+use Rattle.rtdb_model.specs.State.{State, Session, Sessions, listeners_in}
+use Rattle.rtdb_model.specs.Rejudged.{hears}
 use Rattle.rtdb_core.specs.Working.Fates.{scene_by}
 
 -- one that is live was granted its read at some moment, by these rules, in this tree, for whoever is signed in

@@ -1,7 +1,7 @@
 -- What was found of queries. No public clause stands on these words.
 use Rattle.std.specs.Prelude.{◌≡◌, List, Some, All}
 use Rattle.tree_model.specs.Tree.{Tree}
-use Rattle.rtdb_core.specs.Rejudged.{moves}
+use Rattle.rtdb_model.specs.Rejudged.{moves}
 use Rattle.rtdb_core.specs.declared.moved.Found.{Found}
 
 -- it is so, where these trees stand before a step and after it

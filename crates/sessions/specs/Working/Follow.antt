@@ -3,10 +3,10 @@ use Rattle.std.specs.Prelude.{◌≡◌, ◌≢◌, ℕ, ◌≤◌, ◌^◌, ◌
 use Rattle.std.specs.Io.KnownBytes.{Appends, IsAtEnd}
 use Rattle.sessions.specs.declared.desk.Stop.{Stop}
 use Rattle.sessions.specs.declared.desk.Stop.TheVariants as stops
-use Rattle.messages.specs.declared.header.HeaderFault.{HeaderFault}
-use Rattle.messages.specs.declared.header.Opened.{Opened}
-use Rattle.messages.specs.declared.message.MessageFault.TheVariants as message_faults
-use Rattle.rtdb_core.specs.declared.reply.Reply.TheVariants as replies
+use Rattle.sessions.specs.declared.header.HeaderFault.{HeaderFault}
+use Rattle.sessions.specs.declared.header.Opened.{Opened}
+use Rattle.json_lines.specs.declared.fault.MessageFault.TheVariants as message_faults
+use Rattle.rtdb_model.specs.declared.reply.Reply.TheVariants as replies
 use Rattle.sessions.specs.declared.respond.Answer.{Answer}
 use Rattle.sessions.specs.declared.respond.Answer.TheVariants as answers
 use Rattle.sessions.specs.declared.respond.Stage.{Stage}
@@ -14,14 +14,14 @@ use Rattle.sessions.specs.declared.respond.Stage.TheVariants as stages
 use Rattle.sessions.specs.declared.script.Script.{Script}
 use Rattle.sessions.specs.declared.script.ScriptEnd.{ScriptEnd}
 use Rattle.sessions.specs.declared.script.ScriptEnd.TheVariants as ends
-use Rattle.messages.specs.Header.{Opens}
+use Rattle.sessions.specs.Header.{Opens}
 use Rattle.sessions.specs.Ends.{SourceTells}
 use Rattle.sessions.specs.Lines.{cut, non_blank}
 use Rattle.sessions.specs.Working.Parts.{IsPlain, KeepsFront}
 use Rattle.sessions.specs.Said.{Phase, unopened, refused, running, IsWritten, Continues, IsAnswered, as_line}
 use Rattle.sessions.specs.Working.Sent.{SinkTells, Passes, Breaks}
-use Rattle.rtdb_core.specs.State.{State}
-use Rattle.messages.specs.AnswerText as answer
+use Rattle.rtdb_model.specs.State.{State}
+use Rattle.answers.specs.AnswerText as answer
 
 -- ---- phases
 

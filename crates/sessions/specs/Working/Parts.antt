@@ -1,7 +1,7 @@
 -- A line that comes in parts, and what of it is held.
 use Rattle.std.specs.Prelude.{◌≡◌, ℕ, ◌+◌, ◌==◌, Bool, false, List, take}
 use Rattle.std.specs.List.{All}
-use Rattle.messages.specs.declared.limits.TheConstants.{MAX_MESSAGE_BYTES}
+use Rattle.json_lines.specs.declared.limits.TheConstants.{MAX_MESSAGE_BYTES}
 use Rattle.sessions.specs.Lines.{is_blank}
 
 -- how many bytes of a line its answer rests on: one more than a message may have, which tells that it is too large

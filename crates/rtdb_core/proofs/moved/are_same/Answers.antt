@@ -1,9 +1,9 @@
 use Rattle.std.proofs.Common.{◌∙◌, sym, refl}
 use Rattle.path_capture.specs.Write.{tree_or_null}
 use Rattle.tree_model.specs.Tree.{null}
-use Rattle.rtdb_core.specs.Rejudged.{same_tree}
+use Rattle.rtdb_model.specs.Rejudged.{same_tree}
 use Rattle.rtdb_core.proofs.Passing.{same_by, not_same}
-use Rattle.rtdb_core.proofs.Sameness.{same_decides}
+use Rattle.rtdb_model.proofs.Sameness.{same_decides}
 use Rattle.rtdb_core.proofs.moved.are_same.Goals as goal
 
 pub returns-in-Some-Some : goal.returns-in-Some-Some

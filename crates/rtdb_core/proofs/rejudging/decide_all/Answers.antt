@@ -2,7 +2,7 @@ use Rattle.std.proofs.Common.{◌≡◌, ◌∙◌, ◌++◌, List, ◌∷◌, m
 use Rattle.std.specs.List.{AllByRecursion}
 use Rattle.std.specs.Cmp.{nat_cmp_total}
 use Rattle.std.proofs.lemmas.Map.Views.{All-found}
-use Rattle.rtdb_core.specs.State.{Session}
+use Rattle.rtdb_model.specs.State.{Session}
 use Rattle.std.proofs.Common.{Option}
 use Rattle.evaluator.specs.Identity.{Identity}
 use Rattle.rtdb_core.specs.Working.Fates.{fates_of, sparse}

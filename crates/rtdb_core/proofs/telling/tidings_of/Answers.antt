@@ -1,8 +1,8 @@
 use Rattle.std.proofs.Common.{◌∙◌, ◌++◌, Option, arith, map, option_map, ap}
 use Rattle.arena_snapshot.specs.View.{node_or_null}
 use Rattle.listeners.specs.Listener.{seen}
-use Rattle.rtdb_core.specs.Step.{told, news_of}
-use Rattle.rtdb_core.specs.Tidings.{notice_of}
+use Rattle.rtdb_model.specs.Step.{told, news_of}
+use Rattle.rtdb_model.specs.Tidings.{notice_of}
 use Rattle.rtdb_core.specs.Working.Fates.{settled, fated}
 use Rattle.rtdb_core.specs.declared.fates.Fate.{Fate}
 use Rattle.rtdb_core.proofs.Borrowed.{told_more, told_as_before}

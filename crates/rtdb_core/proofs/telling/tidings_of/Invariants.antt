@@ -1,7 +1,7 @@
 use Rattle.std.proofs.Common.{◌≡◌, ◌++◌, drop, map}
 use Rattle.arena_snapshot.specs.View.{node_or_null}
-use Rattle.rtdb_core.specs.Step.{news_of}
-use Rattle.rtdb_core.specs.Tidings.{notice_of}
+use Rattle.rtdb_model.specs.Step.{news_of}
+use Rattle.rtdb_model.specs.Tidings.{notice_of}
 use Rattle.rtdb_core.specs.Working.Fates.{settled}
 use Rattle.rtdb_core.proofs.telling.tidings_of.Given as goal
 

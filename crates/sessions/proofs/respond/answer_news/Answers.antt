@@ -1,7 +1,7 @@
 use Rattle.std.proofs.Common.{◌∙◌, ◌++◌, ap, refl}
-use Rattle.rtdb_core.specs.declared.reply.Reply.TheVariants.{News, Refused}
-use Rattle.rtdb_core.specs.declared.reply.Refusal.TheVariants as refusals
-use Rattle.messages.specs.AnswerText.{text}
+use Rattle.rtdb_model.specs.declared.reply.Reply.TheVariants.{News, Refused}
+use Rattle.rtdb_model.specs.declared.reply.Refusal.TheVariants as refusals
+use Rattle.answers.specs.AnswerText.{text}
 use Rattle.sessions.specs.Said.{as_line}
 use Rattle.sessions.proofs.Fixed.{no_memory_of_reply}
 use Rattle.sessions.proofs.Polling.{told, want_answered}

@@ -1,7 +1,7 @@
 use Rattle.std.proofs.Common.{◌∙◌, ◌++◌, Bor, option_map, ap, refl}
 use Rattle.tree_model.specs.Tree.{Tree}
-use Rattle.rtdb_core.specs.declared.reply.Reply.TheVariants.{Value}
-use Rattle.messages.specs.AnswerText.{text}
+use Rattle.rtdb_model.specs.declared.reply.Reply.TheVariants.{Value}
+use Rattle.answers.specs.AnswerText.{text}
 use Rattle.sessions.specs.Said.{as_line}
 use Rattle.sessions.proofs.respond.answer_plain_read.Goals as goal
 

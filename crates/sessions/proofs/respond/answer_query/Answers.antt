@@ -1,9 +1,9 @@
 use Rattle.std.proofs.Common.{◌≡◌, ◌∙◌, ◌++◌, Option, Bor, Some, option_map, arith, ap, sym, subst, refl}
 use Rattle.tree_model.specs.Tree.{Tree}
-use Rattle.rtdb_core.specs.Step.{Step}
-use Rattle.rtdb_core.specs.declared.event.Event.TheVariants.{Get}
-use Rattle.rtdb_core.specs.declared.reply.Reply.TheVariants.{Value}
-use Rattle.messages.specs.AnswerText.{text}
+use Rattle.rtdb_model.specs.Step.{Step}
+use Rattle.rtdb_model.specs.declared.event.Event.TheVariants.{Get}
+use Rattle.rtdb_model.specs.declared.reply.Reply.TheVariants.{Value}
+use Rattle.answers.specs.AnswerText.{text}
 use Rattle.sessions.specs.Said.{as_line}
 use Rattle.sessions.proofs.respond.answer_query.Goals as goal
 

@@ -1,7 +1,7 @@
 use Rattle.std.proofs.Common.{◌∙◌, ◌++◌, ℕ, List, length, ap}
 use Rattle.rules_reader.specs.Book.{Book, rules}
 use Rattle.sessions.specs.Said.{as_line}
-use Rattle.messages.specs.AnswerText.{accepted_text}
+use Rattle.answers.specs.AnswerText.{accepted_text}
 use Rattle.sessions.proofs.Answering.{AnswersAt-accepted}
 use Rattle.sessions.proofs.respond.open.Goals as goal
 

@@ -1,7 +1,7 @@
 use Rattle.std.proofs.Common.{◌∙◌, ap}
 use Rattle.std.proofs.lemmas.Result.{on_ok_weaker, on_err_weaker}
-use Rattle.rtdb_core.specs.State.{State}
-use Rattle.rtdb_core.specs.Step.{sets}
+use Rattle.rtdb_model.specs.State.{State}
+use Rattle.rtdb_model.specs.Step.{sets}
 use Rattle.rtdb_core.proofs.Heard.{made_heard}
 use Rattle.rtdb_core.proofs.Refusing.{set_made, set_wanting}
 use Rattle.rtdb_core.proofs.database.Core.make.Goals as goal

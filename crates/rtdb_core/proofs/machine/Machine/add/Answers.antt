@@ -1,8 +1,8 @@
 use Rattle.std.proofs.Common.{◌∙◌, ap}
 use Rattle.std.specs.FinMap as map_of
 use Rattle.path_capture.specs.Write.{tree_or_null}
-use Rattle.rtdb_core.specs.State.{State, Sessions}
-use Rattle.rtdb_core.specs.Step.{opened}
+use Rattle.rtdb_model.specs.State.{State, Sessions}
+use Rattle.rtdb_model.specs.Step.{opened}
 use Rattle.rtdb_core.proofs.Sessions.{sessions_of, with_one}
 use Rattle.rtdb_core.proofs.machine.Machine.add.Goals as goal
 

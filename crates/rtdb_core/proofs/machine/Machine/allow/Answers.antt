@@ -1,6 +1,6 @@
 use Rattle.std.proofs.Common.{◌∙◌, [], ◌∷◌, option_map, inl, sym, ap, refl}
-use Rattle.rtdb_core.specs.Borrowed.{refusal_of_write}
-use Rattle.rtdb_core.specs.Step.{Step, Outcome, written_to}
+use Rattle.rtdb_model.specs.Borrowed.{refusal_of_write}
+use Rattle.rtdb_model.specs.Step.{Step, Outcome, written_to}
 use Rattle.rtdb_core.specs.Working.Passages.{who_of}
 use Rattle.rtdb_core.proofs.Refusing.{set_refused, set_granted}
 use Rattle.rtdb_core.proofs.machine.Machine.allow.Goals as goal

@@ -2,7 +2,7 @@ use Rattle.std.proofs.Common.{◌∙◌, ◌++◌, ◌∷◌, [], IsSome, is_som
 use Rattle.std.proofs.lemmas.Bool.{false≢true}
 use Rattle.path_capture.specs.Write.{tree_or_null}
 use Rattle.listeners.specs.Table.{begun}
-use Rattle.rtdb_core.specs.State.{State, is_open, identity_of, listeners_of}
+use Rattle.rtdb_model.specs.State.{State, is_open, identity_of, listeners_of}
 use Rattle.rtdb_core.proofs.Sessions.{has, identity_is, listeners_are, put_is, stays_is}
 use Rattle.rtdb_core.proofs.Sessions.{on_ok, on_err}
 use Rattle.rtdb_core.proofs.machine.Machine.begin.Goals as goal

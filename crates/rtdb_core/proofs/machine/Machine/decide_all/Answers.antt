@@ -1,6 +1,6 @@
 use Rattle.std.proofs.Common.{◌≡◌, ◌∙◌, ◌<◌, ◌^◌, List, ℕ, map, length, IfOk, sym, ap, subst}
 use Rattle.rtdb_core.specs.Working.Heard.{AllHeardIn}
-use Rattle.rtdb_core.specs.State.{State, Session}
+use Rattle.rtdb_model.specs.State.{State, Session}
 use Rattle.rtdb_core.specs.Working.Fates.{sparse, fates_of, all_sessions}
 use Rattle.rtdb_core.specs.Working.Passages.{tree_before, tree_after}
 use Rattle.rtdb_core.proofs.Sessions.{entries_are}

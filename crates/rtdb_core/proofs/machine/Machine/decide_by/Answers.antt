@@ -3,7 +3,7 @@ use Rattle.tree_model.specs.Tree.{Tree}
 use Rattle.rules_reader.specs.Book.{Book}
 use Rattle.rtdb_core.specs.Working.Heard.{AllHeardIn}
 use Rattle.arena_snapshot.specs.View.{node_or_null}
-use Rattle.rtdb_core.specs.State.{State}
+use Rattle.rtdb_model.specs.State.{State}
 use Rattle.rtdb_core.specs.Working.Fates.{sparse, fates_of, all_sessions, with_rules}
 use Rattle.rtdb_core.specs.Working.Passages.{tree_before, tree_after}
 use Rattle.rtdb_core.proofs.Fatings.{state_made}

@@ -2,7 +2,7 @@ use Rattle.std.proofs.Common.{◌≡◌, ◌∙◌, ◌<◌, ◌^◌, List, map,
 use Rattle.rtdb_core.specs.Working.Heard.{AreHeard}
 use Rattle.arena_snapshot.specs.View.{node_or_null}
 use Rattle.listeners.specs.Table.{Listener}
-use Rattle.rtdb_core.specs.State.{State}
+use Rattle.rtdb_model.specs.State.{State}
 use Rattle.rtdb_core.specs.Working.Fates.{sparse, fate_of}
 use Rattle.rtdb_core.specs.Working.Passages.{who_of}
 use Rattle.rtdb_core.proofs.Passing.{base_is}

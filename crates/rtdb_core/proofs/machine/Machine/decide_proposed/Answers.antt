@@ -2,8 +2,8 @@ use Rattle.std.proofs.Common.{◌≡◌, ◌∙◌, ◌<◌, ◌^◌, length, sy
 use Rattle.tree_model.specs.Tree.{Tree}
 use Rattle.tree_model.specs.Write.{proposed}
 use Rattle.arena_snapshot.specs.View.{node_or_null}
-use Rattle.rtdb_core.specs.State.{State}
-use Rattle.rtdb_core.specs.Step.{tree_with}
+use Rattle.rtdb_model.specs.State.{State}
+use Rattle.rtdb_model.specs.Step.{tree_with}
 use Rattle.rtdb_core.specs.Working.Fates.{sparse, fates_of, all_sessions, with_tree}
 use Rattle.rtdb_core.specs.Working.Heard.{AllHeardIn}
 use Rattle.rtdb_core.proofs.Fatings.{state_made}

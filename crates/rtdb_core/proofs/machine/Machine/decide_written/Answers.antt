@@ -1,6 +1,6 @@
 use Rattle.std.proofs.Common.{◌≡◌, ◌∙◌, ◌<◌, ◌^◌, length, sym, ap, subst, arith}
-use Rattle.rtdb_core.specs.State.{State}
-use Rattle.rtdb_core.specs.Step.{tree_with}
+use Rattle.rtdb_model.specs.State.{State}
+use Rattle.rtdb_model.specs.Step.{tree_with}
 use Rattle.rtdb_core.specs.Working.Fates.{sparse, all_sessions, with_tree}
 use Rattle.rtdb_core.proofs.Fatings.{state_made, nobody_listens}
 use Rattle.rtdb_core.proofs.Refusing.{tree_is_proposed}

@@ -2,7 +2,7 @@ use Rattle.std.proofs.Common.{◌∙◌, IsSome, is_some, refl, ap, subst}
 use Rattle.std.proofs.lemmas.Bool.{false≢true}
 use Rattle.path_capture.specs.Write.{tree_or_null}
 use Rattle.listeners.specs.Table.{has_id, without_id}
-use Rattle.rtdb_core.specs.State.{State, is_open, identity_of, listeners_of}
+use Rattle.rtdb_model.specs.State.{State, is_open, identity_of, listeners_of}
 use Rattle.rtdb_core.proofs.Sessions.{has, identity_is, listeners_are, put_is}
 use Rattle.rtdb_core.proofs.machine.Machine.end.Goals as goal
 

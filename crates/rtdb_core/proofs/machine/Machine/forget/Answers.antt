@@ -1,7 +1,7 @@
 use Rattle.std.proofs.Common.{◌∙◌, is_some, ap}
 use Rattle.path_capture.specs.Write.{tree_or_null}
-use Rattle.rtdb_core.specs.State.{State, Sessions, is_open}
-use Rattle.rtdb_core.specs.Step.{closed}
+use Rattle.rtdb_model.specs.State.{State, Sessions, is_open}
+use Rattle.rtdb_model.specs.Step.{closed}
 use Rattle.rtdb_core.proofs.Sessions.{has, without_one}
 use Rattle.rtdb_core.proofs.machine.Machine.forget.Goals as goal
 

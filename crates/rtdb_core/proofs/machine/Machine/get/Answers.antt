@@ -3,8 +3,8 @@ use Rattle.std.specs.Borrow.{Bor}
 use Rattle.listeners.specs.Query.{Query}
 use Rattle.tree_model.specs.Path.{Path}
 use Rattle.tree_model.specs.Tree.{Tree}
-use Rattle.rtdb_core.specs.declared.reply.Reply.TheVariants.{Value}
-use Rattle.rtdb_core.specs.Step.{Outcome, value_at}
+use Rattle.rtdb_model.specs.declared.reply.Reply.TheVariants.{Value}
+use Rattle.rtdb_model.specs.Step.{Outcome, value_at}
 use Rattle.rtdb_core.specs.Working.Passages.{who_of}
 use Rattle.rtdb_core.proofs.Refusing.{get_refused, get_granted}
 use Rattle.rtdb_core.proofs.machine.Machine.get.Goals as goal

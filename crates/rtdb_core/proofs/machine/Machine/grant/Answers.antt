@@ -1,8 +1,8 @@
 use Rattle.std.proofs.Common.{◌∙◌, option_map, inl, sym, ap}
 use Rattle.std.specs.Borrow.{Bor}
 use Rattle.listeners.specs.Query.{Query}
-use Rattle.rtdb_core.specs.declared.reply.Refusal.TheVariants.{ReadDenied}
-use Rattle.rtdb_core.specs.Step.{Step}
+use Rattle.rtdb_model.specs.declared.reply.Refusal.TheVariants.{ReadDenied}
+use Rattle.rtdb_model.specs.Step.{Step}
 use Rattle.rtdb_core.specs.Working.Passages.{who_of}
 use Rattle.rtdb_core.proofs.Refusing.{get_refused, get_granted}
 use Rattle.rtdb_core.proofs.machine.Machine.grant.Goals as goal

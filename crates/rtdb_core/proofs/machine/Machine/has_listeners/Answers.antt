@@ -1,6 +1,6 @@
 use Rattle.std.proofs.Common.{ℕ, List, map, sym, ap, ◌∙◌}
 use Rattle.std.specs.List.{list_any}
-use Rattle.rtdb_core.specs.State.{State, Session}
+use Rattle.rtdb_model.specs.State.{State, Session}
 use Rattle.rtdb_core.specs.Working.Fates.{all_sessions, listens}
 use Rattle.rtdb_core.proofs.Sessions.{entries_are}
 use Rattle.rtdb_core.proofs.machine.Machine.has_listeners.Goals as goal

@@ -1,5 +1,5 @@
 use Rattle.std.proofs.Common.{◌∙◌, ap}
-use Rattle.rtdb_core.specs.State.{State, is_open}
+use Rattle.rtdb_model.specs.State.{State, is_open}
 use Rattle.rtdb_core.proofs.Sessions.{has}
 use Rattle.rtdb_core.proofs.machine.Machine.is_open.Goals as goal
 

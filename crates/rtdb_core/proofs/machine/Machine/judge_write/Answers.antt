@@ -1,5 +1,5 @@
 use Rattle.std.proofs.Common.{◌∙◌, sym, ap}
-use Rattle.rtdb_core.specs.State.{State}
+use Rattle.rtdb_model.specs.State.{State}
 use Rattle.rtdb_core.proofs.Refusing.{tree_is_proposed}
 use Rattle.rtdb_core.proofs.machine.Machine.judge_write.Goals as goal
 

@@ -1,6 +1,6 @@
 use Rattle.std.proofs.Common.{◌∙◌, Ok, Err, Result, OnErr, sym, ap}
 use Rattle.tree_model.specs.Tree.{non_null}
-use Rattle.rtdb_core.specs.Rejudged.{selected_at}
+use Rattle.rtdb_model.specs.Rejudged.{selected_at}
 use Rattle.rtdb_core.specs.Working.Fates.{read_refusal_for}
 use Rattle.rtdb_core.specs.Working.Passages.{who_of}
 use Rattle.rtdb_core.proofs.Deciding.{listen_refused, listen_denied, listen_made, listen_is_judged}

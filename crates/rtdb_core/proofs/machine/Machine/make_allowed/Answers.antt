@@ -1,5 +1,5 @@
 use Rattle.std.proofs.Common.{[], ◌∷◌}
-use Rattle.rtdb_core.specs.State.{identity_of}
+use Rattle.rtdb_model.specs.State.{identity_of}
 use Rattle.rtdb_core.proofs.Refusing.{set_done, not_refused}
 use Rattle.rtdb_core.proofs.Room.{has_room}
 use Rattle.rtdb_core.proofs.machine.Machine.make_allowed.Goals as goal

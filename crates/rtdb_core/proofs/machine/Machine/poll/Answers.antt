@@ -1,7 +1,7 @@
 use Rattle.std.proofs.Common.{◌∙◌, ◌<◌, ◌^◌, List, map, length, sym, ap, subst}
 use Rattle.listeners.specs.Table.{Listener, taken}
-use Rattle.rtdb_core.specs.State.{listeners_of, identity_of}
-use Rattle.rtdb_core.specs.Step.{with_session, news_of}
+use Rattle.rtdb_model.specs.State.{listeners_of, identity_of}
+use Rattle.rtdb_model.specs.Step.{with_session, news_of}
 use Rattle.rtdb_core.specs.Working.Fates.{settled, sparse, fate_of}
 use Rattle.rtdb_core.specs.Working.Heard.{AreHeard}
 use Rattle.rtdb_core.proofs.Deciding.{polled_is}

@@ -1,6 +1,6 @@
 use Rattle.std.proofs.Common.{◌∙◌, ap}
 use Rattle.std.specs.FinMap as map_of
-use Rattle.rtdb_core.specs.State.{State}
+use Rattle.rtdb_model.specs.State.{State}
 use Rattle.rtdb_core.proofs.Sessions.{count_of}
 use Rattle.rtdb_core.proofs.machine.Machine.sessions.Goals as goal
 

@@ -1,9 +1,9 @@
 use Rattle.std.proofs.Common.{◌≤◌, ◌∙◌, List, sym, ap, subst}
 use Rattle.tree_model.specs.Tree.{count}
 use Rattle.tree_model.specs.Write.{Write}
-use Rattle.rtdb_core.specs.declared.limits.TheConstants.{MAX_LOCATIONS}
+use Rattle.rtdb_model.specs.declared.limits.TheConstants.{MAX_LOCATIONS}
 use Rattle.rtdb_core.specs.declared.judged.Judged.TheVariants.{Granted}
-use Rattle.rtdb_core.specs.Step.{tree_with}
+use Rattle.rtdb_model.specs.Step.{tree_with}
 use Rattle.rtdb_core.specs.Working.Fates.{IsJudgedWrite, with_settled, with_tree}
 use Rattle.rtdb_core.specs.Working.Passages.{who_of}
 use Rattle.rtdb_core.proofs.Refusing.{set_refused, set_granted}

@@ -6,8 +6,8 @@ use Rattle.judge.specs.Question.{Scene, scene_of}
 use Rattle.judge.specs.Judging.{MayWriteAll, IsWriteVerdict}
 use Rattle.judge.specs.declared.verdict.Named.{Named}
 use Rattle.judge.specs.declared.verdict.Verdict.TheVariants.{WriteDenied}
-use Rattle.rtdb_core.specs.State.{State, scene_for}
-use Rattle.rtdb_core.specs.Step.{tree_with}
+use Rattle.rtdb_model.specs.State.{State, scene_for}
+use Rattle.rtdb_model.specs.Step.{tree_with}
 use Rattle.rtdb_core.specs.Working.Passages.{who_of}
 use Rattle.rtdb_core.proofs.Refusing.{match_none, tree_is_proposed, set_judged, set_denied}
 use Rattle.rtdb_core.proofs.machine.Machine.set_refusal.Goals as goal

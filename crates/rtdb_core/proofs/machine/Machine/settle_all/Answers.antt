@@ -1,6 +1,6 @@
 use Rattle.std.proofs.Common.{◌∙◌, List, ℕ, sym, ap}
 use Rattle.path_capture.specs.Write.{tree_or_null}
-use Rattle.rtdb_core.specs.State.{State, Session}
+use Rattle.rtdb_model.specs.State.{State, Session}
 use Rattle.rtdb_core.specs.Working.Fates.{settled_all, with_settled}
 use Rattle.rtdb_core.proofs.Seating.{nothing_made}
 use Rattle.rtdb_core.proofs.Sessions.{sessions_of, entries_are}

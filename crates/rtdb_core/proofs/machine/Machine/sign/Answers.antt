@@ -1,7 +1,7 @@
 use Rattle.std.proofs.Common.{◌∙◌, ◌<◌, ◌^◌, List, map, length, ap, subst}
 use Rattle.listeners.specs.Table.{Listener}
-use Rattle.rtdb_core.specs.State.{listeners_of}
-use Rattle.rtdb_core.specs.Step.{with_session}
+use Rattle.rtdb_model.specs.State.{listeners_of}
+use Rattle.rtdb_model.specs.Step.{with_session}
 use Rattle.rtdb_core.specs.Working.Fates.{settled, sparse, fate_of}
 use Rattle.rtdb_core.proofs.Deciding.{signed_is}
 use Rattle.rtdb_core.proofs.machine.Machine.sign.Goals as goal

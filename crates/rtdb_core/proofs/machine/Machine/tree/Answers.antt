@@ -2,8 +2,8 @@ use Rattle.std.proofs.Common.{◌≤◌, ◌∙◌, ap, sym, subst}
 use Rattle.tree_model.specs.Tree.{non_null, count}
 use Rattle.tree_model.proofs.Existence.{non_null-null, non_null-some}
 use Rattle.path_capture.specs.Write.{tree_or_null}
-use Rattle.rtdb_core.specs.declared.limits.TheConstants.{MAX_LOCATIONS}
-use Rattle.rtdb_core.specs.State.{State}
+use Rattle.rtdb_model.specs.declared.limits.TheConstants.{MAX_LOCATIONS}
+use Rattle.rtdb_model.specs.State.{State}
 use Rattle.rtdb_core.proofs.machine.Machine.tree.Goals as goal
 
 pub returns-in-Some-clause-tree : goal.returns-in-Some-clause-tree

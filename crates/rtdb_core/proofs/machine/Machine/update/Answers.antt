@@ -3,8 +3,8 @@ use Rattle.std.specs.List.Sorted.{IsPermutation}
 use Rattle.tree_model.specs.Tree.{count}
 use Rattle.tree_model.specs.Write.{Write, overlaps}
 use Rattle.rtdb_core.specs.declared.judged.Judged.TheVariants.{Granted}
-use Rattle.rtdb_core.specs.declared.limits.TheConstants.{MAX_LOCATIONS}
-use Rattle.rtdb_core.specs.Step.{tree_with, makes}
+use Rattle.rtdb_model.specs.declared.limits.TheConstants.{MAX_LOCATIONS}
+use Rattle.rtdb_model.specs.Step.{tree_with, makes}
 use Rattle.rtdb_core.specs.Working.Fates.{IsJudgedWrite, with_settled, with_tree}
 use Rattle.rtdb_core.specs.Working.Passages.{who_of}
 use Rattle.rtdb_core.proofs.AnyOrder.{update_overlaps, update_made, update_is_judged}

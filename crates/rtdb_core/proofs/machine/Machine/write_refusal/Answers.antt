@@ -1,7 +1,7 @@
 use Rattle.std.proofs.Common.{◌∙◌, ◌^◌, ◌-◌, ap, sym, min}
 use Rattle.judge.specs.Question.{scene_of}
 use Rattle.tree_model.specs.Tree.{Tree, count}
-use Rattle.rtdb_core.specs.Step.{tree_with}
+use Rattle.rtdb_model.specs.Step.{tree_with}
 use Rattle.rtdb_core.specs.Working.Passages.{who_of}
 use Rattle.rtdb_core.proofs.Refusing.{verdict_is, is_denied, is_granted}
 use Rattle.rtdb_core.proofs.machine.Machine.write_refusal.Goals as goal

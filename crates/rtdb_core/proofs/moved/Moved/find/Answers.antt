@@ -2,7 +2,7 @@ use Rattle.std.proofs.Common.{◌∙◌, Some, ap, sym, subst, arith}
 use Rattle.std.specs.Ordering.{is_eq}
 use Rattle.tree_model.proofs.Orders.{same_path}
 use Rattle.arena_snapshot.proofs.Tests.{from_true}
-use Rattle.rtdb_core.specs.Rejudged.{moves}
+use Rattle.rtdb_model.specs.Rejudged.{moves}
 use Rattle.rtdb_core.specs.Working.Moved.{AreFound}
 use Rattle.rtdb_core.specs.Working.Passages.{tree_before, tree_after}
 use Rattle.rtdb_core.specs.declared.moved.Found.{Found}

@@ -1,7 +1,7 @@
 use Rattle.std.proofs.Common.{◌∙◌, Option, option_map, sym}
 use Rattle.std.specs.Borrow.{Bor}
 use Rattle.listeners.specs.Query.{Query}
-use Rattle.rtdb_core.specs.Rejudged.{moves}
+use Rattle.rtdb_model.specs.Rejudged.{moves}
 use Rattle.rtdb_core.specs.Working.Passages.{tree_before, tree_after}
 use Rattle.rtdb_core.proofs.Passing.{stays, moved_whole}
 use Rattle.rtdb_core.proofs.moved.Moved.has.Goals as goal

@@ -1,6 +1,6 @@
 use Rattle.std.proofs.Common.{◌∙◌, List, ap}
 use Rattle.listeners.specs.Table.{Listener, without_id}
-use Rattle.rtdb_core.specs.State.{Session}
+use Rattle.rtdb_model.specs.State.{Session}
 use Rattle.rtdb_core.specs.Working.Fates.{with_listeners}
 use Rattle.rtdb_core.proofs.Without.{dropped}
 use Rattle.rtdb_core.proofs.session.Session.unlisten.Goals as goal

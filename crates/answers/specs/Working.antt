@@ -1,0 +1,2 @@
+-- Words of private contracts. No public clause stands on them.
+pub mod Writing

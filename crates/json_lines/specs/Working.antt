@@ -1,0 +1,3 @@
+-- Words of private contracts. No public clause stands on them.
+pub mod Faults
+pub mod Children

@@ -1,7 +1,0 @@
-use Rattle.std.proofs.Common.{◌++◌, ap, ◌∙◌}
-use Rattle.std.proofs.lemmas.Result.{on_ok_weaker}
-use Rattle.messages.proofs.Texts.{done_text}
-use Rattle.messages.proofs.answer_writer.AnswerWriter.put_done.Goals as goal
-
-pub returns-clause-text : goal.returns-clause-text
-returns-clause-text c = on_ok_weaker c.piece.result (λ is. is ∙ ap (λ s. c.args.self.now.text ++ s) done_text) c.piece.ensures.text

@@ -1,0 +1,4 @@
+pub mod Messages
+pub mod MemberNames
+pub mod Outlines
+pub mod Plain

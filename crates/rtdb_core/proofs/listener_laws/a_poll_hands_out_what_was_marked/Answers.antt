@@ -1,5 +1,0 @@
-use Rattle.rtdb_core.proofs.Polls.{polled}
-use Rattle.rtdb_core.proofs.listener_laws.a_poll_hands_out_what_was_marked.Goals as goal
-
-pub returns : goal.returns
-returns c = polled

@@ -1,5 +1,0 @@
-use Rattle.rtdb_core.proofs.RunLaws.{rules_in_force}
-use Rattle.rtdb_core.proofs.run_laws.a_run_changes_the_rules_by_deployments.Goals as goal
-
-pub returns : goal.returns
-returns c = rules_in_force

@@ -1,8 +1,0 @@
-use Rattle.rtdb_core.proofs.StepLaws.{some_answer, one_answer}
-use Rattle.rtdb_core.proofs.step_laws.a_step_is_a_function.Goals as goal
-
-pub returns-clause-some : goal.returns-clause-some
-returns-clause-some c = some_answer
-
-pub returns-clause-one : goal.returns-clause-one
-returns-clause-one c = one_answer

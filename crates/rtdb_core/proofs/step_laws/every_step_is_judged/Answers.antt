@@ -1,5 +1,0 @@
-use Rattle.rtdb_core.proofs.StepLaws.{judged}
-use Rattle.rtdb_core.proofs.step_laws.every_step_is_judged.Goals as goal
-
-pub returns : goal.returns
-returns c = judged

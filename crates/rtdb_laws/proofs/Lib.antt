@@ -1,0 +1,14 @@
+pub mod Naming
+pub mod ReadJudging
+pub mod ListenJudging
+pub mod WriteJudging
+pub mod Deploying
+pub mod Stopping
+pub mod StepLaws
+pub mod RunLaws
+pub mod WorkedValues
+pub mod Kept
+pub mod Changes
+pub mod Polls
+pub mod Goings
+pub mod Endings

@@ -1,0 +1,25 @@
+//! The laws of the database, over the definitions of its steps and runs alone.
+//!
+//! Each function does nothing, and its contract is a law. [`every_call_of_a_run_is_judged_by_the_rules_in_force`] is
+//! the one that readers of the headline want; the machine of `rtdb_core` meets `Step`, so what is proved here of steps
+//! and runs holds of it.
+#![tactic(auto)]
+
+mod listener_laws;
+mod run_laws;
+mod step_laws;
+mod worked;
+
+pub use listener_laws::{
+    a_failed_grant_is_the_end, a_poll_hands_out_what_was_marked, marks_are_history,
+    the_tests_of_listeners_decide, what_a_grant_hangs_on_changes_where_it_is_judged,
+};
+pub use run_laws::{
+    a_run_changes_identities_by_their_sessions, a_run_changes_the_rules_by_deployments,
+    every_call_of_a_run_is_judged_by_the_rules_in_force,
+};
+pub use step_laws::{
+    a_refused_event_changes_nothing, a_step_is_a_function, every_step_is_judged,
+    what_takes_no_memory_is_answered,
+};
+pub use worked::{what_reads_are_answered, what_writes_are_answered};

@@ -1,0 +1,26 @@
+//! Laws of the runs of a database.
+ghost use Rattle.std.specs.Prelude.{◌≡◌, ℕ, List, ◌∷◌, ◌++◌};
+ghost use Rattle.rules_reader.specs.Place.{HasOneCapture};
+ghost use Rattle.rtdb_model.specs.declared.reply.Reply.{Reply};
+ghost use Rattle.rtdb_model.specs.State.{State, identity_of};
+ghost use Rattle.rtdb_model.specs.Step.{Call, Run};
+ghost use Rattle.rtdb_model.specs.Headline.{rules_after, identity_after, DeployFiles, IsJudgedAmong};
+
+/// Whatever calls come, of whatever sessions, deployments among them, from whatever state, with rules as
+/// rules files have them, at most one capture in each object: each has its own reply, and is judged by
+/// the rules in force at its step, which are those of the last deployment that was done before it, else
+/// those from the beginning, and for who is signed in on its session then.
+pub fn every_call_of_a_run_is_judged_by_the_rules_in_force()
+    ensures { (old new : State) (earlier later : List Call) (call : Call) (replies : List Reply) → HasOneCapture old.rules → DeployFiles earlier → Run old (earlier ++ call ∷ later) replies new → IsJudgedAmong old earlier call later replies new }
+{}
+
+/// The rules in force change in accepted deployments, and in no other step.
+pub fn a_run_changes_the_rules_by_deployments()
+    ensures { (old new : State) (calls : List Call) (replies : List Reply) → Run old calls replies new → new.rules ≡ rules_after old.rules calls replies }
+{}
+
+/// Who is signed in on a session changes where it opens, closes, signs in or signs out, and in no other
+/// step, of this session or another.
+pub fn a_run_changes_identities_by_their_sessions()
+    ensures { (old new : State) (calls : List Call) (replies : List Reply) → Run old calls replies new → (session : ℕ) → identity_of new session ≡ identity_after session (identity_of old session) calls replies }
+{}

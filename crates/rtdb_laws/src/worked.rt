@@ -1,0 +1,32 @@
+//! Worked values: what calls are answered where a `.read` and a `.write` stand at the root alone, and
+//! session 1 is open. A reader can check them by eye.
+ghost use Rattle.std.specs.Prelude.{◌≡◌, ℕ, ◌≤◌, [], ◌∷◌, None};
+ghost use Rattle.tree_model.specs.Path.{Path};
+ghost use Rattle.tree_model.specs.PathMap.{sub};
+ghost use Rattle.tree_model.specs.Tree.{Tree, non_null, count};
+ghost use Rattle.tree_model.specs.Write.{Write, location, proposed};
+ghost use Rattle.expr_parser.specs.Tree.{True, False, Null};
+ghost use Rattle.judge.specs.declared.verdict.Why.TheVariants.{No, Erred};
+ghost use Rattle.rtdb_model.specs.declared.event.Event.{Event};
+ghost use Rattle.rtdb_model.specs.declared.reply.Refusal.{Refusal};
+ghost use Rattle.rtdb_model.specs.declared.reply.Reply.{Reply};
+ghost use Rattle.rtdb_model.specs.State.{State};
+ghost use Rattle.rtdb_model.specs.Step.{Step};
+ghost use Rattle.rtdb_laws.specs.Worked.{at_the_root, one_session, root_alone};
+
+/// Under `{"rules":{".read":false,".write":true}}` each read of session 1 is denied, and the rule of the
+/// root is named, since it means false; where it is `null`, since it errs. Under a `.read` that is true
+/// it is answered by what stands there. Session 2, which is not open, is told so. It does nothing.
+pub fn what_reads_are_answered()
+    ensures is_false { (tree : Tree) (now : ℕ) (path : Path) → Step (one_session (at_the_root False True) tree) now 1 (Event.Get path None) (Reply.Refused (Refusal.ReadDenied (root_alone No))) (one_session (at_the_root False True) tree) }
+    ensures is_error { (tree : Tree) (now : ℕ) (path : Path) → Step (one_session (at_the_root Null True) tree) now 1 (Event.Get path None) (Reply.Refused (Refusal.ReadDenied (root_alone Erred))) (one_session (at_the_root Null True) tree) }
+    ensures is_true { (tree : Tree) (now : ℕ) (path : Path) → Step (one_session (at_the_root True False) tree) now 1 (Event.Get path None) (Reply.Value (non_null (sub tree path))) (one_session (at_the_root True False) tree) }
+    ensures closed { (tree : Tree) (now : ℕ) (path : Path) → Step (one_session (at_the_root True True) tree) now 2 (Event.Get path None) (Reply.Refused Refusal.NoSession) (one_session (at_the_root True True) tree) }
+{}
+
+/// Under a `.write` that is false a write of session 1 is denied at its location, and the rule of the
+/// root is named. Under one that is true it is made, where the tree has room. It does nothing.
+pub fn what_writes_are_answered()
+    ensures is_false { (tree : Tree) (now : ℕ) (write : Write) → Step (one_session (at_the_root True False) tree) now 1 (Event.Set write) (Reply.Refused (Refusal.WriteDenied (location write) (root_alone No))) (one_session (at_the_root True False) tree) }
+    ensures is_true { (tree : Tree) (now : ℕ) (write : Write) → count (proposed tree (write ∷ [])) ≤ 65536 → (after : State) × Step (one_session (at_the_root False True) tree) now 1 (Event.Set write) Reply.Done after × (after.tree ≡ proposed tree (write ∷ [])) }
+{}

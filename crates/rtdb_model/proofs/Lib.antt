@@ -1,0 +1,5 @@
+pub mod Slots
+pub mod Sameness
+pub mod Histories
+pub mod Outcomes
+pub mod Answers

@@ -1,0 +1,9 @@
+pub mod State
+pub mod Rejudged
+pub mod News
+pub mod Tidings
+pub mod Borrowed
+pub mod Step
+pub mod Headline
+pub mod Marks
+pub mod Ends

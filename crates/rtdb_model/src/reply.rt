@@ -1,0 +1,101 @@
+//! What an event is answered.
+ghost use Rattle.std.specs.Prelude.{◌≡◌};
+ghost use Rattle.rtdb_model.specs.declared.reply.Refusal.TheVariants.{NoMemory as no_memory};
+ghost use Rattle.rtdb_model.specs.declared.reply.ReadRefusal.TheVariants.{Other as other};
+ghost use Rattle.rtdb_model.specs.declared.reply.WriteRefusal.TheVariants.{Other as other_write};
+
+use crate::news::News;
+use json_tree::{NoMemory, Node};
+use judge::{BorrowedNames, NamedRules, Why};
+use path_capture::{Path, Pattern};
+
+/// What an event is answered.
+#[derive(Debug, Drop)]
+pub enum Reply {
+    /// It was done.
+    Done,
+    /// The tree that was asked for, None where nothing exists.
+    Value(Option<Node>),
+    /// The news of the session's listeners.
+    News(News),
+    /// It was refused, and nothing has changed.
+    Refused(Refusal),
+}
+
+/// Why an event is refused: the first of its event's refusals that applies.
+#[derive(Debug, Drop)]
+pub enum Refusal {
+    /// The session is open already.
+    SessionOpen,
+    /// As many sessions are open as may be.
+    TooManySessions,
+    /// The session is not open.
+    NoSession,
+    /// Nobody is signed in on the session, or somebody who is no administrator.
+    NotAdmin,
+    /// The update has no write.
+    EmptyUpdate,
+    /// A location of the update is at or above that of another of its writes.
+    Overlap,
+    /// The session listens under this id already.
+    DuplicateId,
+    /// The session has as many listeners as it may.
+    TooManyListeners,
+    /// The session doesn't listen under this id.
+    NoListener,
+    /// No `.read` at the path or above it holds; these are all of them.
+    ReadDenied(NamedRules),
+    /// No `.write` at the location or above it holds; these are all of them. Of the locations that are
+    /// not granted it is the least.
+    WriteDenied(Path, NamedRules),
+    /// The `.validate` of this pattern does not hold at this place, for this reason. Of the places
+    /// where one fails it is the least.
+    ValidateDenied(Path, Pattern, Why),
+    /// The rules grant the write, and the tree would have more locations than it may.
+    TreeFull,
+    /// Memory was wanting, or the arena could not be reset.
+    NoMemory,
+}
+
+/// Why a read is refused, of which a denial is borrowed from the rules and the arena.
+#[derive(Drop)]
+pub enum ReadRefusal<'a> {
+    /// No `.read` at the path or above it holds; these are all of them.
+    Denied(BorrowedNames<'a>),
+    /// Any other refusal.
+    Other(Refusal),
+}
+
+impl<'a> From<NoMemory> for ReadRefusal<'a> {
+    ghost from_gives = { λ _ refusal. refusal ≡ other no_memory };
+
+    fn from(_refused: NoMemory) -> ReadRefusal<'a> {
+        ReadRefusal::Other(Refusal::NoMemory)
+    }
+}
+
+/// Why a write of one location is refused, of which a denial for write is borrowed from the write, the rules and the
+/// arena.
+#[derive(Drop)]
+pub enum WriteRefusal<'a> {
+    /// No `.write` at this location, which is that of the write, or above it holds; these are all of them.
+    Denied(&'a Path, BorrowedNames<'a>),
+    /// Any other refusal.
+    Other(Refusal),
+}
+
+impl<'a> From<NoMemory> for WriteRefusal<'a> {
+    ghost from_gives = { λ _ refusal. refusal ≡ other_write no_memory };
+
+    fn from(_refused: NoMemory) -> WriteRefusal<'a> {
+        WriteRefusal::Other(Refusal::NoMemory)
+    }
+}
+
+impl From<NoMemory> for Refusal {
+    ghost from_gives = { λ _ refusal. refusal ≡ no_memory };
+
+    fn from(_refused: NoMemory) -> Refusal {
+        Refusal::NoMemory
+    }
+}
