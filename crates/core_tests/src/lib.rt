@@ -4,19 +4,7 @@
 #![tactic(auto)]
 
 #[cfg(test)]
-mod ends;
-#[cfg(test)]
-mod leaves;
-#[cfg(test)]
-mod marks;
-#[cfg(test)]
 mod memory;
-#[cfg(test)]
-mod random;
-#[cfg(test)]
-mod reading;
-#[cfg(test)]
-mod refusals;
 #[cfg(test)]
 mod replies;
 #[cfg(test)]

@@ -1,11 +1,10 @@
 //! Where memory is refused: all is as it was, and the step that is made once more is answered as if nothing
-//! had been. The script `checks/refused-growths` refuses growths; here the arena has little memory.
+//! had been. Here the arena has little memory; `checks/refused-scripts` refuses any growth of a script.
 use crate::runs::{answer, answer_all, answers, core_of, open_two, parts_of, run_all, tried};
 use bumpalo::Bump;
 use rtdb_core::Core;
 use std::alloc::Global;
 use std::test::Fail;
-use test_tables::{Row, first_other};
 
 // ---- an arena that has little memory
 
@@ -210,46 +209,5 @@ fn over_an_arena_that_cannot_be_reset_memory_is_wanting(rt: HostRuntime) -> Resu
     assert!(rt; read.is_none() && written.is_none(), "it is answered");
     assert_eq!(rt; closed.as_str(), "ok");
     assert_eq!(rt; left.as_str(), "null; NoSession");
-    Ok(())
-}
-
-// ---- any growth
-
-// Runs of which each growth may be refused in a run of its own.
-const PATIENT: [Row; 7] = [
-    (
-        "plain: 1 listen a /x; 2 listen b /x ? {\"limitToLast\":1}; 1 set /x={\"k\":1}; 1 poll; 2 poll",
-        "null; null; ok; news a={\"k\":1}; news b={\"k\":1}",
-    ),
-    (
-        "plain: 1 set /x={\"k\":1}; 1 listen a /x; 1 listen b /x/k; 2 update /x/k=null | /x/l/m=2; 1 poll; 1 get /",
-        "ok; {\"k\":1}; 1; ok; news a={\"l\":{\"m\":2}} b=null; {\"x\":{\"l\":{\"m\":2}}}",
-    ),
-    (
-        "plain: 1 listen a /x; 1 in admin; 1 deploy shut; 1 listen b /x; 1 poll; 1 listen a /x",
-        "null; ok; ok; ReadDenied; news a!; ReadDenied",
-    ),
-    (
-        "door: 1 set /x={\"open\":true}; 1 listen a /x; 2 listen a /x/n; 2 set /x/n=1; 2 set /x/open=false; 1 poll; 2 poll",
-        "ok; {\"open\":true}; null; ok; ok; news a!; news a!",
-    ),
-    (
-        "signed: 1 in ann; 1 listen a /x; 1 set /x=1; 1 out; 1 get /x; 1 poll; 1 poll",
-        "ok; null; ok; ok; ReadDenied; news a!; news",
-    ),
-    (
-        "timed: 1 listen a /x; 2 listen b /x; 2 set /x=1; 2000@9 tick; 3 open; 3 listen a /x; 1 poll; 2 poll",
-        "null; null; ok; ok; ok; 1; news a!; news b!",
-    ),
-    (
-        "plain: 3 open; 4 open; 3 listen a /; 4 set /x=1; 4 set /=2; 3 poll; 3 close; 3 poll",
-        "ok; ok; null; ok; ok; news a=2; ok; NoSession",
-    ),
-];
-
-#[test]
-fn a_step_that_is_refused_memory_is_made_once_more(rt: HostRuntime) -> Result<(), Fail> {
-    let other = first_other(rt.alloc(), &PATIENT, answers)?;
-    assert_eq!(rt; other.as_str(), "");
     Ok(())
 }

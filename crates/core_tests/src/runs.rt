@@ -1,6 +1,5 @@
 //! Runs: the rules that are in force first, and steps, as `plain: 1 listen a /x; 2 set /x=1; 1 poll`, and
 //! what the steps are answered, as `null; ok; news a=1`. Sessions 1 and 2 are open at the beginning.
-use crate::reading::World;
 use crate::replies::described;
 use crate::rules::rules_named;
 use crate::steps::Step;
@@ -10,7 +9,6 @@ use json_tree::NoMemory;
 use rtdb_core::{Core, MAX_MOMENT, Reply};
 use std::alloc::{AllocError, Global};
 use std::test::Fail;
-use test_tables::{Row, first_other};
 
 // What no run wants.
 const CHANGED: &str = "a refused step has changed something";
@@ -131,28 +129,4 @@ pub(crate) fn answers(alloc: Global, run: &str) -> Result<String, Fail> {
 pub(crate) fn run_all(alloc: Global, core: &mut Core, steps: &str) -> Result<String, Fail> {
     open_two(alloc, core)?;
     answer_all(alloc, core, steps)
-}
-
-/// What the second reading says that a run is answered.
-pub(crate) fn answers_read(alloc: Global, run: &str) -> Result<String, Fail> {
-    let (name, steps) = parts_of(run)?;
-    let mut world = World::new(alloc, name)?;
-    read_all(alloc, &mut world, steps)
-}
-
-fn read_all<'a>(alloc: Global, world: &mut World<'a>, steps: &'a str) -> Result<String, Fail> {
-    let mut answers = String::new(alloc);
-    for text in steps.split("; ") {
-        add(&mut answers, world.answer(alloc, text)?.as_str())?;
-    }
-    Ok(answers)
-}
-
-/// The first run that is answered otherwise, by the database or by the second reading; else nothing.
-pub(crate) fn first_other_run(alloc: Global, rows: &[Row]) -> Result<String, Fail> {
-    let other = first_other(alloc, rows, answers)?;
-    if !other.is_empty() {
-        return Ok(other);
-    }
-    first_other(alloc, rows, answers_read)
 }

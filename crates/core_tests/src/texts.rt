@@ -1,11 +1,9 @@
 //! What steps are made of, from their texts: trees, queries, identities, and the event that is asked.
 use crate::rules::rules_named;
 use crate::steps::{Ask, Put, Read, puts_of};
-use arena_snapshot::{View, copy_out};
-use bumpalo::Bump;
 use evaluator::{Claims, Identity};
 use json_tree::{NoMemory, Node, ValueFault, from_json, to_json};
-use listeners::{ListenerId, Query, QueryFault, select};
+use listeners::{ListenerId, Query, QueryFault};
 use path_capture::{Path, Write};
 use rtdb_core::{Event, Writes};
 use serde_json::Value;
@@ -36,25 +34,6 @@ pub(crate) fn query_of(alloc: Global, text: &str) -> Result<Query, Fail> {
         Err(QueryFault::NoMemory) => Err(NoMemory)?,
         Err(QueryFault::BadQuery) => Err("no query")?,
     }
-}
-
-/// The JSON text of what a query selects of a tree.
-pub(crate) fn selected(alloc: Global, tree: Option<&Node>, query: &str) -> Result<String, Fail> {
-    let query = query_of(alloc, query)?;
-    selected_by(alloc, tree, &query)
-}
-
-fn selected_by(alloc: Global, tree: Option<&Node>, query: &Query) -> Result<String, Fail> {
-    let arena = Bump::new(alloc);
-    match select(&arena, tree.map(View::stored), Some(query))? {
-        Some(view) => text_of_view(alloc, &view),
-        None => text_of(alloc, None),
-    }
-}
-
-fn text_of_view(alloc: Global, view: &View<'_>) -> Result<String, Fail> {
-    let copy = copy_out(alloc, view)?;
-    text_of(alloc, Some(&copy))
 }
 
 /// The write of a value at a path.

@@ -4,20 +4,10 @@
 #![tactic(auto)]
 
 #[cfg(test)]
-mod asking;
-#[cfg(test)]
 mod depth;
 #[cfg(test)]
 mod memory;
 #[cfg(test)]
-mod operands;
-#[cfg(test)]
-mod places;
-#[cfg(test)]
 mod scene;
 #[cfg(test)]
 mod tables;
-#[cfg(test)]
-mod texts;
-#[cfg(test)]
-mod worked;

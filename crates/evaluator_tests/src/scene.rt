@@ -63,12 +63,6 @@ pub(crate) fn nothing() -> Scene {
     }
 }
 
-/// A tree, asked by nobody.
-pub(crate) fn asked_by_nobody(alloc: Global, tree: &str) -> Result<Scene, Fail> {
-    let tree = tree_of(alloc, tree)?;
-    Ok(Scene { tree, who: None })
-}
-
 /// A tree, asked by `ann`.
 pub(crate) fn asked_by_ann(alloc: Global, tree: &str) -> Result<Scene, Fail> {
     let tree = tree_of(alloc, tree)?;
@@ -185,16 +179,6 @@ impl Answer {
             Answer::NoMemory => "no memory",
             Answer::Refused => "refused",
             Answer::NoExpression => "no expression",
-        }
-    }
-
-    /// A letter for it in the tables: the first of yes, no or erred.
-    pub(crate) fn letter(self) -> char {
-        match self {
-            Answer::Yes => 'y',
-            Answer::No => 'n',
-            Answer::Erred => 'e',
-            _ => '?',
         }
     }
 }

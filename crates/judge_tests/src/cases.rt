@@ -17,27 +17,7 @@ use std::test::Fail;
 /// somebody does, and at which moment, and then what: `ann@20 read /a`, `@20 write /a=1 | /b=null`.
 pub(crate) type Row = (&'static str, &'static str, &'static str, &'static str);
 
-/// The first row with another verdict, and that verdict; else nothing.
-pub(crate) fn first_other(alloc: Global, rows: &[Row]) -> Result<String, Fail> {
-    for row in rows {
-        let found = verdict_of(alloc, row)?;
-        if found.as_str() != row.3 {
-            return Ok(format!(in alloc; "{} under {}: {found} and not {}", row.2, row.0, row.3)?);
-        }
-    }
-    Ok(String::new(alloc))
-}
-
-// The verdict on the question of a row.
-fn verdict_of(alloc: Global, row: &Row) -> Result<String, Fail> {
-    let arena = Bump::new(alloc);
-    match verdict_over(alloc, &arena, row)? {
-        Some(verdict) => Ok(verdict),
-        None => Err(NoMemory)?,
-    }
-}
-
-/// The same over this arena; none where that has too little memory.
+/// The verdict on the question of a row, over this arena; none where that has too little memory.
 pub(crate) fn verdict_over(alloc: Global, arena: &Bump, row: &Row) -> Result<Option<String>, Fail> {
     let world = world_of(alloc, row)?;
     verdict_in(alloc, arena, &world, row.2)

@@ -7,12 +7,6 @@ mod cases;
 #[cfg(test)]
 mod memory;
 #[cfg(test)]
-mod reads;
-#[cfg(test)]
 mod texts;
 #[cfg(test)]
-mod validation;
-#[cfg(test)]
 mod verdicts;
-#[cfg(test)]
-mod writes;

@@ -1,11 +1,7 @@
-//! The tests of trees and paths: what no clause of these libraries says, that each call that allocates
-//! can succeed, and worked values. They stand in a crate of their own, since a crate with tests is
-//! proved twice.
+//! The tests of calls of the libraries that no script makes. All others are cases that the built program is asked.
 #![tactic(auto)]
 
 #[cfg(test)]
-mod paths;
+mod calls;
 #[cfg(test)]
-mod tables;
-#[cfg(test)]
-mod trees;
+mod words;

@@ -7,11 +7,3 @@
 mod cases;
 #[cfg(test)]
 mod memory;
-#[cfg(test)]
-mod random;
-#[cfg(test)]
-mod reading;
-#[cfg(test)]
-mod tables;
-#[cfg(test)]
-mod worked;

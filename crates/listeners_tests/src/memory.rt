@@ -1,5 +1,5 @@
 //! What is answered where memory is refused.
-use crate::cases::{query_of, selected, tree_of};
+use crate::cases::{query_of, tree_of};
 use arena_snapshot::View;
 use bumpalo::Bump;
 use json_tree::Node;
@@ -37,19 +37,6 @@ fn refused_growths_of_the_arena_are_want_of_memory(rt: HostRuntime) -> Result<()
         }
     }
     assert!(rt; has_answered);
-    Ok(())
-}
-
-// Each of its growths may be refused in a run of its own.
-#[test]
-fn a_query_is_read_and_selects(rt: HostRuntime) -> Result<(), Fail> {
-    let alloc = rt.alloc();
-    let tree = tree_of(alloc, TREE)?;
-    let query = query_of(alloc, QUERY)?.ok_or("no query")?;
-    assert_eq!(rt;
-        selected(alloc, tree.as_ref(), Some(&query))?.as_str(),
-        "{\"a\":{\"n\":3},\"b\":{\"n\":2}}"
-    );
     Ok(())
 }
 

@@ -158,44 +158,6 @@ fn interrupted_calls_are_made_again_and_the_writer_is_flushed(rt: HostRuntime) {
     }
 }
 
-#[test]
-fn a_refused_header_is_answered_alone(rt: HostRuntime) {
-    let alloc = rt.alloc();
-    let rows = [
-        (
-            b"[]\n{\"do\":\"open\",\"now\":1,\"s\":1}\n".as_slice(),
-            b"{\"code\":102,\"name\":\"BadRequest\",\"ok\":false}\n".as_slice(),
-        ),
-        (
-            b"[]".as_slice(),
-            b"{\"code\":102,\"name\":\"BadRequest\",\"ok\":false}\n".as_slice(),
-        ),
-        (
-            b"\n{\"rules\":\"no\"}\n{\"do\":\"open\",\"now\":1,\"s\":1}\n".as_slice(),
-            b"{\"code\":401,\"name\":\"BadRulesJson\",\"ok\":false}\n".as_slice(),
-        ),
-    ];
-    for (text, answer) in rows {
-        let mut source = Pieces::new(text, 3, u64::MAX);
-        let mut sink = Written::new(Vec::new(alloc), 1000, usize::MAX, Full::Fails);
-        let end = run_script(alloc, &mut source, &mut sink, &mut Bump::new(alloc));
-        assert!(rt; end == ScriptEnd::BadHeader);
-        assert!(rt; sink.bytes.as_slice() == answer);
-    }
-}
-
-#[test]
-fn an_input_with_no_line_is_answered_by_nothing(rt: HostRuntime) {
-    let alloc = rt.alloc();
-    for text in [b"".as_slice(), b"\n".as_slice(), b" \t\r\n\n ".as_slice()] {
-        let mut source = Pieces::new(text, 2, u64::MAX);
-        let mut sink = Written::new(Vec::new(alloc), 1000, usize::MAX, Full::Fails);
-        let end = run_script(alloc, &mut source, &mut sink, &mut Bump::new(alloc));
-        assert!(rt; end == ScriptEnd::Finished);
-        assert!(rt; sink.bytes.is_empty());
-    }
-}
-
 // The header of INPUT and its second line, and then so many lines that get `/a`.
 fn long_input(alloc: Global, count: usize) -> Result<Vec<u8>, AllocError> {
     let mut text = Vec::new(alloc);
@@ -232,34 +194,6 @@ fn a_long_script_is_answered_over_many_blocks(rt: HostRuntime) -> Result<(), All
             "at {room}"
         );
         assert!(rt; sink.bytes.len() == room, "at {room}");
-    }
-    Ok(())
-}
-
-#[test]
-fn a_line_over_a_mebibyte_is_too_large_unless_it_is_blank(
-    rt: HostRuntime,
-) -> Result<(), AllocError> {
-    let alloc = rt.alloc();
-    for (byte, answers) in [
-        (b' ', b"{\"ok\":true,\"value\":null}\n".as_slice()),
-        (
-            b'x',
-            b"{\"code\":109,\"name\":\"TooLarge\",\"ok\":false}\n{\"ok\":true,\"value\":null}\n".as_slice(),
-        ),
-    ] {
-        let mut text = long_input(alloc, 0)?;
-        for _byte in 0..1_200_000 {
-            text.push(b' ')?;
-        }
-        text.push(byte)?;
-        text.extend_from_slice(b"\n{\"do\":\"get\",\"now\":7,\"path\":\"/a\",\"s\":1}\n")?;
-        let mut source = Reading::new(text.as_slice());
-        let mut sink = Written::new(Vec::new(alloc), 1000, usize::MAX, Full::Fails);
-        let end = run_script(alloc, &mut source, &mut sink, &mut Bump::new(alloc));
-        assert!(rt; end == ScriptEnd::Finished);
-        assert!(rt; sink.bytes.as_slice().ends_with(answers));
-        assert!(rt; sink.bytes.len() == 34 + answers.len());
     }
     Ok(())
 }

@@ -6,7 +6,3 @@
 mod cases;
 #[cfg(test)]
 mod memory;
-#[cfg(test)]
-mod updates;
-#[cfg(test)]
-mod worked;
