@@ -1,4 +1,5 @@
 //! Calls of the libraries that no script makes, with memory enough.
+use expr_tokens::{Token, tokens};
 use json_tree::{Child, Key, Leaf, Node, Number, to_json};
 use path_capture::{CaptureName, Part, Pattern};
 use std::alloc::Global;
@@ -62,4 +63,26 @@ fn a_tokens_file_is_read(rt: HostRuntime) {
             "{wrong}"
         );
     }
+}
+
+// A token in words: a number, a text between ticks, a name, or the token's own name.
+fn printed(alloc: Global, token: &Token) -> Result<String, Fail> {
+    Ok(match token {
+        Token::Number(value) => format!(in alloc; "{value}")?,
+        Token::Text(quoted) => format!(in alloc; "`{}`", quoted.text(alloc)?.as_str())?,
+        Token::Name(word) => String::from_str(alloc, word.copy(alloc)?.as_str())?,
+        sign => format!(in alloc; "{sign:?}")?,
+    })
+}
+
+#[test]
+fn an_expression_is_cut_into_tokens(rt: HostRuntime) -> Result<(), Fail> {
+    let alloc = rt.alloc();
+    let found = tokens(alloc, "a === 'b' + 7")?;
+    let wanted = ["a", "Operator(Equal)", "`b`", "Operator(Add)", "7"];
+    assert_eq!(rt; found.len(), wanted.len());
+    for (token, word) in found.iter().zip(wanted) {
+        assert_eq!(rt; printed(alloc, token)?.as_str(), word);
+    }
+    Ok(())
 }

@@ -1,5 +1,5 @@
 //! Calls that no script makes.
-use answers::write_reply;
+use answers::{write_fault, write_reply};
 use bumpalo::Bump;
 use json_tree::{Leaf, Node};
 use path_capture::Pattern;
@@ -61,6 +61,15 @@ fn a_rule_that_errs_is_named_so(rt: HostRuntime) -> Result<(), AllocError> {
         Err(_) => assert!(rt; false),
     }
     Ok(())
+}
+
+#[test]
+fn a_fault_is_written_by_itself(rt: HostRuntime) {
+    let wanted = br#"{"code":102,"name":"BadRequest","ok":false}"#;
+    match write_fault(rt.alloc(), MessageFault::BadRequest) {
+        Ok(text) => assert!(rt; text.as_slice() == wanted.as_slice()),
+        Err(_) => assert!(rt; false),
+    }
 }
 
 #[test]
