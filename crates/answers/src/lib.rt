@@ -1,7 +1,7 @@
 //! Answers: the texts of replies and of faults.
 //!
-//! An [`AnswerWriter`] writes what is answered behind bytes that stand there already; the contract of each of its
-//! calls is what the definitions of `AnswerText` say of its reply. Nothing here knows a state.
+//! An [`AnswerWriter`] appends an answer to the bytes before it; the contract of each of its calls is what the
+//! definitions of `AnswerText` say of its reply. Nothing here knows a state.
 #![tactic(auto)]
 
 mod answer;

@@ -1,4 +1,4 @@
--- The names of members, told by their texts.
+-- The names of members, identified by their texts.
 use Rattle.std.proofs.Common.{◌≡◌, ℕ, List, codes, bytes_eq, cond, Option, Some, None, refl, sym, ap, ◌∙◌}
 use Rattle.json_lines.specs.declared.member_name.MemberName.{MemberName}
 use Rattle.json_lines.specs.declared.member_name.MemberName.TheVariants.{Do, Now, Session, Path, Query, Value, Values, Id, Token, Rules}

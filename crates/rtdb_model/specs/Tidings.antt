@@ -6,7 +6,7 @@ use Rattle.rtdb_model.specs.declared.tidings.Sight.{Sight}
 use Rattle.rtdb_model.specs.declared.tidings.Sight.TheVariants as sights
 use Rattle.rtdb_model.specs.declared.tidings.Tiding.{Tiding}
 
--- what is told, of what is borrowed
+-- what a borrowed one reports
 abbrev pub what_of : Sight → What
 what_of sights.Gone = whats.Gone
 what_of (sights.Now view) = whats.Now view

@@ -62,7 +62,7 @@ impl<'a> Tidings<'a> {
         self.held.as_slice()
     }
 
-    /// The news that they are, each tree copied out of the arena: the cost of what is told.
+    /// The news that they are, owned: it copies each tree out of the arena, at the cost of its locations.
     pub fn copy(&self, alloc: Global) -> Result<News, NoMemory>
         ensures { IfOk result (λ news. news ≡ self.now) }
     {
