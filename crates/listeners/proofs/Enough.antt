@@ -25,7 +25,7 @@ use Rattle.listeners.specs.Working.Reach.{is_text, passes, IsReach, IsTextRun, I
 use Rattle.listeners.proofs.Counts.{count-map, filter-filter, all_within}
 use Rattle.listeners.proofs.Listing.{length-numbered, numbered_at, listed_all, looked_upto}
 use Rattle.listeners.proofs.Searching.{ascending}
-use Rattle.listeners.proofs.Thinning.{kept_thin}
+use Rattle.listeners.proofs.Thinning.{same_kept, kept_thin}
 
 -- ---- by an order of keys
 
@@ -249,3 +249,10 @@ pub enough_kept : (query : Query) (children : List Child) (reach : Reach) (items
 enough_kept query children reach items i enough listed past =
     ap (kept_among query) (listed ∙ listed_all query.order children (λ (e : ℕ × Child). is_looked_at reach e.0 && is_within query e.1) i past)
     ∙ kept_thin (ranked query.order) (λ (e : ℕ × Child). is_looked_at reach e.0) (λ (e : ℕ × Child). is_within query e.1) (numbered 0 children) query.limit_to_first query.limit_to_last enough.limits (others_gone query children reach enough)
+
+-- whether a rank is kept among those that were looked at
+pub enough_same : (query : Query) (children : List Child) (reach : Reach) (i : ℕ) (r : Rank) → IsEnough query children reach → length children ≤ i
+    → is_kept_of query.limit_to_first query.limit_to_last (looked_upto query children reach i) r ≡ is_kept_of query.limit_to_first query.limit_to_last (ranks_within query children) r
+enough_same query children reach i r enough past =
+    ap (λ rs. is_kept_of query.limit_to_first query.limit_to_last rs r) (listed_all query.order children (λ (e : ℕ × Child). is_looked_at reach e.0 && is_within query e.1) i past)
+    ∙ sym (same_kept (ranked query.order) (λ (e : ℕ × Child). is_looked_at reach e.0) (λ (e : ℕ × Child). is_within query e.1) (numbered 0 children) query.limit_to_first query.limit_to_last enough.limits (others_gone query children reach enough) r)

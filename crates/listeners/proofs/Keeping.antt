@@ -33,7 +33,7 @@ child_cmp-rank (Some (by_child path)) c d = refl
 
 -- ---- children with their indices
 
-map_numbered : (n : ℕ) (cs : List Child) → map (λ (e : ℕ × Child). e.1) (numbered n cs) ≡ cs
+pub map_numbered : (n : ℕ) (cs : List Child) → map (λ (e : ℕ × Child). e.1) (numbered n cs) ≡ cs
 map_numbered n [] = refl
 map_numbered n (c ∷ cs) = ap (λ ds. c ∷ ds) (map_numbered (suc n) cs)
 
@@ -104,7 +104,7 @@ module _ (query : Query) (cs : List Child) where
       ∙ ap length (filter_agree (λ (e : ℕ × Child). is_gt (child_cmp query.order e.1 c)) (λ e. is_gt (rank_cmp (rank_of query.order e.1) (rank_of query.order c))) (λ e. ap is_gt (child_cmp-rank query.order e.1 c)) numbered_within)
       ∙ sym (count-map (ranked query.order) (λ s. is_gt (rank_cmp s.1 (rank_of query.order c))) numbered_within)
 
-  is_kept-rank : (c : Child) → is_kept query cs c ≡ is_within query c && kept_rank (rank_of query.order c)
+  pub is_kept-rank : (c : Child) → is_kept query cs c ≡ is_within query c && kept_rank (rank_of query.order c)
   is_kept-rank c =
       (λ i. is_within query c && option_map_or (nat_lt (before-ranks c i)) query.limit_to_first true && option_map_or (nat_lt (after-ranks c i)) query.limit_to_last true)
       ∙ and_assoc (is_within query c) _ _

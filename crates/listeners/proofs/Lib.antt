@@ -15,4 +15,7 @@ pub mod Stretches
 pub mod Reaching
 pub mod Thinning
 pub mod Enough
+pub mod Staying
+pub mod Room
+pub mod Chosen
 pub mod WorkedSelections

@@ -34,7 +34,7 @@ child_exact order c d tied = list_exact c.0 d.0 (list_cmp-keyed c.0 d.0 ∙ then
 -- ---- what stands in a selection
 
 -- what is found among those that pass
-abbrev passed : (Child → Bool) → Key → Option Tree → Option Tree
+abbrev pub passed : (Child → Bool) → Key → Option Tree → Option Tree
 passed p k None = None
 passed p k (Some u) = cond (p (k, u)) (Some u) None
 
@@ -43,7 +43,7 @@ at_head true e k c cs is = ap (λ x. cond x (Some c.1) (find key_cmp k cs)) is
 at_head false true k c cs is = refl
 at_head false false k c cs is = refl
 
-find-filter : (p : Child → Bool) (k : Key) (cs : List Child) → is_sorted key_cmp cs ≡ true → find key_cmp k (filter p cs) ≡ passed p k (find key_cmp k cs)
+pub find-filter : (p : Child → Bool) (k : Key) (cs : List Child) → is_sorted key_cmp cs ≡ true → find key_cmp k (filter p cs) ≡ passed p k (find key_cmp k cs)
 find-filter p k [] h = refl
 find-filter p k (c ∷ cs) h =
     elim (eq_by_cmp key_cmp k c.0) as (λ e. eq_by_cmp key_cmp k c.0 ≡ e → find key_cmp k (filter p (c ∷ cs)) ≡ passed p k (cond e (Some c.1) (find key_cmp k cs))) [

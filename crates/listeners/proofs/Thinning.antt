@@ -77,7 +77,8 @@ module _ {E : Type 0} (f : E → ℕ × Rank) (look p : E → Bool) (es : List E
   abbrev Lost : Option ℕ → Option ℕ → E → Type 0
   Lost first last e = look e ≡ false → p e ≡ true → is_kept_of first last thin (f e).1 ≡ false
 
-  same_kept : (first last : Option ℕ) → (first ≡ None) ⊎ (last ≡ None) → AllByRecursion (Lost first last) es → (r : Rank) → is_kept_of first last full r ≡ is_kept_of first last thin r
+  -- whether a rank is kept is the same in both
+  pub same_kept : (first last : Option ℕ) → (first ≡ None) ⊎ (last ≡ None) → AllByRecursion (Lost first last) es → (r : Rank) → is_kept_of first last full r ≡ is_kept_of first last thin r
   same_kept None None one lost r = refl
   same_kept (Some n) None one lost r = ap (λ b. b && true) (same_test (λ a b. is_lt (rank_cmp a b)) before_trans n
       (each_weaker (Lost (Some n) None) (λ e. look e ≡ false → p e ≡ true → n ≤ count_before (f e).1 thin) (λ e h left within. ltb-false (count_before (f e).1 thin) n (and_true (nat_lt (count_before (f e).1 thin) n) (h left within))) es lost) r)

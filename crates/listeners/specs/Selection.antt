@@ -1,5 +1,5 @@
 -- Which part of a tree a query selects.
-use Rattle.std.specs.Prelude.{ℕ, ◌&&◌, List, [], length, filter, Bool, true, not, nat_lt, if◌then◌else◌, Option, Some, None}
+use Rattle.std.specs.Prelude.{ℕ, ◌&&◌, List, [], ◌∷◌, length, filter, Bool, true, not, nat_lt, if◌then◌else◌, Option, Some, None}
 use Rattle.std.specs.Option.{option_map_or}
 use Rattle.std.specs.FinMap as map_of
 use Rattle.std.specs.declared.cmp.Ordering.{Ordering}
@@ -76,6 +76,10 @@ is_kept query cs c =
 -- the tree of the children that are kept. Of one primitive, or of nothing, none are
 abbrev pub selected : Query → Tree → Tree
 selected query t = graft (filter (is_kept query (map_of.entries (children t))) (map_of.entries (children t)))
+
+-- the child of this key is one of them
+abbrev pub is_selected : Query → Tree → Key → Bool
+is_selected query t k = not (is_null (sub t (k ∷ []))) && is_kept query (map_of.entries (children t)) (k, sub t (k ∷ []))
 
 -- what is selected: without a query the whole
 unfoldable pub selection : Tree → Option Query → Tree

@@ -6,3 +6,4 @@ pub mod Ranks
 pub mod Items
 pub mod Heard
 pub mod Reach
+pub mod Ahead

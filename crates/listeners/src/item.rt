@@ -3,9 +3,9 @@ ghost use Rattle.std.specs.Prelude.{◌≡◌, Some, option_map, slice_get};
 ghost use Rattle.tree_model.specs.Key.{Key as KeyBytes};
 ghost use Rattle.arena_snapshot.specs.Working.Change.{entries_of};
 ghost use Rattle.listeners.specs.Selection.{Child};
-ghost use Rattle.listeners.specs.Working.Items.{place_seen, item_seen, item_cmp};
+ghost use Rattle.listeners.specs.Working.Items.{place_seen, rank_seen, item_seen, item_cmp};
 ghost use Rattle.listeners.specs.Working.Parts.{order_seen};
-ghost use Rattle.listeners.specs.Working.Ranks.{place_by, ranked};
+ghost use Rattle.listeners.specs.Working.Ranks.{place_by, rank_of, ranked};
 
 use crate::list_key::ListKey;
 use crate::order::Order;
@@ -34,6 +34,17 @@ impl<'a> Item<'a> {
             place,
             key: ListKey::new(key.text()),
         })
+    }
+
+    // A child of this key, in this order. Its index is not asked for.
+    pub(crate) fn of_key(key: &'a str, child: &View<'a>, order: &Option<Order>) -> Item<'a>
+        ensures { rank_seen result ≡ rank_of (option_map order_seen order.now) (key.now, child.now) }
+    {
+        Item {
+            index: 0,
+            place: place_by(child, order),
+            key: ListKey::new(key),
+        }
     }
 
     // The order of children: by their places, those of one place by their keys.

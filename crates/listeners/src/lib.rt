@@ -16,6 +16,7 @@ mod limits;
 mod list_key;
 mod listener_id;
 mod members;
+mod membership;
 mod number;
 mod order;
 mod place;
@@ -37,6 +38,7 @@ pub use limits::{
     MAX_ID_BYTES, MAX_LIMIT, MAX_LISTENERS, the_greatest_limit, the_limits_of_listeners,
 };
 pub use listener_id::ListenerId;
+pub use membership::{selects, selects_beside};
 pub use query::Query;
 pub use selection::select;
 pub use table::{AddFault, Listener, NoListener, Table};

@@ -2,7 +2,10 @@
 ghost use Rattle.std.specs.Prelude.{◌≡◌, IfOk, string_bytes};
 ghost use Rattle.path_capture.specs.Path.{segments};
 ghost use Rattle.listeners.specs.Query.{joined};
+ghost use Rattle.listeners.specs.Working.Ahead.{number_in, is_ahead};
+ghost use Rattle.listeners.specs.Working.Items.{rank_seen};
 
+use crate::item::Item;
 use json_tree::{Key, NoMemory};
 use path_capture::Path;
 use std::alloc::Global;
@@ -28,6 +31,27 @@ pub(crate) struct ChildPath {
 pub(crate) enum Limit {
     First(u16),
     Last(u16),
+}
+
+impl Limit {
+    // How many it keeps.
+    pub(crate) fn number(self) -> usize
+        ensures { result ≡ number_in self }
+    {
+        match self {
+            Limit::First(n) | Limit::Last(n) => usize::from(n),
+        }
+    }
+
+    // Whether a child stands ahead of another, from the end at which it begins to count.
+    pub(crate) fn is_ahead(self, other: &Item<'_>, item: &Item<'_>) -> bool
+        ensures { result ≡ is_ahead self (rank_seen item.now) (rank_seen other.now) }
+    {
+        match self {
+            Limit::First(_) => other.compare(item).is_lt(),
+            Limit::Last(_) => other.compare(item).is_gt(),
+        }
+    }
 }
 
 impl ChildPath {

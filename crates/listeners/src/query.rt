@@ -4,8 +4,9 @@ ghost use Rattle.std.specs.Bool.{OnTrue, OnFalse};
 ghost use Rattle.serde_json.specs.View.{view};
 ghost use Rattle.evaluator.specs.Asked.{asked_of};
 ghost use Rattle.arena_snapshot.specs.Working.Change.{entries_of};
-ghost use Rattle.listeners.specs.Working.Items.{item_seen, marks_seen, lies_inside};
-ghost use Rattle.listeners.specs.Working.Ranks.{Rank, marks_of, ranked, is_kept_of};
+ghost use Rattle.listeners.specs.Working.Items.{rank_seen, item_seen, marks_seen, lies_inside};
+ghost use Rattle.listeners.specs.Working.Parts.{first_of, last_of};
+ghost use Rattle.listeners.specs.Working.Ranks.{Rank, rank_of, marks_of, ranked, is_kept_of};
 ghost use Rattle.listeners.specs.Working.Reach.{is_of_keys, IsEnough};
 ghost use Rattle.listeners.specs.Query.{query_of, asked_by, IsLawfulQuery};
 
@@ -162,6 +163,29 @@ impl Query {
             ≡ option_map (λ c. ranked self.now.order (index, c)) (slice_get (entries_of view.now) index) }
     {
         Item::of_child(view, index, &self.parts.order)
+    }
+
+    // A child of this key, in the order of the query. Its index is not asked for.
+    pub(crate) fn item_of<'a>(&self, key: &'a str, child: &View<'a>) -> Item<'a>
+        ensures { rank_seen result ≡ rank_of self.now.order (key.now, child.now) }
+    {
+        Item::of_key(key, child, &self.parts.order)
+    }
+
+    // Whether children are ordered by their keys.
+    pub(crate) fn is_by_keys(&self) -> bool {
+        match &self.parts.order {
+            None | Some(Order::Key) => true,
+            Some(Order::Value | Order::Child(_)) => false,
+        }
+    }
+
+    // How many children are asked for, if not all.
+    pub(crate) fn limit(&self) -> Option<Limit>
+        ensures first { first_of result ≡ self.now.limit_to_first }
+        ensures last { last_of result ≡ self.now.limit_to_last }
+    {
+        self.parts.limit
     }
 
     // The edge of its limit among these children.

@@ -1,11 +1,15 @@
 -- Where a child stands in the order of a query: its place, and its key with the number of this key.
 use Rattle.std.specs.Prelude.{ℕ, suc, ◌&&◌, List, [], ◌∷◌, map, filter, length, Bool, true, not, nat_lt, ℤ, Option, Some, None, option_map}
 use Rattle.std.specs.Option.{option_map_or}
+use Rattle.std.specs.FinMap as map_of
+use Rattle.std.specs.List.{list_any}
+use Rattle.std.specs.Str.{bytes_eq}
 use Rattle.std.specs.declared.cmp.Ordering.{Ordering}
 use Rattle.std.specs.Ordering.{is_lt, is_gt, is_eq, ordering_then}
 use Rattle.tree_model.specs.Key.{Key, key_cmp}
 use Rattle.tree_model.specs.PathMap.{sub}
 use Rattle.tree_model.specs.Primitive.{Primitive, truth, whole, words}
+use Rattle.tree_model.specs.Tree.{Tree, children}
 use Rattle.listeners.specs.Order.{number_of, numbered_cmp, length_cmp, Place, nothing, value, place_cmp}
 use Rattle.listeners.specs.Query.{Order, by_key, by_value, by_child, Query}
 use Rattle.listeners.specs.Selection.{Child, place_of, is_within}
@@ -87,6 +91,14 @@ ranked order e = (e.0, rank_of order e.1)
 
 abbrev pub ranks_within : Query → List Child → List (ℕ × Rank)
 ranks_within query cs = map (ranked query.order) (filter (λ e. is_within query e.1) (numbered 0 cs))
+
+-- the key is one of these
+abbrev pub is_among : Key → List Key → Bool
+is_among k ks = list_any (bytes_eq k) ks
+
+-- the same of those alone whose keys are none of these
+abbrev pub other_ranks : Query → Tree → List Key → List (ℕ × Rank)
+other_ranks query t ks = map (ranked query.order) (filter (λ e. not (is_among e.1.0 ks) && is_within query e.1) (numbered 0 (map_of.entries (children t))))
 
 -- ---- limits
 
