@@ -1,11 +1,12 @@
 //! What the program does for the words of its command line.
-ghost use Rattle.std.specs.Prelude.{◌≡◌, ◌≢◌, ◌⊎◌, [], map, string_bytes, true, false, IfOk};
+ghost use Rattle.std.specs.Prelude.{◌≡◌, ◌≢◌, ◌<◌, ◌⊎◌, [], map, length, string_bytes, true, false, IfOk};
 ghost use Rattle.std.specs.Io.KnownBytes.{Appends};
 ghost use Rattle.clap.specs.Words.{fault_of};
 ghost use Rattle.sessions.specs.Said.{as_line};
 ghost use Rattle.rtdb.specs.Order.{the_program, Wanted, AreOrder};
 ghost use Rattle.rtdb.specs.Status.{bad_line, failed, no_memory, status_of};
 ghost use Rattle.rtdb.specs.Command.{IsChecked, HasChecked, HasRun, HasDone};
+ghost use Rattle.rtdb.specs.Working.{IsTooLong};
 
 use crate::files::{Files, ReadFault};
 use crate::line::order;
@@ -13,7 +14,7 @@ use crate::wanted::{LineFault, Order};
 use answers::{write_accepted, write_rules_fault};
 use bumpalo::Bump;
 use json_tree::NoMemory;
-use rules_reader::compile;
+use rules_reader::{MAX_FILE_BYTES, compile};
 use sessions::{ScriptEnd, Sink, Source, run_last_script, send_text};
 use std::alloc::Global;
 use std::io;
@@ -30,12 +31,13 @@ pub const BAD_LINE: u8 = 2;
 // A file could not be read, or an output not be written.
 const FAILED: u8 = 3;
 
-/// Want of memory.
-pub const NO_MEMORY: u8 = 4;
+// Want of memory.
+const NO_MEMORY: u8 = 4;
 
 /// Does what the words want, of which the first is the program's name, and answers the status to end
-/// with. What is wrong with the words, a file or a stream is told to `faults`; that telling it may
-/// fail changes nothing. A check holds the whole file in memory, and its plain text.
+/// with. What is wrong with the words, a file or a stream, and that memory is used up, is reported to `faults`; that
+/// this may fail changes nothing. A check holds the file in memory, and its plain text; of a file that is longer
+/// than a rules file may be it reads one byte more than that.
 pub fn command<F: Files, R: Source, W: Sink, E: io::Write>(
     alloc: Global,
     words: &[String],
@@ -64,8 +66,16 @@ pub fn command<F: Files, R: Source, W: Sink, E: io::Write>(
             let _told = write!(faults, "{error}");
             BAD_LINE
         }
-        Err(LineFault::NoMemory) => NO_MEMORY,
+        Err(LineFault::NoMemory) => out_of_memory(faults),
     }
+}
+
+// Reports that memory is used up, and says the status.
+pub(crate) fn out_of_memory<E: io::Write>(faults: &mut E) -> u8
+    ensures { result ≡ no_memory }
+{
+    let _reported = writeln!(faults, "rtdb: out of memory");
+    NO_MEMORY
 }
 
 // Runs a script.
@@ -83,10 +93,21 @@ fn run<R: Source, W: Sink, E: io::Write>(
 {
     let mut arena = Bump::new(alloc);
     let end = run_last_script(alloc, input, output, &mut arena);
-    if end == ScriptEnd::ReadFault || end == ScriptEnd::WriteFault {
-        let _told = writeln!(faults, "rtdb: input or output failed");
-    }
+    report(end, faults);
     status_of(end)
+}
+
+// Reports how a script ended, where that is neither its own end nor a header that is refused.
+fn report<E: io::Write>(end: ScriptEnd, faults: &mut E) {
+    match end {
+        ScriptEnd::Finished | ScriptEnd::BadHeader => {}
+        ScriptEnd::ReadFault | ScriptEnd::WriteFault => {
+            let _reported = writeln!(faults, "rtdb: input or output failed");
+        }
+        ScriptEnd::NoMemory => {
+            let _status = out_of_memory(faults);
+        }
+    }
 }
 
 fn status_of(end: ScriptEnd) -> u8
@@ -112,16 +133,16 @@ fn check<F: Files, W: Sink, E: io::Write>(
     ensures checked { HasChecked (F.bytes files.now name.now) (W.written output.old) (W.written output.new) (W.failed output.new) result }
     ensures broken { W.failed output.new ≡ true → result ≡ failed }
 {
-    match files.read(alloc, name) {
+    match files.read(alloc, name, MAX_FILE_BYTES) {
         Ok(bytes) => match answer(alloc, &bytes) {
             Ok(answer) => print(&answer, output, faults),
-            Err(_) => NO_MEMORY,
+            Err(_) => out_of_memory(faults),
         },
         Err(ReadFault::Unreadable) => {
             let _told = writeln!(faults, "rtdb: can't read {name}");
             FAILED
         }
-        Err(ReadFault::NoMemory) => NO_MEMORY,
+        Err(ReadFault::NoMemory) => out_of_memory(faults),
     }
 }
 
@@ -132,8 +153,10 @@ struct Checked {
     status: u8,
 }
 
+// The answer to a file of these bytes.
 fn answer(alloc: Global, bytes: &[u8]) -> Result<Checked, NoMemory>
-    ensures { IfOk result (λ answer. IsChecked bytes.now answer.line.items answer.status) }
+    ensures checked { IfOk result (λ answer. IsChecked bytes.now answer.line.items answer.status) }
+    ensures too_long { MAX_FILE_BYTES < length bytes.now → IfOk result (λ answer. IsTooLong answer.line.items answer.status) }
 {
     match compile(alloc, bytes) {
         Ok(rules) => Ok(Checked {

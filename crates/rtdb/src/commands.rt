@@ -17,7 +17,7 @@ const GOOD: &[u8] = b"{\"rules\":{\".read\":true}}";
 impl Files for Shelf {
     ghost bytes = { λ _ _. None };
 
-    fn read(&self, alloc: Global, name: &str) -> Result<Vec<u8>, ReadFault> {
+    fn read(&self, alloc: Global, name: &str, _limit: usize) -> Result<Vec<u8>, ReadFault> {
         if name != "good" {
             return Err(ReadFault::NoMemory);
         }
@@ -104,7 +104,14 @@ const ROWS: [Row; 3] = [
         "rtdb: input or output failed\n",
         3,
     ),
-    (&["check", "full"], SCRIPT, 100, "", "", 4),
+    (
+        &["check", "full"],
+        SCRIPT,
+        100,
+        "",
+        "rtdb: out of memory\n",
+        4,
+    ),
 ];
 
 fn words_of(alloc: Global, row: &Row) -> Result<Vec<String>, AllocError> {

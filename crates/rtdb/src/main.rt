@@ -14,7 +14,7 @@ mod files;
 mod line;
 mod wanted;
 
-use command::{BAD_LINE, NO_MEMORY, command};
+use command::{BAD_LINE, command, out_of_memory};
 use files::SystemFiles;
 use sessions::{Reading, Writing};
 use std::process::ExitCode;
@@ -31,7 +31,7 @@ fn main(rt: HostRuntime) -> ExitCode {
             &mut rt.stderr(),
         ),
         Err(fault) => match fault.kind() {
-            io::ErrorKind::OutOfMemory => NO_MEMORY,
+            io::ErrorKind::OutOfMemory => out_of_memory(&mut rt.stderr()),
             _ => refuse(&rt),
         },
     };

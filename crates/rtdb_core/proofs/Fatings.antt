@@ -1,5 +1,5 @@
 -- What is decided of listeners and then made is what judging them again makes.
-use Rattle.std.proofs.Common.{◌≡◌, ℕ, zero, suc, ◌+◌, ◌^◌, ◌<◌, ◌≤◌, Bool, true, false, ◌||◌, cond, eqb, List, [], ◌∷◌, ◌++◌, map, length, take, drop, Option, Some, None, sym, ap, subst, ◌∙◌, refl, arith, append_assoc, length-append, append-nil}
+use Rattle.std.proofs.Common.{◌≡◌, ℕ, zero, suc, ◌+◌, ◌^◌, ◌<◌, ◌≤◌, Bool, true, false, not, ◌&&◌, ◌||◌, cond, eqb, List, [], ◌∷◌, ◌++◌, map, length, take, drop, Option, Some, None, sym, ap, subst, ◌∙◌, refl, arith, append_assoc, length-append, append-nil}
 use Rattle.std.proofs.lemmas.Bool.{eq-eqb, eqb-true, ltb-false}
 use Rattle.std.proofs.lemmas.List.{length-map}
 use Rattle.std.specs.Prelude.{nat_lt, slice_get, slice_set, IfSome}
@@ -22,10 +22,11 @@ use Rattle.rtdb_model.proofs.Slots.{changed}
 
 -- ---- one listener
 
-fated_is : (id : List ℕ) (path : Path) (query : Option Query) (live marked granted moved : Bool) → (let l : Listener = record { id = id; path = path; query = query; live = live; marked = marked } in fated (fate_by live granted moved) l ≡ judged granted moved l)
+fated_is : (id : List ℕ) (path : Path) (query : Option Query) (live marked granted moved : Bool) → (let l : Listener = record { id = id; path = path; query = query; live = live; marked = marked } in fated (fate_by live granted (moved && not marked)) l ≡ judged granted moved l)
 fated_is id path query false marked granted moved = refl
 fated_is id path query true marked false moved = refl
-fated_is id path query true marked true true = refl
+fated_is id path query true true true true = refl
+fated_is id path query true false true true = refl
 fated_is id path query true marked true false = refl
 
 module _ (old : Tree) (new : State) (now : ℕ) (who : Option Identity) where

@@ -15,3 +15,4 @@ pub mod Seating
 pub mod Ending
 pub mod Deciding
 pub mod Finding
+pub mod Selecting

@@ -1,5 +1,5 @@
 -- A listener that stays as it is, since what its read depends on has not changed.
-use Rattle.std.proofs.Common.{◌≡◌, ℕ, true, List, [], ◌∷◌, map, Option, Some, None, sym, ap, ◌∙◌, subst, refl}
+use Rattle.std.proofs.Common.{◌≡◌, ℕ, true, not, ◌&&◌, List, [], ◌∷◌, map, Option, Some, None, sym, ap, ◌∙◌, subst, refl}
 use Rattle.std.specs.Prelude.{All, option_and_then, slice_get}
 use Rattle.std.specs.List.{AllByRecursion}
 use Rattle.std.specs.Ordering.{nat_cmp}
@@ -44,7 +44,7 @@ same_there rules old new path before =
 pub fate_stays : (rules : Book) (old new : Tree) (now : ℕ) (who : Option Identity) (l : Listener) → l.live ≡ true → IsHeard rules old who l → IsAsBefore rules old new l.path → None ≡ fate_of old rules new now who l
 fate_stays rules old new now who l live heard before =
     let was = heard live in
-    sym (λ i. fate_by (live i) (hears_still rules old new was.0 now who l.path l.query before was.1 i) (stays old new l.path l.query (same_there rules old new l.path before) i))
+    sym (λ i. fate_by (live i) (hears_still rules old new was.0 now who l.path l.query before was.1 i) (stays old new l.path l.query (same_there rules old new l.path before) i && not l.marked))
 
 -- ---- all listeners of a session
 

@@ -7,6 +7,7 @@
 //! [`Core::end_poll`].
 #![tactic(auto)]
 
+mod children;
 mod database;
 mod fates;
 mod judged;
@@ -15,6 +16,7 @@ mod moved;
 mod passage;
 mod refusals;
 mod rejudging;
+mod scratch;
 mod selected;
 mod session;
 mod telling;

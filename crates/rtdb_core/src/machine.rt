@@ -424,7 +424,7 @@ impl Machine {
         ensures fits { IfOk result (λ decisions. length session.now.listeners < 2 ^ 64) }
     {
         let passage = Passage::staying(&self.rules, self.tree.as_ref(), now, was_heard);
-        decide_own(arena, &passage, who, session.listeners())
+        decide_own(self.alloc, arena, &passage, who, session.listeners())
     }
 
     // Signs in whoever this is on an open session, or signs out, and makes what was decided.
@@ -945,7 +945,7 @@ impl Machine {
         ensures made { IfOk result (λ decisions. decisions.made.items ≡ sparse 0 (fates_of (tree_before passage.now) passage.now.rules.now (tree_after passage.now) passage.now.moment (all_sessions self.now.sessions))) }
         ensures fits { IfOk result (λ decisions. length (fates_of (tree_before passage.now) passage.now.rules.now (tree_after passage.now) passage.now.moment (all_sessions self.now.sessions)) < 2 ^ 64) }
     {
-        decide_all(arena, passage, &self.sessions)
+        decide_all(self.alloc, arena, passage, &self.sessions)
     }
 
     // Makes what was decided of all listeners.

@@ -8,7 +8,9 @@ ghost use Rattle.listeners.specs.Selection.{selection};
 ghost use Rattle.rtdb_model.specs.Rejudged.{moves, same_tree};
 ghost use Rattle.rtdb_core.specs.Working.Passages.{IsPassage, tree_before, tree_after};
 
+use crate::children::{a_child_moves, reach_few_children};
 use crate::passage::Passage;
+use crate::scratch::Scratch;
 use crate::selected::stored;
 use arena_snapshot::{View, is_changed, same};
 use bumpalo::Bump;
@@ -63,10 +65,10 @@ impl<'a, 'p, 's> Moved<'a, 'p, 's> {
     }
 
     /// Whether what a query selects of a path has moved, without a query all that stands there. It takes
-    /// memory where something there has changed, and it is not known of the query.
+    /// memory where more has changed there than a few children, and it is not known of the query.
     pub(crate) fn has(
         &mut self,
-        arena: &Bump,
+        scratch: &mut Scratch<'_>,
         path: &'s Path,
         query: Option<&'s Query>,
     ) -> Result<bool, NoMemory>
@@ -82,7 +84,7 @@ impl<'a, 'p, 's> Moved<'a, 'p, 's> {
         if let Some(moved) = self.find(path, query) {
             return Ok(moved);
         }
-        let moved = selection_moves(arena, self.passage, path, query)?;
+        let moved = selection_moves(scratch, self.passage, path, query)?;
         self.keep(path, query, moved);
         Ok(moved)
     }
@@ -112,6 +114,22 @@ impl<'a, 'p, 's> Moved<'a, 'p, 's> {
 
 // Whether what a query selects of a path has moved.
 fn selection_moves(
+    scratch: &mut Scratch<'_>,
+    passage: &Passage<'_>,
+    path: &Path,
+    query: &Query,
+) -> Result<bool, NoMemory>
+    requires { IsPassage passage.now }
+    ensures { IfOk result (λ moved. moved ≡ moves (tree_before passage.now) (tree_after passage.now) path.now (Some query.now)) }
+{
+    if reach_few_children(passage.writes, path) {
+        return Ok(a_child_moves(passage, path, query));
+    }
+    compared(scratch.arena()?, passage, path, query)
+}
+
+// The same, by the selections before and after.
+fn compared(
     arena: &Bump,
     passage: &Passage<'_>,
     path: &Path,

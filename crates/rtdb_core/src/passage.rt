@@ -11,6 +11,7 @@ ghost use Rattle.rtdb_core.specs.Working.Passages.{IsPassage, tree_before, tree_
 
 use crate::fates::Fate;
 use crate::moved::Moved;
+use crate::scratch::Scratch;
 use crate::selected::{asked_for, stored};
 use arena_snapshot::{View, is_changed_at};
 use bumpalo::Bump;
@@ -62,10 +63,11 @@ impl<'a> Passage<'a> {
 }
 
 /// What becomes of a listener of whoever is signed in. Its rules are evaluated only where it may be that
-/// they don't grant its read any longer. The arena takes what they make and bind, and, where its query's
-/// selection may have moved, that before and after the step.
+/// they don't grant its read any longer, and what it selects is looked at only where it has no mark. The scratch
+/// takes what rules make and bind, and, where more has changed than a few children, the selections before and after
+/// the step.
 pub(crate) fn fate_of<'s>(
-    arena: &Bump,
+    scratch: &mut Scratch<'_>,
     passage: &Passage<'_>,
     who: Option<&Identity>,
     listener: &Listener<'s>,
@@ -83,10 +85,13 @@ pub(crate) fn fate_of<'s>(
     if stays(passage, listener.path) {
         return Ok(None);
     }
-    if !hears(arena, passage, who, listener)? {
+    if !hears(scratch.arena()?, passage, who, listener)? {
         return Ok(Some(Fate::Cancelled));
     }
-    if moved.has(arena, listener.path, listener.query)? {
+    if listener.is_marked {
+        return Ok(None);
+    }
+    if moved.has(scratch, listener.path, listener.query)? {
         return Ok(Some(Fate::Marked));
     }
     Ok(None)

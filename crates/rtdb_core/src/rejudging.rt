@@ -12,15 +12,18 @@ ghost use Rattle.rtdb_core.specs.Working.Passages.{IsPassage, tree_before, tree_
 use crate::fates::{Decision, Decisions, Docket};
 use crate::moved::Moved;
 use crate::passage::{Passage, fate_of};
+use crate::scratch::Scratch;
 use crate::session::Session;
 use bumpalo::Bump;
 use evaluator::Identity;
 use json_tree::NoMemory;
 use listeners::Table;
+use std::alloc::Global;
 use std::collections::BTreeMap;
 
 /// What becomes of all listeners of all sessions.
 pub(crate) fn decide_all<'a, 'p>(
+    alloc: Global,
     arena: &'a Bump,
     passage: &'p Passage<'p>,
     sessions: &BTreeMap<u64, Session>,
@@ -32,10 +35,11 @@ pub(crate) fn decide_all<'a, 'p>(
     ensures ordered { IsOrdered nat_cmp sessions.now }
 {
     let mut decisions = Decisions::new(arena);
+    let mut scratch = Scratch::new(alloc, arena);
     let mut moved = Moved::by(arena, passage);
     for session in sessions.values() {
         decide_each(
-            arena,
+            &mut scratch,
             passage,
             session.identity(),
             session.listeners(),
@@ -62,6 +66,7 @@ pub(crate) fn somebody_listens(sessions: &BTreeMap<u64, Session>) -> bool
 
 /// What becomes of the listeners of whoever is signed in.
 pub(crate) fn decide_own<'a, 'p>(
+    alloc: Global,
     arena: &'a Bump,
     passage: &'p Passage<'p>,
     who: Option<&Identity>,
@@ -73,8 +78,16 @@ pub(crate) fn decide_own<'a, 'p>(
     ensures fits { IfOk result (λ decisions. length listeners.now < 2 ^ 64) }
 {
     let mut decisions = Decisions::new(arena);
+    let mut scratch = Scratch::new(alloc, arena);
     let mut moved = Moved::by(arena, passage);
-    decide_each(arena, passage, who, listeners, &mut moved, &mut decisions)?;
+    decide_each(
+        &mut scratch,
+        passage,
+        who,
+        listeners,
+        &mut moved,
+        &mut decisions,
+    )?;
     decisions.law();
     Ok(decisions)
 }
@@ -83,7 +96,7 @@ pub(crate) fn decide_own<'a, 'p>(
 // them.
 #[inline(always)]
 fn decide_each<'s>(
-    arena: &Bump,
+    scratch: &mut Scratch<'_>,
     passage: &Passage<'_>,
     who: Option<&Identity>,
     listeners: &'s Table,
@@ -100,11 +113,11 @@ fn decide_each<'s>(
     if listeners.len() == 0 {
         return Ok(());
     }
-    decide_some(arena, passage, who, listeners, moved, decisions)
+    decide_some(scratch, passage, who, listeners, moved, decisions)
 }
 
 fn decide_some<'s>(
-    arena: &Bump,
+    scratch: &mut Scratch<'_>,
     passage: &Passage<'_>,
     who: Option<&Identity>,
     listeners: &'s Table,
@@ -119,7 +132,7 @@ fn decide_some<'s>(
     ensures made { OnOk result (decisions.new.made.items ≡ decisions.old.made.items ++ sparse decisions.old.place (map (fate_of (tree_before passage.now) passage.now.rules.now (tree_after passage.now) passage.now.moment (who_of who.entry)) listeners.now)) }
 {
     for index in 0..listeners.len() {
-        let fate = fate_of(arena, passage, who, &listeners.entry(index), moved)?;
+        let fate = fate_of(scratch, passage, who, &listeners.entry(index), moved)?;
         decisions.push(fate)?;
     }
     Ok(())

@@ -1,5 +1,5 @@
 -- What events are refused for, and what becomes of listeners, as the code decides and makes it. No public clause stands on these words.
-use Rattle.std.specs.Prelude.{◌≡◌, ℕ, suc, ◌+◌, ◌-◌, ◌^◌, ◌==◌, List, [], ◌∷◌, ◌++◌, map, length, min, nat_le, nat_lt, Bool, if◌then◌else◌, Option, None, Some}
+use Rattle.std.specs.Prelude.{◌≡◌, ℕ, suc, ◌+◌, ◌-◌, ◌^◌, ◌==◌, List, [], ◌∷◌, ◌++◌, map, length, min, nat_le, nat_lt, ◌&&◌, Bool, not, if◌then◌else◌, Option, None, Some}
 use Rattle.std.specs.FinMap as map_of
 use Rattle.evaluator.specs.Identity.{Identity}
 use Rattle.tree_model.specs.Tree.{Tree}
@@ -25,10 +25,10 @@ use Rattle.rtdb_core.specs.declared.fates.Decision.{Decision}
 
 -- ---- one listener
 
--- what becomes of a listener, None where it stays
-abbrev pub fate_by : (live granted moved : Bool) → Option Fate
-fate_by live granted moved =
-    if live then (if granted then (if moved then Some Marked else None) else Some Cancelled) else None
+-- what becomes of a listener, None where it stays, as one does that has a mark already
+abbrev pub fate_by : (live granted news : Bool) → Option Fate
+fate_by live granted news =
+    if live then (if granted then (if news then Some Marked else None) else Some Cancelled) else None
 
 -- the listener after it; what is cancelled stays
 abbrev pub fated_live : Fate → Listener → Listener
@@ -44,7 +44,7 @@ abbrev pub scene_by : Book → Tree → ℕ → Option Identity → Scene
 scene_by rules new now who = record { book = rules; who = who; moment = now; old = new }
 
 abbrev pub fate_of : Tree → Book → Tree → ℕ → Option Identity → Listener → Option Fate
-fate_of old rules new now who l = fate_by l.live (hears (scene_by rules new now who) l.path l.query) (moves old new l.path l.query)
+fate_of old rules new now who l = fate_by l.live (hears (scene_by rules new now who) l.path l.query) (moves old new l.path l.query && not l.marked)
 
 -- ---- all listeners: what is noted are those that don't stay, by their places
 

@@ -1,6 +1,10 @@
 -- What was found of queries. No public clause stands on these words.
-use Rattle.std.specs.Prelude.{◌≡◌, List, Some, All}
+use Rattle.std.specs.Prelude.{◌≡◌, ◌≢◌, ◌⊎◌, true, false, List, [], ◌∷◌, Some, All}
+use Rattle.tree_model.specs.Key.{Key}
+use Rattle.tree_model.specs.PathMap.{sub}
 use Rattle.tree_model.specs.Tree.{Tree}
+use Rattle.listeners.specs.Query.{Query}
+use Rattle.listeners.specs.Selection.{is_selected}
 use Rattle.rtdb_model.specs.Rejudged.{moves}
 use Rattle.rtdb_core.specs.declared.moved.Found.{Found}
 
@@ -10,3 +14,13 @@ IsFound before after found = found.moved ≡ moves before after found.path.now (
 
 abbrev pub AreFound : Tree → Tree → List Found → Type 0
 AreFound before after all = All (IsFound before after) all
+
+-- ---- by children
+
+-- a child changes that is selected before or after
+abbrev pub IsMovedBy : Query → Tree → Tree → Key → Type 0
+IsMovedBy query before after k = (sub before (k ∷ []) ≢ sub after (k ∷ [])) × ((is_selected query before k ≡ true) ⊎ (is_selected query after k ≡ true))
+
+-- a child stays, or it is selected neither before nor after
+abbrev pub IsLeft : Query → Tree → Tree → Key → Type 0
+IsLeft query before after k = (sub before (k ∷ []) ≡ sub after (k ∷ [])) ⊎ ((is_selected query before k ≡ false) × (is_selected query after k ≡ false))

@@ -6,7 +6,7 @@ use Rattle.judge.proofs.Coming.{tree_or_null-non_null}
 use Rattle.listeners.specs.Selection.{selection}
 use Rattle.rtdb_core.specs.Working.Passages.{tree_before, tree_after}
 use Rattle.rtdb_core.proofs.Passing.{stored_tree, moved_by}
-use Rattle.rtdb_core.proofs.moved.selection_moves.Goals as goal
+use Rattle.rtdb_core.proofs.moved.compared.Goals as goal
 
 pub returns : goal.returns
 returns c =
