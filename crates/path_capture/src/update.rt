@@ -1,5 +1,6 @@
 //! The writes of one update, made in a stored tree in place: all of them, or none.
 ghost use Rattle.std.specs.Prelude.{◌≡◌, ◌≢◌, ◌∷◌, [], false, reverse, All, IsOk, OnOk, OnErr};
+ghost use Rattle.std.specs.List.Sorted.{IsPermutation};
 ghost use Rattle.tree_model.specs.Tree.{null, non_null};
 ghost use Rattle.tree_model.specs.Write.{written, overlaps, proposed};
 ghost use Rattle.path_capture.specs.Write.{tree_or_null};
@@ -13,7 +14,9 @@ use std::alloc::Global;
 /// none. The writes that put something are made first, one after another; where one is refused memory,
 /// those that were made are undone, the last first, without taking memory. Then come the removals, which
 /// take none. Each write costs as much as one alone, and the copies of the keys that lead to where it
-/// changes the tree.
+/// changes the tree. What is put is put in the order of the locations, and what is removed in the opposite one,
+/// so that of many children of one node none is moved for those that come behind all others, or go from there. The
+/// writes are sorted for it: n · log n comparisons, and n where they are in order.
 pub fn make_all(alloc: Global, tree: &mut Option<Node>, writes: Vec<Write>) -> Result<(), NoMemory>
     requires { overlaps writes.items ≡ false }
     ensures ok { OnOk result (tree_or_null tree.new ≡ proposed (tree_or_null tree.old) writes.items) }
@@ -22,9 +25,11 @@ pub fn make_all(alloc: Global, tree: &mut Option<Node>, writes: Vec<Write>) -> R
 {
     law_of(tree);
     let mut left = writes;
+    sort_backwards(&mut left);
     let mut undos = Vec::new(alloc);
     match make_puts(alloc, tree, &mut left, &mut undos) {
         Ok(()) => {
+            sort_backwards(&mut left);
             make_removals(alloc, tree, left);
             Ok(())
         }
@@ -35,7 +40,14 @@ pub fn make_all(alloc: Global, tree: &mut Option<Node>, writes: Vec<Write>) -> R
     }
 }
 
-// Makes the writes that put something, and leaves the removals.
+// Orders writes by their locations, the last first.
+fn sort_backwards(writes: &mut Vec<Write>)
+    ensures { IsPermutation writes.old.items writes.new.items }
+{
+    writes.sort_unstable_by(|a, b| b.at().compare(a.at()));
+}
+
+// Makes the writes that put something, from the end of the list, and leaves the removals.
 fn make_puts(
     alloc: Global,
     tree: &mut Option<Node>,
@@ -52,13 +64,12 @@ fn make_puts(
     ensures rewound { rewound (reverse undos.new.items) (tree_or_null tree.new) ≡ tree_or_null tree.old }
     ensures nothing { All (λ write. written write ≡ null) left.old.items → IsOk result }
 {
-    let mut i = 0;
-    while i < left.len() {
+    let mut i = left.len();
+    while i > 0 {
+        i -= 1;
         if left[i].tree().is_some() {
             let write = left.swap_remove(i);
             make_put(alloc, tree, write, undos)?;
-        } else {
-            i += 1;
         }
     }
     Ok(())
