@@ -18,7 +18,7 @@ use crate::borrowed::BorrowedNames;
 use crate::grant::{all_granted_from, asked_along, granted_along, named};
 use crate::locations::sort;
 use crate::scene::Scene;
-use crate::spot::{Asking, Spot};
+use crate::spot::{Asking, Spare, Spot};
 use crate::validate::{place_of, towards};
 use crate::verdict::Verdict;
 use arena_snapshot::View;
@@ -127,6 +127,7 @@ pub fn write_denial<'a>(
         scene,
         access: Access::Writes(top),
         kind: Kind::Write,
+        spare: None,
     };
     let spot = at_root(&asking)?;
     denial_along(&asking, &spot, write.at())
@@ -167,6 +168,7 @@ fn validated<'a>(
         scene,
         access: Access::Writes(top),
         kind: Kind::Validate,
+        spare: Some(Spare::new(alloc, arena)),
     };
     let spot = at_root(&asking)?;
     let mut captures = Captures::new(arena);
@@ -241,11 +243,13 @@ fn judge_ordered<'a>(
 {
     law_of(coming);
     let root = root_of(arena, coming)?;
+    let spare = Spare::new(alloc, arena);
     let asking = Asking {
         arena,
         scene,
         access: Access::Writes(root),
         kind: Kind::Write,
+        spare: Some(spare),
     };
     let spot = at_root(&asking)?;
     let mut captures = Captures::new(arena);
@@ -258,6 +262,7 @@ fn judge_ordered<'a>(
         scene,
         access: Access::Writes(root),
         kind: Kind::Validate,
+        spare: Some(spare),
     };
     let failed = validate_denied(alloc, &validating, &spot, locations, &mut captures)?;
     if let Some(verdict) = failed {
@@ -335,6 +340,7 @@ fn reading<'a>(arena: &'a Bump, scene: &'a Scene<'a>, asked: &'a Asked<'a>) -> A
         scene,
         access: Access::Reads(asked),
         kind: Kind::Read,
+        spare: None,
     }
 }
 

@@ -18,6 +18,10 @@ use expr_types::Checked;
 use json_tree::{Key, NoMemory};
 use path_capture::{CaptureName, Captures, Part};
 use rules_reader::{Kind, RuleNode, TreeVariable};
+use std::alloc::Global;
+
+// By how many bytes the arena may grow before each evaluation takes an arena of its own.
+const MAX_GROWTH: usize = 65_536;
 
 /// What is asked: the rules of which kind, in which scene, and for which access at the root.
 #[derive(Clone, Copy)]
@@ -26,6 +30,35 @@ pub(crate) struct Asking<'a> {
     pub(crate) scene: &'a Scene<'a>,
     pub(crate) access: Access<'a>,
     pub(crate) kind: Kind,
+    pub(crate) spare: Option<Spare>,
+}
+
+/// Memory for evaluations beside the arena: what an evaluation makes is not needed after it, so where many are
+/// asked, each takes an arena of its own once that of the step has grown by 64 KiB, and gives it back.
+#[derive(Clone, Copy)]
+pub(crate) struct Spare {
+    alloc: Global,
+    begun: usize,
+}
+
+impl Spare {
+    /// Spare memory, from now on: as large as the arena is now, it has not grown.
+    pub(crate) fn new(alloc: Global, arena: &Bump) -> Spare {
+        Spare {
+            alloc,
+            begun: arena.allocated_bytes(),
+        }
+    }
+
+    // Where an arena for one evaluation is made, if it takes one.
+    fn needed(self, arena: &Bump) -> Option<Global> {
+        let grown = arena.allocated_bytes().saturating_sub(self.begun);
+        if grown > MAX_GROWTH {
+            Some(self.alloc)
+        } else {
+            None
+        }
+    }
 }
 
 /// Where a walk stands: the rule node, `data`, and the query or `newData`.
@@ -58,21 +91,67 @@ pub(crate) fn answer<'a>(
 {
     match spot.rule.rule(asking.kind) {
         Some(rule) => {
-            let outcome = answer_of(asking, spot, rule, captures)?;
+            let outcome = match apart(asking) {
+                Some(alloc) => answer_apart(alloc, asking, spot, rule, captures)?,
+                None => answer_of(asking.arena, asking, spot, rule, captures)?,
+            };
             Ok(Some(outcome))
         }
         None => Ok(None),
     }
 }
 
-// What this rule answers, which is that of the kind that is asked. It stays a function of its own, since most nodes
-// on a walk state none, and room for what an expression needs would be made and cleared at each of them.
+// Where an evaluation has to take an arena of its own, what makes it.
+fn apart(asking: &Asking<'_>) -> Option<Global> {
+    let spare = asking.spare?;
+    spare.needed(asking.arena)
+}
+
+// What this rule answers, evaluated in an arena that is given back.
 #[inline(never)]
-fn answer_of<'a>(
+fn answer_apart<'a>(
+    alloc: Global,
     asking: &Asking<'a>,
     spot: &Spot<'a>,
     rule: &'a Checked,
     captures: &Captures<'a, &'a Bump>,
+) -> Result<Outcome, NoMemory>
+    requires here { Stands asking.now spot.now captures.now }
+    requires stated { option_map (stated_for asking.now.kind) (get spot.now.rule.now.book []) ≡ Some (Some rule.now) }
+    requires lawful { IsLawful spot.now.rule.now.at asking.now.kind rule.now }
+    ensures { IfOk result (λ outcome. Some (spot.now.rule.now.at, outcome) ≡ ask_of asking.now (path_of spot.now)) }
+{
+    let own = Bump::new(alloc);
+    let copy = copy_of(&own, captures)?;
+    answer_of(&own, asking, spot, rule, &copy)
+}
+
+// The same captures, in another arena.
+fn copy_of<'e, 'a: 'e>(
+    arena: &'e Bump,
+    captures: &Captures<'a, &'a Bump>,
+) -> Result<Captures<'e, &'e Bump>, NoMemory>
+    ensures { IfOk result (λ copy. copy ≡ captures.now) }
+{
+    let mut copy = Captures::new(arena);
+    for i in 0..captures.len() {
+        let Some(binding) = captures.part(i) else {
+            unreachable!()
+        };
+        copy.push(binding.name, binding.key)?;
+    }
+    Ok(copy)
+}
+
+// What this rule answers, which is that of the kind that is asked. It stays a function of its own, since most nodes
+// on a walk state none, and room for what an expression needs would be made and cleared at each of them.
+#[inline(never)]
+fn answer_of<'e, 'a: 'e>(
+    arena: &'e Bump,
+    asking: &Asking<'a>,
+    spot: &Spot<'a>,
+    rule: &'a Checked,
+    captures: &Captures<'e, &'e Bump>,
 ) -> Result<Outcome, NoMemory>
     requires here { Stands asking.now spot.now captures.now }
     requires stated { option_map (stated_for asking.now.kind) (get spot.now.rule.now.book []) ≡ Some (Some rule.now) }
@@ -86,7 +165,7 @@ fn answer_of<'a>(
         access: spot.access,
         captures,
     };
-    let outcome = evaluate(asking.arena, rule, &env)?;
+    let outcome = evaluate(arena, rule, &env)?;
     Ok(outcome)
 }
 

@@ -25,7 +25,7 @@ pub(crate) enum Edge<'a> {
 impl<'a> Edge<'a> {
     // The edge of a limit among these children.
     pub(crate) fn of_limit(
-        arena: &'a Bump,
+        scratch: &Bump,
         items: &[Item<'a>],
         limit: Option<Limit>,
     ) -> Result<Edge<'a>, NoMemory>
@@ -34,8 +34,8 @@ impl<'a> Edge<'a> {
         ensures { IfOk result (λ edge. (r : Rank) → lies_inside edge r ≡ is_kept_of (first_of limit) (last_of limit) (map item_seen items.now) r) }
     {
         match limit {
-            Some(Limit::First(limit)) => first_children(arena, items, usize::from(limit)),
-            Some(Limit::Last(limit)) => last_children(arena, items, usize::from(limit)),
+            Some(Limit::First(limit)) => first_children(scratch, items, usize::from(limit)),
+            Some(Limit::Last(limit)) => last_children(scratch, items, usize::from(limit)),
             None => Ok(Edge::Nowhere),
         }
     }
@@ -53,7 +53,7 @@ impl<'a> Edge<'a> {
 }
 
 fn first_children<'a>(
-    arena: &'a Bump,
+    scratch: &Bump,
     items: &[Item<'a>],
     limit: usize,
 ) -> Result<Edge<'a>, NoMemory>
@@ -63,35 +63,31 @@ fn first_children<'a>(
     if items.len() < limit {
         return Ok(Edge::Nowhere);
     }
-    let last = item_at(arena, items, limit - 1)?;
+    let last = item_at(scratch, items, limit - 1)?;
     Ok(Edge::UpTo(last))
 }
 
-fn last_children<'a>(
-    arena: &'a Bump,
-    items: &[Item<'a>],
-    limit: usize,
-) -> Result<Edge<'a>, NoMemory>
+fn last_children<'a>(scratch: &Bump, items: &[Item<'a>], limit: usize) -> Result<Edge<'a>, NoMemory>
     requires { 0 < limit }
     ensures { IfOk result (λ edge. (r : Rank) → lies_inside edge r ≡ is_kept_of None (Some limit) (map item_seen items.now) r) }
 {
     if items.len() < limit {
         return Ok(Edge::Nowhere);
     }
-    let first = item_at(arena, items, items.len() - limit)?;
+    let first = item_at(scratch, items, items.len() - limit)?;
     Ok(Edge::FromOn(first))
 }
 
 // The child at this index, once they are in order. Where they are so already, as children by their keys
 // mostly are, nothing is moved.
-fn item_at<'a>(arena: &'a Bump, items: &[Item<'a>], i: usize) -> Result<Item<'a>, NoMemory>
+fn item_at<'a>(scratch: &Bump, items: &[Item<'a>], i: usize) -> Result<Item<'a>, NoMemory>
     requires { i < length items.now }
     ensures { IfOk result (λ item. StandsAt items.now i item) }
 {
     if is_in_order(items) {
         return Ok(items[i]);
     }
-    let mut parted = Vec::from_slice(arena, items)?;
+    let mut parted = Vec::from_slice(scratch, items)?;
     Ok(part_at(&mut parted, i))
 }
 

@@ -40,7 +40,7 @@ pub use limits::{
 pub use listener_id::ListenerId;
 pub use membership::{selects, selects_beside};
 pub use query::Query;
-pub use selection::select;
+pub use selection::{select, select_apart};
 pub use table::{AddFault, Listener, NoListener, Table};
 pub use worked::{
     what_queries_by_keys_select, what_queries_by_values_select, which_keys_come_first,

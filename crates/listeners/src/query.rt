@@ -189,10 +189,10 @@ impl Query {
     }
 
     // The edge of its limit among these children.
-    pub(crate) fn edge<'a>(&self, arena: &'a Bump, items: &[Item<'a>]) -> Result<Edge<'a>, NoMemory>
+    pub(crate) fn edge<'a>(&self, scratch: &Bump, items: &[Item<'a>]) -> Result<Edge<'a>, NoMemory>
         ensures { IfOk result (λ edge. (r : Rank) → lies_inside edge r
             ≡ is_kept_of self.now.limit_to_first self.now.limit_to_last (map item_seen items.now) r) }
     {
-        Edge::of_limit(arena, items, self.parts.limit)
+        Edge::of_limit(scratch, items, self.parts.limit)
     }
 }

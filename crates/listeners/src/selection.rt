@@ -35,39 +35,54 @@ pub fn select<'a>(
 ) -> Result<Option<View<'a>>, NoMemory>
     ensures { IfOk result (λ found. found ≡ non_null (selection (tree_or_null view.entry) (option_map (λ query. query.now) query.entry))) }
 {
+    select_apart(arena, arena, view, query)
+}
+
+/// The same as [`select`], where the lists lie in another arena, which is not needed for what is selected: so of many
+/// selections only what they select stays in the arena. (Guide "Work with Lists of Data", how query data is ordered
+/// and filtering data.)
+pub fn select_apart<'a>(
+    scratch: &Bump,
+    arena: &'a Bump,
+    view: Option<View<'a>>,
+    query: Option<&Query>,
+) -> Result<Option<View<'a>>, NoMemory>
+    ensures { IfOk result (λ found. found ≡ non_null (selection (tree_or_null view.entry) (option_map (λ query. query.now) query.entry))) }
+{
     let Some(view) = view else {
         return Ok(None);
     };
     view.law();
     match query {
-        Some(query) => selected(arena, &view, query),
+        Some(query) => selected(scratch, arena, &view, query),
         None => Ok(Some(view)),
     }
 }
 
 fn selected<'a>(
+    scratch: &Bump,
     arena: &'a Bump,
     view: &View<'a>,
     query: &Query,
 ) -> Result<Option<View<'a>>, NoMemory>
     ensures { IfOk result (λ found. found ≡ non_null (selected query.now view.now)) }
 {
-    let items = within(arena, view, query)?;
-    let edge = query.edge(arena, &items)?;
-    let indices = indices(arena, &items, &edge)?;
+    let items = within(scratch, view, query)?;
+    let edge = query.edge(scratch, &items)?;
+    let indices = indices(scratch, &items, &edge)?;
     kept(arena, view, &indices)
 }
 
 // The children within the bounds, in the order of their indices, but for some that no limit keeps.
-fn within<'a>(
-    arena: &'a Bump,
+fn within<'s, 'a>(
+    scratch: &'s Bump,
     view: &View<'a>,
     query: &Query,
-) -> Result<Vec<Item<'a>, &'a Bump>, NoMemory>
+) -> Result<Vec<Item<'a>, &'s Bump>, NoMemory>
     ensures { IfOk result (λ items. kept_among query.now (map item_seen items.items) ≡ kept_among query.now (ranks_within query.now (entries_of view.now))) }
 {
     let reach = query.reach(view);
-    let mut items = Vec::new(arena);
+    let mut items = Vec::new(scratch);
     let mut from = 0;
     while from < view.width() {
         let part = reach.part(from, view.width());
@@ -79,7 +94,7 @@ fn within<'a>(
 
 // Adds the children within the bounds from one index on and up to another.
 fn add_within<'a>(
-    items: &mut Vec<Item<'a>, &'a Bump>,
+    items: &mut Vec<Item<'a>, &Bump>,
     view: &View<'a>,
     query: &Query,
     from: usize,
@@ -101,14 +116,14 @@ fn add_within<'a>(
 }
 
 // The indices of those that an edge keeps.
-fn indices<'a>(
-    arena: &'a Bump,
+fn indices<'s>(
+    scratch: &'s Bump,
     items: &[Item<'_>],
     edge: &Edge<'_>,
-) -> Result<Vec<usize, &'a Bump>, NoMemory>
+) -> Result<Vec<usize, &'s Bump>, NoMemory>
     ensures { IfOk result (λ indices. indices.items ≡ map (λ item. item.index) (filter (λ item. lies_inside edge.now (rank_seen item)) items.now)) }
 {
-    let mut indices = Vec::new(arena);
+    let mut indices = Vec::new(scratch);
     for item in items {
         if edge.keeps(item) {
             indices.push(item.index)?;

@@ -14,7 +14,7 @@ mod write;
 
 pub use captures::{Binding, Captures};
 pub use name::{CaptureName, NameFault, is_name};
-pub use path::{Path, PathFault, is_prefix_of, what_is_printed_is_read_back};
+pub use path::{Path, PathFault, compare_keys, is_prefix_of, what_is_printed_is_read_back};
 pub use pattern::{Part, Pattern};
 pub use update::make_all;
 pub use write::{TooDeep, Write};

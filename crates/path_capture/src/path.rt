@@ -284,7 +284,8 @@ pub fn is_prefix_of(front: &[Key], keys: &[Key]) -> bool
             .all(|(key, other)| key.text() == other.text())
 }
 
-fn compare_keys(keys: &[Key], others: &[Key]) -> Ordering
+/// The order of the paths of these keys: that of [`Path::compare`], of paths that may be the fronts of longer ones.
+pub fn compare_keys(keys: &[Key], others: &[Key]) -> Ordering
     ensures { result ≡ path_cmp keys.now others.now }
 {
     keys.iter()

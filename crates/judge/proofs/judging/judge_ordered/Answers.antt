@@ -1,4 +1,4 @@
-use Rattle.std.proofs.Common.{refl, ap, sym, subst}
+use Rattle.std.proofs.Common.{Some, refl, ap, sym, subst}
 use Rattle.path_capture.specs.Write.{tree_or_null}
 use Rattle.tree_model.specs.Tree.{IsLawful}
 use Rattle.rules_reader.specs.declared.kind.Kind.TheVariants.{Write, Validate}
@@ -27,8 +27,8 @@ validate_denied-requires c =
     let scene = scene_of c.args.scene.now in
     let t = c.in_ok-root.root.now.0 in
     let ls = paths c.args.locations.now in
-    let asking : Asking = record { arena = c.args.arena; scene = c.args.scene; access = Writes c.in_ok-root.root; kind = Write } in
-    let validating : Asking = record { arena = c.args.arena; scene = c.args.scene; access = Writes c.in_ok-root.root; kind = Validate } in
+    let asking : Asking = record { arena = c.args.arena; scene = c.args.scene; access = Writes c.in_ok-root.root; kind = Write; spare = Some c.new-spare.result } in
+    let validating : Asking = record { arena = c.args.arena; scene = c.args.scene; access = Writes c.in_ok-root.root; kind = Validate; spare = Some c.new-spare.result } in
     record {
       root = stands_for asking validating c.in_ok-spot.spot refl tt c.in_ok-spot.ensures;
       kind = refl;

@@ -6,7 +6,7 @@ use Rattle.path_capture.specs.Write.{tree_or_null}
 use Rattle.listeners.specs.Query.{Query}
 use Rattle.listeners.specs.Selection.{selection}
 use Rattle.listeners.proofs.Keeping.{selected-null}
-use Rattle.listeners.proofs.selection.select.Goals as goal
+use Rattle.listeners.proofs.selection.select_apart.Goals as goal
 
 of_null : (q : Option Query) → selection null q ≡ null
 unfolding selection
