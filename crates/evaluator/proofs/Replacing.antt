@@ -1,9 +1,10 @@
 -- One text in the place of another, from one place to the next.
-use Rattle.std.proofs.Common.{◌≡◌, ℕ, zero, suc, ◌<◌, ◌≤◌, List, [], ◌∷◌, ◌++◌, length, drop, true, false, cond, ◌==◌, Option, Some, None, refl, sym, ◌∙◌, ap, subst, arith, append_assoc, length-append}
-use Rattle.std.specs.Prelude.{nat_eq, nat_le, option_map}
+use Rattle.std.proofs.Common.{◌≡◌, ℕ, zero, suc, ◌<◌, ◌≤◌, List, [], ◌∷◌, ◌++◌, length, drop, Bool, true, false, cond, ◌==◌, ◌||◌, Option, Some, None, refl, sym, ◌∙◌, ap, subst, arith, append_assoc, length-append}
+use Rattle.std.specs.Prelude.{nat_eq, option_map, MatchOption}
 use Rattle.std.specs.Option.{option_map_or}
 use Rattle.std.specs.List.{starts_with}
-use Rattle.std.specs.Str.Pattern.{FindsText, LacksTextAt, SplitsAroundMatch}
+use Rattle.std.specs.Borrow.{Bor}
+use Rattle.std.specs.Str.Pattern.{FindsText, FindsTextPrefix, LacksTextAt, SplitsAroundMatch, StripsPrefix}
 use Rattle.std.proofs.Math.Seq.{drop-append_seam}
 use Rattle.std.proofs.lemmas.Bool.{le-leb}
 use Rattle.std.proofs.lemmas.Bool.Decides.{nat_tests}
@@ -12,7 +13,7 @@ use Rattle.tree_model.specs.declared.limits.TheConstants.{MAX_TEXT_BYTES}
 use Rattle.tree_model.proofs.Choices.{not_true}
 use Rattle.evaluator.specs.Value.{words}
 use Rattle.evaluator.specs.Operators.{text_within}
-use Rattle.evaluator.specs.Texts.{behind_byte, split_at_first, replaced_times, replaced, replace}
+use Rattle.evaluator.specs.Texts.{is_inside, behind_byte, split_at_first, replaced_times, replaced, replace}
 use Rattle.evaluator.proofs.Inside.{starts}
 
 -- ---- the first place
@@ -42,14 +43,35 @@ not_found a part (b ∷ s) lacks =
     ∙ ap (option_map (behind_byte b)) (not_found a part s (λ i h. lacks (suc i) (omega arith)))
 
 -- the parts of the text, as `split_once` gives them
-split_is : (a : ℕ) (part s front back : List ℕ) → SplitsAroundMatch (FindsText (a ∷ part)) s front back → (split_at_first (a ∷ part) s ≡ Some (front, back)) × (s ≡ front ++ (a ∷ (part ++ back)))
+split_is : (a : ℕ) (part s front back : List ℕ) → SplitsAroundMatch (FindsText (a ∷ part)) s front back → split_at_first (a ∷ part) s ≡ Some (front, back)
 split_is a part s front back (i, j, found, is_front, is_back, le, long, rest) =
     let whole : s ≡ front ++ (a ∷ (part ++ back)) =
     sym (take-append-drop i s)
     ∙ ap (λ x. x ++ drop i s) (sym is_front)
     ∙ ap (λ x. front ++ x) (found.1.split ∙ ap (λ y. a ∷ (part ++ y)) (sym is_back)) in
     let lacks : (k : ℕ) → k < length front → LacksTextAt (a ∷ part) (front ++ (a ∷ (part ++ back))) k = λ k below. subst (λ (x : List ℕ). LacksTextAt (a ∷ part) x k) whole (found.0 k (omega arith)) in
-    (ap (split_at_first (a ∷ part)) whole ∙ found_at a part front back lacks, whole)
+    ap (split_at_first (a ∷ part)) whole ∙ found_at a part front back lacks
+
+-- the same of any part, as `strip_prefix` and `split_once` give them
+pub stripped : (part s back : List ℕ) → 0 < length part → StripsPrefix (FindsTextPrefix part) s back → split_at_first part s ≡ Some ([], back)
+stripped [] s back some at = absurd (omega arith)
+stripped (a ∷ part) s back some (n, (is, whole, end), is_back, long) = ap (split_at_first (a ∷ part)) (whole ∙ ap (λ x. a ∷ (part ++ x)) (sym is_back)) ∙ at_once a part back
+
+pub split_once_is : (part s : List ℕ) (r : Option (Bor (List ℕ) × Bor (List ℕ))) → 0 < length part → MatchOption r (FindsText part s None) (λ x. SplitsAroundMatch (FindsText part) s x.0.now x.1.now) → option_map (λ p. (p.0.now, p.1.now)) r ≡ split_at_first part s
+split_once_is [] s r some at = absurd (omega arith)
+split_once_is (a ∷ part) s None some none = sym (not_found a part s none)
+split_once_is (a ∷ part) s (Some x) some at = sym (split_is a part s x.0.now x.1.now at)
+
+-- a part that is nowhere inside splits nothing
+either_false : (a b : Bool) → (a || b) ≡ false → (a ≡ false) × (b ≡ false)
+either_false true b h = cc
+either_false false b h = (refl, h)
+
+split_outside : (part s : List ℕ) → is_inside part s ≡ false → split_at_first part s ≡ None
+split_outside part [] h = ap (λ x. cond x (Some ([], [])) None) h
+split_outside part (b ∷ s) h =
+    let both = either_false (starts_with nat_eq (b ∷ s) part) (is_inside part s) h in
+    later part s b both.0 ∙ ap (option_map (behind_byte b)) (split_outside part s both.1)
 
 -- ---- as often as there are places
 
@@ -70,6 +92,10 @@ shorter a part (b ∷ s) front back e =
       | true ↦ λ h. let same : drop (length part) s ≡ back = back_of ([], drop (length part) s) front back h in omega (arith, length-drop (length part) s, ap length same)
       | false ↦ λ h. behind b s front back (split_at_first (a ∷ part) s) (λ f r is. shorter a part s f r is) h
     ] e
+
+pub less_behind : (part s front back : List ℕ) → 0 < length part → split_at_first part s ≡ Some (front, back) → length back < length s
+less_behind [] s front back some e = absurd (omega arith)
+less_behind (a ∷ part) s front back some e = shorter a part s front back e
 
 -- what is made of a place, or of none, in so many turns
 abbrev made_of : ℕ → List ℕ → List ℕ → List ℕ → Option (List ℕ × List ℕ) → List ℕ
@@ -99,78 +125,75 @@ once a part with (b ∷ t) front back e less =
     ap (made_of (length t) (a ∷ part) with (b ∷ t)) e
     ∙ ap (λ x. front ++ with ++ x) (enough (length t) (length back) a part with back (omega arith) (omega arith))
 
-pub replaced_split : (part with s front back : List ℕ) → (length part == 0) ≡ false → SplitsAroundMatch (FindsText part) s front back → replaced part with s ≡ front ++ with ++ replaced part with back
-replaced_split [] with s front back full at = cc
-replaced_split (a ∷ part) with s front back full at =
-    let is = split_is a part s front back at in
-    once a part with s front back is.0 (shorter a part s front back is.0)
+replaced_split : (part with s front back : List ℕ) → 0 < length part → split_at_first part s ≡ Some (front, back) → replaced part with s ≡ front ++ with ++ replaced part with back
+replaced_split [] with s front back some e = absurd (omega arith)
+replaced_split (a ∷ part) with s front back some e = once a part with s front back e (shorter a part s front back e)
 
-pub replaced_none : (part with s : List ℕ) → (length part == 0) ≡ false → FindsText part s None → replaced part with s ≡ s
-replaced_none [] with s full none = cc
-replaced_none (a ∷ part) with [] full none = refl
-replaced_none (a ∷ part) with (b ∷ s) full none = ap (made_of (length s) (a ∷ part) with (b ∷ s)) (not_found a part (b ∷ s) none)
+replaced_none : (part with s : List ℕ) → split_at_first part s ≡ None → replaced part with s ≡ s
+replaced_none part with [] e = refl
+replaced_none part with (b ∷ s) e = ap (made_of (length s) part with (b ∷ s)) e
+
+-- where the part is not inside
+replaced_outside : (part with s : List ℕ) → is_inside part s ≡ false → replaced part with s ≡ s
+replaced_outside part with s h = replaced_none part with s (split_outside part s h)
 
 -- ---- the whole, within the limit
 
-pub too_long : (t part with : List ℕ) → (length part == 0) ≡ false → MAX_TEXT_BYTES < length (replaced part with t) → replace (words t) (words part) (words with) ≡ None
-too_long t part with full long =
-    let test : nat_le (length (replaced part with t)) MAX_TEXT_BYTES ≡ false = grind (arith, nat_tests) in
-    ap (λ e. cond e None (text_within (replaced part with t))) full
-    ∙ ap (λ e. cond e (Some (words (replaced part with t))) None) test
+replace_is : (t part with : List ℕ) → (length part == 0) ≡ false → replace (words t) (words part) (words with) ≡ text_within (replaced part with t)
+replace_is t part with full = ap (λ e. cond e None (text_within (replaced part with t))) full
 
-fits : (t part with all : List ℕ) → (length part == 0) ≡ false → replaced part with t ≡ all → length all ≤ MAX_TEXT_BYTES → replace (words t) (words part) (words with) ≡ Some (words all)
-fits t part with all full e room =
-    ap (λ x. cond x None (text_within (replaced part with t))) full
-    ∙ ap text_within e
-    ∙ ap (λ x. cond x (Some (words all)) None) (le-leb (length all) MAX_TEXT_BYTES room)
+pub replace_outside : (t part with : List ℕ) → (length part == 0) ≡ false → is_inside part t ≡ false → replace (words t) (words part) (words with) ≡ text_within t
+replace_outside t part with full h = replace_is t part with full ∙ ap text_within (replaced_outside part with t h)
+
+too_long : (s : List ℕ) → MAX_TEXT_BYTES < length s → text_within s ≡ None
+too_long s long = grind (arith, nat_tests)
+
+fits : (s : List ℕ) → length s ≤ MAX_TEXT_BYTES → text_within s ≡ Some (words s)
+fits s room = ap (λ x. cond x (Some (words s)) None) (le-leb (length s) MAX_TEXT_BYTES room)
 
 -- ---- a loop from place to place
 
 -- so far: what was made, and behind it what becomes of the rest
 pub record Made (t part with made rest : List ℕ) : Type 0 where
-  pub full : (length part == 0) ≡ false
   pub is : replaced part with t ≡ made ++ replaced part with rest
 
-one_more : (t part with made rest front back : List ℕ) → Made t part with made rest → SplitsAroundMatch (FindsText part) rest front back → replaced part with t ≡ ((made ++ front) ++ with) ++ replaced part with back
-one_more t part with made rest front back so_far at =
+one_more : (t part with made rest front back : List ℕ) → 0 < length part → Made t part with made rest → split_at_first part rest ≡ Some (front, back) → replaced part with t ≡ ((made ++ front) ++ with) ++ replaced part with back
+one_more t part with made rest front back some so_far at =
     so_far.is
-    ∙ ap (λ x. made ++ x) (replaced_split part with rest front back so_far.full at)
+    ∙ ap (λ x. made ++ x) (replaced_split part with rest front back some at)
     ∙ simp append_assoc
 
 longer : (x y : List ℕ) → length x ≤ length (x ++ y)
 longer x y = omega (arith, length-append x y)
 
-pub Made-none : (t part with made : List ℕ) → (length part == 0) ≡ false → made ≡ [] → Made t part with made t
-Made-none t part with made full e = record { full = full; is = ap (λ x. x ++ replaced part with t) (sym e) }
+pub Made-none : (t part with made : List ℕ) → made ≡ [] → Made t part with made t
+Made-none t part with made e = record { is = ap (λ x. x ++ replaced part with t) (sym e) }
 
-pub Made-more : (t part with made rest front back next last : List ℕ) → Made t part with made rest → SplitsAroundMatch (FindsText part) rest front back → next ≡ made ++ front → last ≡ next ++ with → Made t part with last back
-Made-more t part with made rest front back next last so_far at e f =
-    record {
-      full = so_far.full;
-      is = one_more t part with made rest front back so_far at ∙ ap (λ x. x ++ replaced part with back) (ap (λ x. x ++ with) (sym e) ∙ sym f);
-    }
+pub Made-more : (t part with made rest front back next last : List ℕ) → 0 < length part → Made t part with made rest → split_at_first part rest ≡ Some (front, back) → next ≡ made ++ front → last ≡ next ++ with → Made t part with last back
+Made-more t part with made rest front back next last some so_far at e f =
+    record { is = one_more t part with made rest front back some so_far at ∙ ap (λ x. x ++ replaced part with back) (ap (λ x. x ++ with) (sym e) ∙ sym f) }
 
-pub long_front : (t part with made rest front back : List ℕ) → Made t part with made rest → SplitsAroundMatch (FindsText part) rest front back → MAX_TEXT_BYTES < length (made ++ front) → replace (words t) (words part) (words with) ≡ None
-long_front t part with made rest front back so_far at long =
-    let e = ap length (one_more t part with made rest front back so_far at) in
+pub long_front : (t part with made rest front back : List ℕ) → 0 < length part → Made t part with made rest → split_at_first part rest ≡ Some (front, back) → MAX_TEXT_BYTES < length (made ++ front) → text_within (replaced part with t) ≡ None
+long_front t part with made rest front back some so_far at long =
+    let e = ap length (one_more t part with made rest front back some so_far at) in
     let n = longer (made ++ front) with in
     let m = longer ((made ++ front) ++ with) (replaced part with back) in
-    too_long t part with so_far.full (omega (arith, e, n, m))
+    too_long (replaced part with t) (omega (arith, e, n, m))
 
-pub long_with : (t part with made rest front back next : List ℕ) → Made t part with made rest → SplitsAroundMatch (FindsText part) rest front back → next ≡ made ++ front → MAX_TEXT_BYTES < length (next ++ with) → replace (words t) (words part) (words with) ≡ None
-long_with t part with made rest front back next so_far at e long =
-    let i = ap length (one_more t part with made rest front back so_far at) in
+pub long_with : (t part with made rest front back next : List ℕ) → 0 < length part → Made t part with made rest → split_at_first part rest ≡ Some (front, back) → next ≡ made ++ front → MAX_TEXT_BYTES < length (next ++ with) → text_within (replaced part with t) ≡ None
+long_with t part with made rest front back next some so_far at e long =
+    let i = ap length (one_more t part with made rest front back some so_far at) in
     let k = ap (λ x. length (x ++ with)) e in
     let m = longer ((made ++ front) ++ with) (replaced part with back) in
-    too_long t part with so_far.full (omega (arith, i, k, m))
+    too_long (replaced part with t) (omega (arith, i, k, m))
 
-ended : (t part with made rest : List ℕ) → Made t part with made rest → FindsText part rest None → replaced part with t ≡ made ++ rest
-ended t part with made rest so_far none = so_far.is ∙ ap (λ x. made ++ x) (replaced_none part with rest so_far.full none)
+ended : (t part with made rest : List ℕ) → Made t part with made rest → split_at_first part rest ≡ None → replaced part with t ≡ made ++ rest
+ended t part with made rest so_far none = so_far.is ∙ ap (λ x. made ++ x) (replaced_none part with rest none)
 
-pub long_rest : (t part with made rest : List ℕ) → Made t part with made rest → FindsText part rest None → MAX_TEXT_BYTES < length (made ++ rest) → replace (words t) (words part) (words with) ≡ None
+pub long_rest : (t part with made rest : List ℕ) → Made t part with made rest → split_at_first part rest ≡ None → MAX_TEXT_BYTES < length (made ++ rest) → text_within (replaced part with t) ≡ None
 long_rest t part with made rest so_far none long =
     let e = ap length (ended t part with made rest so_far none) in
-    too_long t part with so_far.full (omega (arith, e))
+    too_long (replaced part with t) (omega (arith, e))
 
-pub Made-all : (t part with made rest all : List ℕ) → Made t part with made rest → FindsText part rest None → all ≡ made ++ rest → length all ≤ MAX_TEXT_BYTES → replace (words t) (words part) (words with) ≡ Some (words all)
-Made-all t part with made rest all so_far none e room = fits t part with all so_far.full (ended t part with made rest so_far none ∙ sym e) room
+pub Made-all : (t part with made rest all : List ℕ) → Made t part with made rest → split_at_first part rest ≡ None → all ≡ made ++ rest → length all ≤ MAX_TEXT_BYTES → text_within (replaced part with t) ≡ Some (words all)
+Made-all t part with made rest all so_far none e room = ap text_within (ended t part with made rest so_far none ∙ sym e) ∙ fits all room

@@ -4,7 +4,8 @@ ghost use Rattle.std.specs.List.{starts_with, ends_with};
 ghost use Rattle.std.specs.Str.{chars};
 ghost use Rattle.tree_model.specs.declared.limits.TheConstants.{MAX_TEXT_BYTES};
 ghost use Rattle.evaluator.specs.Value.{words};
-ghost use Rattle.evaluator.specs.Texts.{length_of, is_inside, text_test, replace, text_change};
+ghost use Rattle.evaluator.specs.Operators.{text_within};
+ghost use Rattle.evaluator.specs.Texts.{length_of, is_inside, text_test, split_at_first, replaced, replace, text_change};
 ghost use Rattle.evaluator.specs.Working.Parts.{value_of, texts_in};
 
 use crate::value::{Stop, Value};
@@ -96,23 +97,62 @@ fn add(made: &mut String<&Bump>, text: &str) -> Result<(), Stop>
     Ok(())
 }
 
-// Every occurrence of a text, from the left, becomes another, in one pass; growths for what is made.
-fn replaced<'a>(arena: &'a Bump, text: &str, part: &str, with: &str) -> Result<Value<'a>, Stop>
-    ensures value { IfOk result (λ v. replace (words text.now) (words part.now) (words with.now) ≡ Some (value_of v)) }
-    ensures erred { IsErrOf result Stop.Erred → replace (words text.now) (words part.now) (words with.now) ≡ None }
+// What stands before the first place of a part in a text, and what stands behind it there. Where one place stands right
+// behind another, as in a text that is changed throughout, the beginning is all that is looked at.
+#[inline(always)]
+fn split<'b>(text: &'b str, part: &str) -> Option<(&'b str, &'b str)>
+    requires some { 0 < length part.now }
+    ensures { option_map (λ p. (p.0.now, p.1.now)) result ≡ split_at_first part.now text.now }
 {
-    if part.is_empty() {
+    match text.strip_prefix(part) {
+        Some(behind) => Some(("", behind)),
+        None => text.split_once(part),
+    }
+}
+
+// The text itself, within the limit.
+fn unchanged<'a>(text: &'a str) -> Result<Value<'a>, Stop>
+    ensures value { IfOk result (λ v. text_within text.now ≡ Some (value_of v)) }
+    ensures erred { IsErrOf result Stop.Erred → text_within text.now ≡ None }
+{
+    if text.len() > MAX_TEXT_BYTES {
         return Err(Stop::Erred);
     }
-    let mut made = String::new(arena);
+    Ok(Value::Words(text))
+}
+
+// A text with another in each place of a part, from the left, in one pass. Memory for a text of the old length, and
+// growths where the new one is longer.
+fn made_anew<'a>(arena: &'a Bump, text: &str, part: &str, with: &str) -> Result<Value<'a>, Stop>
+    requires some { 0 < length part.now }
+    ensures value { IfOk result (λ v. text_within (replaced part.now with.now text.now) ≡ Some (value_of v)) }
+    ensures erred { IsErrOf result Stop.Erred → text_within (replaced part.now with.now text.now) ≡ None }
+{
+    let mut made = String::with_capacity(arena, text.len())?;
     let mut rest = text;
-    while let Some((before, behind)) = rest.split_once(part) {
+    while let Some((before, behind)) = split(rest, part) {
         add(&mut made, before)?;
         add(&mut made, with)?;
         rest = behind;
     }
     add(&mut made, rest)?;
     Ok(Value::Words(into_bump_str(made)))
+}
+
+// Every occurrence of a text, from the left, becomes another. Where there is none, the text is lent on, and no memory
+// is taken.
+fn replaced<'a>(arena: &'a Bump, text: &'a str, part: &str, with: &str) -> Result<Value<'a>, Stop>
+    ensures value { IfOk result (λ v. replace (words text.now) (words part.now) (words with.now) ≡ Some (value_of v)) }
+    ensures erred { IsErrOf result Stop.Erred → replace (words text.now) (words part.now) (words with.now) ≡ None }
+{
+    if part.is_empty() {
+        return Err(Stop::Erred);
+    }
+    if is_inside(text, part) {
+        made_anew(arena, text, part, with)
+    } else {
+        unchanged(text)
+    }
 }
 
 fn replace<'a>(

@@ -1,35 +1,19 @@
-use Rattle.std.proofs.Common.{◌≡◌, ◌<◌, ◌++◌, ◌==◌, ◌∙◌, ap, sym, false, Some, None, length, arith, rules, string_bytes}
+use Rattle.std.proofs.Common.{◌≡◌, ◌==◌, ◌∙◌, sym, false, length, arith, rules}
 use Rattle.std.proofs.lemmas.Grind.{common_steps}
-use Rattle.tree_model.specs.declared.limits.TheConstants.{MAX_TEXT_BYTES}
 use Rattle.evaluator.specs.Value.{words}
+use Rattle.evaluator.specs.Operators.{text_within}
 use Rattle.evaluator.specs.Texts.{replace}
-use Rattle.evaluator.proofs.Replacing.{Made-none, Made-more, Made-all, long_front, long_with, long_rest}
+use Rattle.evaluator.proofs.Replacing.{replace_outside}
 use Rattle.evaluator.proofs.texts.replaced.Goals as goal
 
-pub loop-before-init : goal.loop-before-init
-loop-before-init c =
+pub returns-else-is_inside-clause-value : goal.returns-else-is_inside-clause-value
+returns-else-is_inside-clause-value c =
     let full : (length c.args.part.now == 0) ≡ false = grind (arith, common_steps) in
-    (search rules, Made-none c.args.text.now c.args.part.now c.args.with.now (string_bytes c.new-made.result) full c.new-made.ensures.bytes)
+    let is : replace (words c.args.text.now) (words c.args.part.now) (words c.args.with.now) ≡ text_within c.args.text.now = replace_outside c.args.text.now c.args.part.now c.args.with.now full (sym c.is_inside.ensures ∙ c.if-is_inside.false) in
+    search (rules, is)
 
-pub returns-in_err-add-clause-erred : goal.returns-in_err-add-clause-erred
-returns-in_err-add-clause-erred c =
-    let stops : MAX_TEXT_BYTES < length (string_bytes c.loop-before.made ++ c.in-Some.before.now) → replace (words c.args.text.now) (words c.args.part.now) (words c.args.with.now) ≡ None = long_front c.args.text.now c.args.part.now c.args.with.now (string_bytes c.loop-before.made) c.loop-before.rest.now c.in-Some.before.now c.in-Some.behind.now c.loop-before.invariant.1 c.in-Some.ensures.cases in
-    grind (arith, common_steps, stops)
-
-pub returns-in_err-add-2-clause-erred : goal.returns-in_err-add-2-clause-erred
-returns-in_err-add-2-clause-erred c =
-    let stops : MAX_TEXT_BYTES < length (string_bytes c.add.new.made ++ c.args.with.now) → replace (words c.args.text.now) (words c.args.part.now) (words c.args.with.now) ≡ None = long_with c.args.text.now c.args.part.now c.args.with.now (string_bytes c.loop-before.made) c.loop-before.rest.now c.in-Some.before.now c.in-Some.behind.now (string_bytes c.add.new.made) c.loop-before.invariant.1 c.in-Some.ensures.cases c.in_ok-add.ensures.added in
-    grind (arith, common_steps, stops)
-
-pub loop-before-preserved : goal.loop-before-preserved
-loop-before-preserved c = (search rules, Made-more c.args.text.now c.args.part.now c.args.with.now (string_bytes c.loop-before.made) c.loop-before.rest.now c.in-Some.before.now c.in-Some.behind.now (string_bytes c.add.new.made) (string_bytes c.add-in-Some.new.made) c.loop-before.invariant.1 c.in-Some.ensures.cases c.in_ok-add.ensures.added c.in_ok-add-2.ensures.added)
-
-pub returns-in_err-add-3-clause-erred : goal.returns-in_err-add-3-clause-erred
-returns-in_err-add-3-clause-erred c =
-    let stops : MAX_TEXT_BYTES < length (string_bytes c.loop-before.made ++ c.loop-before.rest.now) → replace (words c.args.text.now) (words c.args.part.now) (words c.args.with.now) ≡ None = long_rest c.args.text.now c.args.part.now c.args.with.now (string_bytes c.loop-before.made) c.loop-before.rest.now c.loop-before.invariant.1 c.in_default.ensures.cases in
-    grind (arith, common_steps, stops)
-
-pub returns-clause-value : goal.returns-clause-value
-returns-clause-value c =
-    Made-all c.args.text.now c.args.part.now c.args.with.now (string_bytes c.loop-before.made) c.loop-before.rest.now (string_bytes c.add-2.new.made) c.loop-before.invariant.1 c.in_default.ensures.cases c.in_ok-add-3.ensures.added c.in_ok-add-3.ensures.fits
-    ∙ ap (λ x. Some (words x)) (sym c.into_bump_str.ensures)
+pub returns-else-is_inside-clause-erred : goal.returns-else-is_inside-clause-erred
+returns-else-is_inside-clause-erred c =
+    let full : (length c.args.part.now == 0) ≡ false = grind (arith, common_steps) in
+    let is : replace (words c.args.text.now) (words c.args.part.now) (words c.args.with.now) ≡ text_within c.args.text.now = replace_outside c.args.text.now c.args.part.now c.args.with.now full (sym c.is_inside.ensures ∙ c.if-is_inside.false) in
+    λ e. is ∙ c.unchanged.ensures.erred e

@@ -2,7 +2,7 @@ use Rattle.std.proofs.Common.{length, string_bytes}
 use denote.Text.{Utf8}
 use denote.Shadow.{shadow}
 use Rattle.evaluator.proofs.Replacing.{Made}
-use Rattle.evaluator.proofs.texts.replaced.Given as goal
+use Rattle.evaluator.proofs.texts.made_anew.Given as goal
 
 -- what was made, and behind it what becomes of the rest, which is a text
 abbrev pub invariant-loop-before : goal.invariant-loop-before
