@@ -1,5 +1,5 @@
 -- One text in the place of another, from one place to the next.
-use Rattle.std.proofs.Common.{◌≡◌, ℕ, zero, suc, ◌<◌, ◌≤◌, List, [], ◌∷◌, ◌++◌, length, drop, Bool, true, false, cond, ◌==◌, ◌||◌, Option, Some, None, refl, sym, ◌∙◌, ap, subst, arith, append_assoc, length-append}
+use Rattle.std.proofs.Common.{◌≡◌, ◌≢◌, ℕ, zero, suc, ◌<◌, ◌≤◌, List, [], ◌∷◌, ◌++◌, length, take, drop, Bool, true, false, cond, ◌==◌, ◌||◌, Option, Some, None, refl, sym, ◌∙◌, ap, subst, arith, append_assoc, length-append}
 use Rattle.std.specs.Prelude.{nat_eq, option_map, MatchOption}
 use Rattle.std.specs.Option.{option_map_or}
 use Rattle.std.specs.List.{starts_with}
@@ -8,13 +8,13 @@ use Rattle.std.specs.Str.Pattern.{FindsText, FindsTextPrefix, LacksTextAt, Split
 use Rattle.std.proofs.Math.Seq.{drop-append_seam}
 use Rattle.std.proofs.lemmas.Bool.{le-leb}
 use Rattle.std.proofs.lemmas.Bool.Decides.{nat_tests}
-use Rattle.std.proofs.lemmas.List.{take-append-drop, length-drop}
+use Rattle.std.proofs.lemmas.List.{take-append-drop, length-drop, length-take}
 use Rattle.tree_model.specs.declared.limits.TheConstants.{MAX_TEXT_BYTES}
 use Rattle.tree_model.proofs.Choices.{not_true}
 use Rattle.evaluator.specs.Value.{words}
 use Rattle.evaluator.specs.Operators.{text_within}
-use Rattle.evaluator.specs.Texts.{is_inside, behind_byte, split_at_first, replaced_times, replaced, replace}
-use Rattle.evaluator.proofs.Inside.{starts}
+use Rattle.evaluator.specs.Texts.{is_inside, behind_byte, split_at_first, replaced_times, replaced, replace, IsFirstPlace}
+use Rattle.evaluator.proofs.Inside.{starts, stands}
 
 -- ---- the first place
 
@@ -61,6 +61,18 @@ pub split_once_is : (part s : List ℕ) (r : Option (Bor (List ℕ) × Bor (List
 split_once_is [] s r some at = absurd (omega arith)
 split_once_is (a ∷ part) s None some none = sym (not_found a part s none)
 split_once_is (a ∷ part) s (Some x) some at = sym (split_is a part s x.0.now x.1.now at)
+
+-- the first place is where the text is split
+cut_at : (part s rest : List ℕ) (k : ℕ) → drop k s ≡ part ++ rest → s ≡ take k s ++ part ++ rest
+cut_at part s rest k e = sym (take-append-drop k s) ∙ ap (λ x. take k s ++ x) e ∙ sym (append_assoc (take k s) part rest)
+
+split_first : (a : ℕ) (part s front back : List ℕ) → IsFirstPlace (a ∷ part) s front back → split_at_first (a ∷ part) s ≡ Some (front, back)
+split_first a part s front back at =
+    let whole : s ≡ front ++ (a ∷ (part ++ back)) = at.stands ∙ append_assoc front (a ∷ part) back in
+    let lacks : (k : ℕ) → k < length front → LacksTextAt (a ∷ part) s k = λ k below rest e.
+    let least : length front ≤ length (take k s) = at.first (take k s) rest (cut_at (a ∷ part) s rest k e) in
+    omega (arith, length-take k s) in
+    ap (split_at_first (a ∷ part)) whole ∙ found_at a part front back (λ k below. subst (λ (x : List ℕ). LacksTextAt (a ∷ part) x k) whole (lacks k below))
 
 -- a part that is nowhere inside splits nothing
 either_false : (a b : Bool) → (a || b) ≡ false → (a ≡ false) × (b ≡ false)
@@ -137,10 +149,23 @@ replaced_none part with (b ∷ s) e = ap (made_of (length s) part with (b ∷ s)
 replaced_outside : (part with s : List ℕ) → is_inside part s ≡ false → replaced part with s ≡ s
 replaced_outside part with s h = replaced_none part with s (split_outside part s h)
 
+-- where the part stands nowhere
+pub replaced_nowhere : (s part with : List ℕ) → ((front back : List ℕ) → s ≢ front ++ part ++ back) → replaced part with s ≡ s
+replaced_nowhere s part with none = replaced_outside part with s (not_true _ (λ h. let at = stands part s h in none at.0 at.1 (at.2 ∙ sym (append_assoc at.0 part at.1))))
+
+-- at the first place of the part
+pub replaced_first : (s part with front back : List ℕ) → part ≢ [] → IsFirstPlace part s front back → replaced part with s ≡ front ++ with ++ replaced part with back
+replaced_first s [] with front back some at = absurd (some refl)
+replaced_first s (a ∷ part) with front back some at = replaced_split (a ∷ part) with s front back (omega arith) (split_first a part s front back at)
+
 -- ---- the whole, within the limit
 
 replace_is : (t part with : List ℕ) → (length part == 0) ≡ false → replace (words t) (words part) (words with) ≡ text_within (replaced part with t)
 replace_is t part with full = ap (λ e. cond e None (text_within (replaced part with t))) full
+
+pub replace_within : (s part with : List ℕ) → part ≢ [] → replace (words s) (words part) (words with) ≡ text_within (replaced part with s)
+replace_within s [] with some = absurd (some refl)
+replace_within s (a ∷ part) with some = replace_is s (a ∷ part) with (grind (arith, nat_tests))
 
 pub replace_outside : (t part with : List ℕ) → (length part == 0) ≡ false → is_inside part t ≡ false → replace (words t) (words part) (words with) ≡ text_within t
 replace_outside t part with full h = replace_is t part with full ∙ ap text_within (replaced_outside part with t h)

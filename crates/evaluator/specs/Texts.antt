@@ -1,5 +1,5 @@
 -- Methods of texts, which are lists of bytes in UTF-8.
-use Rattle.std.specs.Prelude.{ℕ, zero, suc, pos, ◌++◌, ◌==◌, ◌||◌, nat_eq, if◌then◌else◌, Bool, List, [], ◌∷◌, length, drop, codes, Option, Some, None, option_map}
+use Rattle.std.specs.Prelude.{◌≡◌, ◌≤◌, ℕ, zero, suc, pos, ◌++◌, ◌==◌, ◌||◌, nat_eq, if◌then◌else◌, Bool, List, [], ◌∷◌, length, drop, codes, Option, Some, None, option_map}
 use Rattle.std.specs.Option.{option_map_or}
 use Rattle.std.specs.List.{starts_with, ends_with}
 use Rattle.std.specs.Str.{bytes_eq, chars}
@@ -53,6 +53,11 @@ replaced part with s = replaced_times (length s) part with s
 abbrev pub replace : Value → Value → Value → Option Value
 replace (words s) (words part) (words with) = if length part == 0 then None else text_within (replaced part with s)
 replace _ _ _ = None
+
+-- the first place of a part in a text: the text is what stands before it, the part, and what stands behind it, and no place of the part has less before it
+pub record IsFirstPlace (part text front back : List ℕ) : Type 0 where
+  pub stands : text ≡ front ++ part ++ back
+  pub first : (f b : List ℕ) → text ≡ f ++ part ++ b → length front ≤ length f
 
 -- ---- by their names
 

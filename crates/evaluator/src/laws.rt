@@ -1,5 +1,5 @@
 //! The laws of meaning.
-ghost use Rattle.std.specs.Prelude.{◌≡◌, ℕ, List, true, IsSome};
+ghost use Rattle.std.specs.Prelude.{◌≡◌, ◌≢◌, ◌↔◌, ℕ, List, [], ◌++◌, true, Some, IsSome};
 ghost use Rattle.path_capture.specs.Captures.{names};
 ghost use Rattle.expr_parser.specs.Tree.{Tree, Variable, Capture};
 ghost use Rattle.expr_types.specs.declared.place.Place.{Place};
@@ -7,6 +7,9 @@ ghost use Rattle.expr_types.specs.declared.sort.Sort.{Sort};
 ghost use Rattle.expr_types.specs.HasSort.{HasSort, HasSomeSort};
 ghost use Rattle.expr_types.specs.Checked.{Checked, IsChecked};
 ghost use Rattle.expr_types.specs.Scope.{scope_of};
+ghost use Rattle.evaluator.specs.Value.{truth, words};
+ghost use Rattle.evaluator.specs.Operators.{text_within};
+ghost use Rattle.evaluator.specs.Texts.{contains, replaced, replace, IsFirstPlace};
 ghost use Rattle.evaluator.specs.Env.{Env, is_for, Suits};
 ghost use Rattle.evaluator.specs.Mean.{mean};
 ghost use Rattle.evaluator.specs.Holds.{outcome};
@@ -31,4 +34,18 @@ pub fn all_parts_of_what_is_checked_have_sorts()
 /// An expression gives the same in two environments that look the same to its scope. It does nothing.
 pub fn what_an_expression_depends_on()
     ensures { (x : Tree) (one other : Env) → LookSame (scope_of x) one other → outcome x one ≡ outcome x other }
+{}
+
+/// A text contains a part exactly where it is the part with a text before it and a text behind it. It does nothing.
+pub fn what_a_text_contains()
+    ensures { (text part : List ℕ) → (contains (words text) (words part) ≡ Some (truth true)) ↔ ((front : List ℕ) × (back : List ℕ) × (text ≡ front ++ part ++ back)) }
+{}
+
+/// Of a part that is replaced: a text in which it stands nowhere stays the same; in another, the new text takes its
+/// first place, and what stands behind that is treated likewise. What comes of it is given within the limit. It does
+/// nothing.
+pub fn what_replacing_gives()
+    ensures nowhere { (text part with : List ℕ) → ((front back : List ℕ) → text ≢ front ++ part ++ back) → replaced part with text ≡ text }
+    ensures at_the_first { (text part with front back : List ℕ) → part ≢ [] → IsFirstPlace part text front back → replaced part with text ≡ front ++ with ++ replaced part with back }
+    ensures within { (text part with : List ℕ) → part ≢ [] → replace (words text) (words part) (words with) ≡ text_within (replaced part with text) }
 {}

@@ -24,8 +24,8 @@ pub use env::{Access, Env, MAX_MOMENT, Moment};
 pub use evaluation::{Outcome, evaluate};
 pub use identity::{Claims, Identity};
 pub use laws::{
-    all_parts_of_what_is_checked_have_sorts, what_an_expression_depends_on,
-    what_has_a_sort_means_that_or_errs,
+    all_parts_of_what_is_checked_have_sorts, what_a_text_contains, what_an_expression_depends_on,
+    what_has_a_sort_means_that_or_errs, what_replacing_gives,
 };
 pub use snapshot::Snapshot;
 pub use worked::{what_auth_gives, what_operators_give, what_snapshots_give, what_texts_give};
