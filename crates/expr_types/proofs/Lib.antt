@@ -7,3 +7,4 @@ pub mod Known
 pub mod Spelled
 pub mod There
 pub mod RowNames
+pub mod Looking

@@ -20,7 +20,7 @@ or_right true b e = refl
 or_right false b e = e
 
 module _ (f : List ℕ) where
-  among_left : (xs ys : List (List ℕ)) → is_among f xs ≡ true → is_among f (xs ++ ys) ≡ true
+  pub among_left : (xs ys : List (List ℕ)) → is_among f xs ≡ true → is_among f (xs ++ ys) ≡ true
   among_left xs ys e = list_any-append (bytes_eq f) xs ys ∙ or_left (is_among f xs) (is_among f ys) e
 
   among_right : (xs ys : List (List ℕ)) → is_among f ys ≡ true → is_among f (xs ++ ys) ≡ true

@@ -1,11 +1,12 @@
 //! The laws of sorts and faults.
-ghost use Rattle.std.specs.Prelude.{◌≡◌, ◌⊎◌, ℕ, List, true};
+ghost use Rattle.std.specs.Prelude.{◌≡◌, ◌⊎◌, ℕ, List, true, Contains};
 ghost use Rattle.expr_tokens.specs.Words as words;
 ghost use Rattle.path_capture.specs.Name as captures;
-ghost use Rattle.expr_parser.specs.Tree.{Tree, Arguments, Member, Call};
+ghost use Rattle.expr_parser.specs.Tree.{Tree, Arguments, Group, Member, Call};
 ghost use Rattle.expr_types.specs.Names.{is_among, is_spelled};
 ghost use Rattle.expr_types.specs.HasSort.{HasSort, HasSomeSort, HasValue};
-ghost use Rattle.expr_types.specs.Faults.{FirstFault, IsRefused, StandsIn};
+ghost use Rattle.expr_types.specs.Wanted.{WantsValue, LooksInto};
+ghost use Rattle.expr_types.specs.Faults.{FirstFault, IsRefused, StandsIn, parts};
 ghost use Rattle.expr_types.specs.Checked.{captures_in};
 ghost use Rattle.expr_types.specs.declared.place.Place.{Place};
 ghost use Rattle.expr_types.specs.declared.sort.Sort.{Sort};
@@ -41,6 +42,27 @@ pub fn a_named_fault_stands_in_the_expression()
 /// An expression keeps its sort below all captures that have the names it uses. It does nothing.
 pub fn more_captures_change_no_sort()
     ensures { (place : Place) (names more : List (List ℕ)) (x : Tree) (s : Sort) → ((f : List ℕ) → is_among f (captures_in x) ≡ true → is_among f names ≡ true → is_among f more ≡ true) → HasSort place names x s → HasSort place more x s }
+{}
+
+/// In an expression that has a sort, each part of which a value is wanted may stand there: so neither a
+/// snapshot nor a query does. It does nothing.
+pub fn a_value_stands_where_one_is_wanted()
+    ensures value { (place : Place) (names : List (List ℕ)) (x part : Tree) (s : Sort) → HasSort place names x s → WantsValue x part → HasValue place names part }
+    ensures no_snapshot { (place : Place) (names : List (List ℕ)) (x part : Tree) (s : Sort) → HasSort place names x s → WantsValue x part → HasSort place names part Sort.Snapshot → ⊥ }
+    ensures no_query { (place : Place) (names : List (List ℕ)) (x part : Tree) (s : Sort) → HasSort place names x s → WantsValue x part → HasSort place names part Sort.Query → ⊥ }
+{}
+
+/// In an expression that has a sort, a part before a dot has the sort into which the name behind the dot
+/// looks: so nothing is asked of a part of another sort. It does nothing.
+pub fn what_is_looked_into_has_the_sort_for_it()
+    ensures member { (place : Place) (names : List (List ℕ)) (x : Tree) (f : List ℕ) (s : Sort) → HasSort place names (Member x f) s → (r : Sort) × HasSort place names x r × LooksInto (Member x f) x r }
+    ensures call { (place : Place) (names : List (List ℕ)) (x : Tree) (f : List ℕ) (xs : Arguments) (s : Sort) → HasSort place names (Call x f xs) s → (r : Sort) × HasSort place names x r × LooksInto (Call x f xs) x r }
+{}
+
+/// In an expression that has a sort, a value is wanted of each part, something is asked of it behind a dot,
+/// or it stands in parentheses. It does nothing.
+pub fn each_part_is_looked_at()
+    ensures { (place : Place) (names : List (List ℕ)) (x part : Tree) (s : Sort) → HasSort place names x s → Contains (parts x) part → WantsValue x part ⊎ ((r : Sort) × HasSort place names part r × LooksInto x part r) ⊎ (x ≡ Group part) }
 {}
 
 /// The captures that an expression with a sort names are there. It does nothing.
