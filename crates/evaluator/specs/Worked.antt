@@ -1,5 +1,5 @@
 -- Where worked expressions are evaluated.
-use Rattle.std.specs.Prelude.{ℕ, List, [], ◌∷◌, pos, codes, false, Option}
+use Rattle.std.specs.Prelude.{ℕ, zero, suc, List, [], ◌∷◌, ◌++◌, pos, codes, false, Option}
 use Rattle.tree_model.specs.Path.{Path}
 use Rattle.tree_model.specs.Primitive.{Primitive, whole}
 use Rattle.tree_model.specs.Worked.{tree_of_pairs}
@@ -19,6 +19,11 @@ at_root who = record { who = who; moment = 0; here = (tree_of_pairs pairs, []); 
 -- an identity with no claims
 abbrev pub somebody : Identity
 somebody = record { uid = codes "u"; provider = codes "p"; admin = false; claims = [] }
+
+-- so many keys, each with a slash behind it
+abbrev pub keys_behind : ℕ → List ℕ
+keys_behind zero = []
+keys_behind (suc n) = codes "k/" ++ keys_behind n
 
 -- a call with nothing, and with one value
 abbrev pub call : Tree → List ℕ → Tree

@@ -16,9 +16,9 @@ ghost use Rattle.evaluator.specs.Holds.{outcome};
 ghost use Rattle.evaluator.specs.Scoped.{LookSame};
 ghost use Rattle.evaluator.specs.Sorted.{IsOfSort, StandsIn};
 
-/// What has a sort means a part of that sort, or errs: so no snapshot stands where a value is wanted, and
-/// nothing is asked of a part of another sort. A variable or a capture that has a sort is there. It
-/// does nothing.
+/// What has a sort means a part of that sort, or errs: so what the laws of sorts say, that a value stands
+/// where one is wanted and that nothing is asked of a part of another sort, is true of what expressions
+/// mean. A variable or a capture that has a sort is there. It does nothing.
 pub fn what_has_a_sort_means_that_or_errs()
     ensures sorts { (place : Place) (env : Env) (x : Tree) (s : Sort) → is_for place env.access ≡ true → HasSort place (names env.captures) x s → IsOfSort s (mean x env) }
     ensures variables { (place : Place) (env : Env) (f : List ℕ) (s : Sort) → is_for place env.access ≡ true → HasSort place (names env.captures) (Variable f) s → IsSome (mean (Variable f) env) }

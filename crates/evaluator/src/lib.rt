@@ -28,4 +28,6 @@ pub use laws::{
     what_has_a_sort_means_that_or_errs, what_replacing_gives,
 };
 pub use snapshot::Snapshot;
-pub use worked::{what_auth_gives, what_operators_give, what_snapshots_give, what_texts_give};
+pub use worked::{
+    what_auth_gives, what_limits_give, what_operators_give, what_snapshots_give, what_texts_give,
+};

@@ -1,11 +1,11 @@
 //! Worked values, each computed by the checker: what small expressions mean.
-ghost use Rattle.std.specs.Prelude.{◌≡◌, pos, negsuc, true, false, [], ◌∷◌, Some, None, codes};
+ghost use Rattle.std.specs.Prelude.{◌≡◌, pos, negsuc, true, false, [], ◌∷◌, ◌++◌, Some, None, codes, replicate};
 ghost use Rattle.expr_tokens.specs.declared.operator.Operator.TheVariants.{Or, And, Equal, NotEqual, Less, Add, Multiply, Remainder};
 ghost use Rattle.expr_parser.specs.Tree.{Number, Text, False, Null, Variable, Member, Negate, Operation, Choice};
 ghost use Rattle.evaluator.specs.Value.{null, truth, whole, words, value};
 ghost use Rattle.evaluator.specs.Env.{Env};
 ghost use Rattle.evaluator.specs.Mean.{mean};
-ghost use Rattle.evaluator.specs.Worked.{at_root, somebody, call, call_with, call_with_two};
+ghost use Rattle.evaluator.specs.Worked.{at_root, somebody, keys_behind, call, call_with, call_with_two};
 
 /// What operators give in any environment. It does nothing.
 pub fn what_operators_give()
@@ -49,4 +49,14 @@ pub fn what_snapshots_give()
     ensures itself { mean (call (call_with (Variable (codes "root")) (codes "child") (Text [])) (codes "exists")) (at_root None) ≡ Some (value (truth true)) }
     ensures unlawful { mean (call_with (Variable (codes "root")) (codes "hasChild") (Text (codes "a.b"))) (at_root None) ≡ None }
     ensures above_the_root { mean (call (Variable (codes "root")) (codes "parent")) (at_root None) ≡ None }
+{}
+
+/// At its limits: a text that is joined has 65,536 bytes at most, and the location of a child 32 keys. It does nothing.
+pub fn what_limits_give()
+    ensures longest { (env : Env) → mean (Operation Add (Text (replicate 65535 97)) (Text (codes "a"))) env ≡ Some (value (words (replicate 65535 97 ++ codes "a"))) }
+    ensures too_long { (env : Env) → mean (Operation Add (Text (replicate 65535 97)) (Text (codes "aa"))) env ≡ None }
+    ensures deepest { mean (call (call_with (Variable (codes "root")) (codes "child") (Text (keys_behind 32))) (codes "exists")) (at_root None) ≡ Some (value (truth false)) }
+    ensures too_deep { mean (call (call_with (Variable (codes "root")) (codes "child") (Text (keys_behind 33))) (codes "exists")) (at_root None) ≡ None }
+    ensures longest_key { mean (call_with (Variable (codes "root")) (codes "hasChild") (Text (replicate 768 97))) (at_root None) ≡ Some (value (truth false)) }
+    ensures too_long_a_key { mean (call_with (Variable (codes "root")) (codes "hasChild") (Text (replicate 769 97))) (at_root None) ≡ None }
 {}

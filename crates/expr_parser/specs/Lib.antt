@@ -5,3 +5,4 @@ pub mod Stopping
 pub mod Text
 pub mod Working
 pub mod TreeCode
+pub mod Worked

@@ -9,6 +9,7 @@ mod expr;
 mod from_text;
 mod limits;
 mod parser;
+mod worked;
 
 pub use expr::{Argument, Expr};
 pub use expr_tokens::{Excluded, ExprFault, Name, Operator, Text, Token, tokens};
@@ -17,3 +18,4 @@ pub use limits::{MAX_LEVELS, the_limit_of_levels};
 pub use parser::{
     ParseFault, each_list_of_tokens_is_read_or_refused, expression, one_expression_of_tokens,
 };
+pub use worked::{what_levels_give, what_the_length_gives};
