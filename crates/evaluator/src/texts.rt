@@ -84,7 +84,7 @@ pub(crate) fn text_test<'a>(name: &str, receiver: Value<'a>, given: Value<'a>) -
 
 // ---- replace
 
-// Adds a text, within the limit.
+// Adds a text, within the limit. Nothing is often added: between places that stand side by side.
 fn add(made: &mut String<&Bump>, text: &str) -> Result<(), Stop>
     ensures added { IfOk result (λ _. string_bytes made.new ≡ string_bytes made.old ++ text.now) }
     ensures fits { IfOk result (λ _. length (string_bytes made.new) ≤ MAX_TEXT_BYTES) }
@@ -93,7 +93,9 @@ fn add(made: &mut String<&Bump>, text: &str) -> Result<(), Stop>
     if made.len() > MAX_TEXT_BYTES || text.len() > MAX_TEXT_BYTES - made.len() {
         return Err(Stop::Erred);
     }
-    made.push_str(text)?;
+    if !text.is_empty() {
+        made.push_str(text)?;
+    }
     Ok(())
 }
 
