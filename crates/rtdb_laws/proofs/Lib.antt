@@ -6,6 +6,7 @@ pub mod Deploying
 pub mod Stopping
 pub mod StepLaws
 pub mod RunLaws
+pub mod Existence
 pub mod WorkedValues
 pub mod Kept
 pub mod Changes

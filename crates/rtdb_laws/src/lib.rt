@@ -16,7 +16,8 @@ pub use listener_laws::{
 };
 pub use run_laws::{
     a_run_changes_identities_by_their_sessions, a_run_changes_the_rules_by_deployments,
-    every_call_of_a_run_is_judged_by_the_rules_in_force,
+    a_run_has_one_end, every_call_of_a_run_is_judged_by_the_rules_in_force,
+    every_list_of_calls_has_a_run,
 };
 pub use step_laws::{
     a_refused_event_changes_nothing, a_step_is_a_function, every_step_is_judged,

@@ -5,6 +5,21 @@ ghost use Rattle.rtdb_model.specs.declared.reply.Reply.{Reply};
 ghost use Rattle.rtdb_model.specs.State.{State, identity_of};
 ghost use Rattle.rtdb_model.specs.Step.{Call, Run};
 ghost use Rattle.rtdb_model.specs.Headline.{rules_after, identity_after, DeployFiles, IsJudgedAmong};
+ghost use Rattle.rtdb_laws.specs.Runs.{WantNone, WantAlike};
+
+/// Whatever state a database is in and whatever calls come, there is a run over them in which nothing wants
+/// memory. So no law of runs speaks of none.
+pub fn every_list_of_calls_has_a_run()
+    ensures { (old : State) (calls : List Call) → (replies : List Reply) × (new : State) × Run old calls replies new × WantNone replies }
+{}
+
+/// Two runs over the same calls from one state have the same replies and end in one state, where the same calls
+/// want memory in both; so all in which none does. Which calls want it is the one thing that the definitions
+/// leave open: from the first on that wants it in one run alone, two runs may go apart.
+pub fn a_run_has_one_end()
+    ensures alike { (old new other : State) (calls : List Call) (replies others : List Reply) → Run old calls replies new → Run old calls others other → WantAlike replies others → (replies ≡ others) × (new ≡ other) }
+    ensures in_full { (old new other : State) (calls : List Call) (replies others : List Reply) → Run old calls replies new → Run old calls others other → WantNone replies → WantNone others → (replies ≡ others) × (new ≡ other) }
+{}
 
 /// Whatever calls come, of whatever sessions, deployments among them, from whatever state, with rules as
 /// rules files have them, at most one capture in each object: each has its own reply, and is judged by
