@@ -15,10 +15,14 @@ use std::test::Fail;
 
 /// The members of `rules`, the stored tree, a question, and the verdict. A question is who asks, if
 /// somebody does, and at which moment, and then what: `ann@20 read /a`, `@20 write /a=1 | /b=null`.
-pub(crate) type Row = (&'static str, &'static str, &'static str, &'static str);
+pub(crate) type Row<'a> = (&'a str, &'a str, &'a str, &'a str);
 
 /// The verdict on the question of a row, over this arena; none where that has too little memory.
-pub(crate) fn verdict_over(alloc: Global, arena: &Bump, row: &Row) -> Result<Option<String>, Fail> {
+pub(crate) fn verdict_over(
+    alloc: Global,
+    arena: &Bump,
+    row: &Row<'_>,
+) -> Result<Option<String>, Fail> {
     let world = world_of(alloc, row)?;
     verdict_in(alloc, arena, &world, row.2)
 }
@@ -45,7 +49,7 @@ struct World {
     asker: Asker,
 }
 
-fn world_of(alloc: Global, row: &Row) -> Result<World, Fail> {
+fn world_of(alloc: Global, row: &Row<'_>) -> Result<World, Fail> {
     let asker = asker_of(alloc, row.2)?;
     let base = tree_of(alloc, row.1)?;
     let rules = rules_of(alloc, row.0)?;

@@ -13,7 +13,7 @@ const STEP_BYTES: usize = 8;
 const CHUNK_BYTES: usize = 4_096;
 
 // The verdict on the question of a row, over an arena that has so many bytes left, and gets no more.
-fn within(alloc: Global, row: &Row, left: usize) -> Result<String, Fail> {
+fn within(alloc: Global, row: &Row<'_>, left: usize) -> Result<String, Fail> {
     let arena = Bump::try_with_capacity(alloc, CHUNK_BYTES)?;
     let given = arena.chunk_capacity().saturating_sub(left);
     arena.try_alloc_str("x".repeat(alloc, given)?.as_str())?;
@@ -26,7 +26,7 @@ fn within(alloc: Global, row: &Row, left: usize) -> Result<String, Fail> {
 
 // After how many steps, from no bytes on, memory is no more wanted; from there on the verdict is that
 // of the row, or this fails.
-fn steps_wanted(alloc: Global, row: &Row) -> Result<usize, Fail> {
+fn steps_wanted(alloc: Global, row: &Row<'_>) -> Result<usize, Fail> {
     let mut wanted = 0;
     for step in 0..MOST_STEPS {
         let found = within(alloc, row, step * STEP_BYTES)?;
@@ -42,7 +42,7 @@ fn steps_wanted(alloc: Global, row: &Row) -> Result<usize, Fail> {
 const JOINED: &str =
     r#"".write":true,"$a":{"$b":{"$c":{".validate":"newData.val() == $a + $b + $c"}}}"#;
 
-const TAKING: [Row; 6] = [
+const TAKING: [Row<'static>; 6] = [
     (
         r#"".read":"'a' + 'b' == 'c'","$x":{".read":"$x + 1 == 'a1'"}"#,
         "null",
@@ -118,7 +118,7 @@ const ABOVE_ALL: &str =
 
 // Where the long rule at `/b` is asked, or that at each location, there is too little: so it is not asked
 // where a verdict is given.
-const ASKED: [Row; 10] = [
+const ASKED: [Row<'static>; 10] = [
     (A_GRANTS, "null", "@1 write /b=1 | /a=1", "no memory"),
     (
         A_DENIES,
@@ -147,5 +147,57 @@ fn a_rule_that_decides_nothing_is_not_asked(rt: HostRuntime) -> Result<(), Fail>
         let found = within(rt.alloc(), row, LITTLE)?;
         assert_eq!(rt; found.as_str(), row.3, "{} under {}", row.2, row.0);
     }
+    Ok(())
+}
+
+// ---- writes of which the first is denied
+
+// Bytes of arena more each time, and more times than any of these questions takes.
+const MORE_BYTES: usize = 256;
+
+const MOST_TRIES: usize = 1_024;
+
+const B_IS_TRUE: &str = r#""a":{".write":false},"b":{".write":true}"#;
+
+// A rule that makes a text of 40,000 letters of one of 20,000.
+const B_TAKES_MEMORY: &str =
+    r#""a":{".write":false},"b":{".write":"newData.val() + newData.val() != ''"}"#;
+
+const A_IS_TRUE: &str =
+    r#""a":{".write":true},"b":{".write":"newData.val() + newData.val() != ''"}"#;
+
+// How many growths of a new arena a question takes: each is refused in turn, and then the verdict comes.
+fn growths_of(alloc: Global, row: &Row<'_>) -> Result<usize, Fail> {
+    let mut growths = 0usize;
+    let mut taken = usize::MAX;
+    for attempt in 0..MOST_TRIES {
+        let arena = Bump::new(alloc);
+        arena.set_allocation_limit(Some(attempt * MORE_BYTES));
+        if let Some(verdict) = verdict_over(alloc, &arena, row)? {
+            return if verdict.as_str() == row.3 {
+                Ok(growths)
+            } else {
+                Err("another verdict")?
+            };
+        }
+        if arena.allocated_bytes() != taken {
+            taken = arena.allocated_bytes();
+            growths = growths.saturating_add(1);
+        }
+    }
+    Err("there is no verdict")?
+}
+
+#[test]
+fn stops_early(rt: HostRuntime) -> Result<(), Fail> {
+    let alloc = rt.alloc();
+    let letters = "x".repeat(alloc, 20_000)?;
+    let question = format!(in alloc; "@1 write /a=1 | /b=\"{letters}\"")?;
+    let denied = "write at /a: /a false";
+    let without = growths_of(alloc, &(B_IS_TRUE, "null", question.as_str(), denied))?;
+    let with = growths_of(alloc, &(B_TAKES_MEMORY, "null", question.as_str(), denied))?;
+    let asked = growths_of(alloc, &(A_IS_TRUE, "null", question.as_str(), "granted"))?;
+    assert_eq!(rt; with, without);
+    assert!(rt; with < asked, "{with}, and {asked} where it is asked");
     Ok(())
 }

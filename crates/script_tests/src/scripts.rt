@@ -102,6 +102,26 @@ fn a_broken_source_leaves_the_answers_to_complete_lines(rt: HostRuntime) {
     }
 }
 
+// A header that is refused, alone and with a request in the same block.
+const REFUSED: [&[u8]; 2] = [
+    b"{\"rules\":\"{\"}\n",
+    b"{\"rules\":\"{\"}\n{\"do\":\"open\",\"now\":1,\"s\":1}\n",
+];
+
+const REFUSAL: &[u8] = b"{\"code\":401,\"name\":\"BadRulesJson\",\"ok\":false}\n";
+
+#[test]
+fn after_a_refused_header_nothing_more_is_read(rt: HostRuntime) {
+    let alloc = rt.alloc();
+    for text in REFUSED {
+        let mut source = Pieces::new(text, text.len(), 1);
+        let mut sink = Written::new(Vec::new(alloc), 100, usize::MAX, Full::Fails);
+        let end = run_script(alloc, &mut source, &mut sink, &mut Bump::new(alloc));
+        assert!(rt; end == ScriptEnd::BadHeader);
+        assert!(rt; sink.bytes.as_slice() == REFUSAL);
+    }
+}
+
 #[test]
 fn a_broken_sink_has_the_front_of_the_answers(rt: HostRuntime) {
     let alloc = rt.alloc();

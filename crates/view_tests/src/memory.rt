@@ -17,12 +17,14 @@ fn wide(alloc: Global, width: u32) -> Result<Option<Node>, Fail> {
     tree_of(alloc, text.as_str())
 }
 
+// No writes, laid over a tree of 1,000 primitives, while each growth of the arena is refused.
 #[test]
-fn no_writes_take_no_memory(rt: HostRuntime) -> Result<(), Fail> {
+fn overlay_without_growth(rt: HostRuntime) -> Result<(), Fail> {
     let base = wide(rt.alloc(), 1_000)?;
     let arena = Bump::new(rt.alloc());
     arena.set_allocation_limit(Some(0));
     let view = overlay(&arena, base.as_ref(), &[])?.ok_or("null")?;
+    assert_eq!(rt; view.width(), 1_000);
     assert_eq!(rt; view.count(), 1_001);
     assert_eq!(rt; arena.allocated_bytes(), 0);
     Ok(())
