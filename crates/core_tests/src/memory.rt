@@ -1,12 +1,10 @@
 //! Where memory is refused: all is as it was, and the step that is made once more is answered as if nothing
 //! had been. Here the arena has little memory; `checks/refused-scripts` refuses any growth of a script.
-use crate::runs::{answer, answer_all, answers, core_of, open_two, parts_of, run_all, tried};
+use crate::runs::{answer_all, answers, core_of, parts_of, run_all, tried};
 use bumpalo::Bump;
 use rtdb_core::Core;
 use std::alloc::Global;
 use std::test::Fail;
-
-// ---- an arena that has little memory
 
 // A run, a step that is tried after it over little memory, and steps that look at what it leaves.
 type Trial = (&'static str, &'static str, &'static str);
@@ -189,25 +187,5 @@ fn refused_growths_of_the_arena_change_nothing(rt: HostRuntime) -> Result<(), Fa
         let count = refusals_of(rt.alloc(), trial)?;
         assert!(rt; 0 < count && count < MOST_STEPS, "{}: {count}", trial.1);
     }
-    Ok(())
-}
-
-// ---- an arena that can't be reset
-
-#[test]
-fn over_an_arena_that_cannot_be_reset_memory_is_wanting(rt: HostRuntime) -> Result<(), Fail> {
-    let alloc = rt.alloc();
-    let mut core = core_of(alloc, "plain")?;
-    open_two(alloc, &mut core)?;
-    let mut arena = Bump::new(alloc);
-    std::mem::forget(Box::new(&arena, 3u64).ok().ok_or("no memory")?);
-    let read = tried(alloc, &mut core, &mut arena, "1 get /")?;
-    let written = tried(alloc, &mut core, &mut arena, "1 set /x=1")?;
-    let closed = answer(alloc, &mut core, &mut arena, "1 close")?;
-    let left = answer_all(alloc, &mut core, "2 get /; 1 get /")?;
-    drop(core);
-    assert!(rt; read.is_none() && written.is_none(), "it is answered");
-    assert_eq!(rt; closed.as_str(), "ok");
-    assert_eq!(rt; left.as_str(), "null; NoSession");
     Ok(())
 }

@@ -42,7 +42,8 @@ fn what_of(alloc: Global, what: &What) -> Result<String, Fail> {
     }
 }
 
-fn name_of(refusal: &Refusal) -> &'static str {
+/// The name of a refusal.
+pub(crate) fn name_of(refusal: &Refusal) -> &'static str {
     match refusal {
         Refusal::SessionOpen => "SessionOpen",
         Refusal::TooManySessions => "TooManySessions",

@@ -102,8 +102,8 @@ pub(crate) fn answer_all(alloc: Global, core: &mut Core, steps: &str) -> Result<
     Ok(answers)
 }
 
-/// Opens the sessions 1 and 2.
-pub(crate) fn open_two(alloc: Global, core: &mut Core) -> Result<(), Fail> {
+// Opens the sessions 1 and 2.
+fn open_two(alloc: Global, core: &mut Core) -> Result<(), Fail> {
     let _answers = answer_all(alloc, core, "1 open; 2 open")?;
     Ok(())
 }
