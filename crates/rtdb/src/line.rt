@@ -1,7 +1,7 @@
 //! The command line, by `clap`.
-ghost use Rattle.std.specs.Prelude.{◌≡◌, map, string_bytes, IfOk, IfErr};
-ghost use Rattle.clap.specs.Words.{fault_of, subcommand_of, subcommand_rows_of, FailsBy};
-ghost use Rattle.rtdb.specs.Order.{the_program, Orders, IsLineFault};
+ghost use Rattle.std.specs.Prelude.{◌≡◌, ℕ, List, [], ◌∷◌, map, drop, codes, string_bytes, Contains, IfOk, IfErr};
+ghost use Rattle.clap.specs.Words.{Text, fault_of, subcommand_of, subcommand_rows_of, FailsBy};
+ghost use Rattle.rtdb.specs.Order.{the_program, Wanted, checks, AreOrder, Orders, IsLineFault};
 
 use crate::wanted::{LineFault, Order};
 use clap::error::ErrorKind;
@@ -49,3 +49,10 @@ fn parse<'a>(alloc: Global, words: &'a [String]) -> Result<ArgMatches<'a>, Error
         .subcommand(run)?;
     program.try_get_matches_from(words)
 }
+
+/// The file that a check wants is one of the words behind the program's name, and `check` without a file is no
+/// order: so no file of the empty name is wanted where none is named.
+pub fn a_check_names_one_of_the_words()
+    ensures named { (words : List Text) (name : List ℕ) → AreOrder words (checks name) → Contains (drop 1 words) name }
+    ensures missing { (program : List ℕ) (order : Wanted) → AreOrder (program ∷ codes "check" ∷ []) order → ⊥ }
+{}
