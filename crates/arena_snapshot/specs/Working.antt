@@ -1,4 +1,4 @@
--- Words of private contracts. No public clause stands on them.
+-- Words of private contracts, and of what a `View` is seen as, the changes over a node. No public clause names one.
 pub mod Change
 pub mod Changing
 pub mod Patches

@@ -1,4 +1,4 @@
--- Words of private contracts. No public clause stands on them.
+-- Words of private contracts, and of what a `Snapshot` is seen as, by those above it. No public clause names one.
 pub mod Known
 pub mod Parts
 pub mod Places

@@ -1,3 +1,3 @@
--- Words of private contracts. No public clause stands on them.
+-- Words of private contracts, and of what a `Name` is seen as, its bytes. No public clause names one.
 pub mod Scanning
 pub mod HeldName

@@ -1,4 +1,4 @@
--- Words of private contracts. No public clause stands on them.
+-- Words of private contracts, and of what a `Key`, a `LeafText` and a `Child` are seen as, bytes with their front. No public clause names one.
 pub mod Search
 pub mod Share
 pub mod NodeFalls

@@ -1,4 +1,4 @@
--- Words of private contracts. Of the public clauses none stands on them but what a `Query` is seen as, its parts.
+-- Words of private contracts, and of what a `Query` and a `Table` are seen as, by their parts. No public clause names one.
 pub mod Parts
 pub mod Said
 pub mod Numbers

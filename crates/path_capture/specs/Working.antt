@@ -1,4 +1,4 @@
--- Words of private contracts. No public clause stands on them.
+-- Words of private contracts, and of what a `CaptureName` is seen as, its bytes. No public clause names one.
 pub mod Rewind
 pub mod HeldName
 pub mod Slashes

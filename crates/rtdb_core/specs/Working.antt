@@ -1,4 +1,4 @@
--- Words of private contracts. No public clause stands on them.
+-- Words of private contracts, and of what holds of each `Core`. No public clause names one.
 pub mod Fates
 pub mod Passages
 pub mod Heard

@@ -1,4 +1,4 @@
--- Words of private contracts. No public clause stands on them.
+-- Words of private contracts, and of what holds of each `RuleNode` and of `Rules`. No public clause names one.
 pub mod Inner
 pub mod NodeFalls
 pub mod Stepped

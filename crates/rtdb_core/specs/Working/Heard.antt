@@ -1,4 +1,4 @@
--- Listeners whose reads were granted. No public clause stands on these words.
+-- Listeners whose reads were granted, as all in a `Core` were. No public clause names these words.
 use Rattle.std.specs.Prelude.{◌≡◌, ℕ, List, true, Option, option_and_then, All}
 use Rattle.std.specs.FinMap as map_of
 use Rattle.tree_model.specs.Path.{Path}
