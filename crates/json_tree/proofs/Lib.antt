@@ -19,3 +19,4 @@ pub mod ChildEdits
 pub mod Undoing
 pub mod Fronts
 pub mod Searching
+pub mod Gaps

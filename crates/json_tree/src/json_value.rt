@@ -16,7 +16,8 @@ ghost use Rattle.json_tree.specs.declared.json_value.ValueFault.TheVariants.{NoM
 use crate::key::{Key, is_lawful_key};
 use crate::leaf::{Leaf, Number, is_lawful_text};
 use crate::memory::NoMemory;
-use crate::node::{Child, Node};
+use crate::node::{Child, Kind, Node};
+use crate::siblings::Children;
 use serde_json::{Map, Value};
 use std::alloc::Global;
 use thiserror::Error;
@@ -302,20 +303,21 @@ fn parent(children: Vec<Child>) -> Result<Option<Node>, NoMemory>
 fn write(alloc: Global, node: &Node) -> Result<Value, NoMemory>
     ensures { IfOk result (λ value. view value ≡ value_of node.now) }
 {
-    match node.leaf() {
-        Some(leaf) => write_leaf(alloc, leaf),
-        None => Ok(Value::Object(write_children(alloc, node.children())?)),
+    match &node.kind {
+        Kind::Primitive(leaf) => write_leaf(alloc, leaf),
+        Kind::Parent { children, .. } => Ok(Value::Object(write_children(alloc, children)?)),
     }
 }
 
 #[cycle(write)]
-fn write_children(alloc: Global, children: &[Child]) -> Result<Map<String, Value>, NoMemory>
+fn write_children(alloc: Global, children: &Children) -> Result<Map<String, Value>, NoMemory>
     requires { is_sorted key_cmp children.now ≡ true }
     ensures { IfOk result (λ members. members_view members.entries
         ≡ members_of (map (λ child. (child.0, value_of child.1)) children.now)) }
 {
     let mut members = Map::new(alloc);
-    for child in children {
+    for i in 0..children.len() {
+        let child = children.at(i);
         let key = child.key();
         let node = child.node();
         serde_json::put(&mut members, alloc, key.text(), write(alloc, node)?)?;

@@ -16,6 +16,7 @@ mod node;
 mod puts;
 mod search;
 mod share;
+mod siblings;
 mod undo;
 
 pub use json_laws::{

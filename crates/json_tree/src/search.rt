@@ -3,7 +3,7 @@ ghost use Rattle.std.specs.Prelude.{◌+◌, ◌<◌, ◌≤◌, length};
 ghost use Rattle.json_tree.specs.Working.Search.{AreBefore};
 
 use crate::front::Sought;
-use crate::node::Child;
+use crate::siblings::Children;
 
 /// So many children from one on, among which a text is sought.
 #[derive(Clone, Copy)]
@@ -16,7 +16,7 @@ pub(crate) struct Span {
 /// before it. It takes log w steps for w children, and looks at no key. Up to 1,024 children are halved by
 /// steps that stand in no loop: in a loop a compiler makes a branch of the choice of a half, and a processor
 /// guesses every second one of them wrongly.
-pub(crate) fn count_in_front(children: &[Child], sought: &Sought<'_>) -> usize
+pub(crate) fn count_in_front(children: &Children, sought: &Sought<'_>) -> usize
     ensures within { result ≤ length children.now }
     ensures before { AreBefore sought.now result children.now }
 {
@@ -28,7 +28,7 @@ pub(crate) fn count_in_front(children: &[Child], sought: &Sought<'_>) -> usize
     let span = sixteenth(children, sought, span);
     let span = sixteenth(children, sought, span);
     let start = last(children, sought, span);
-    if children[start].is_in_front_of(sought) {
+    if children.at(start).is_in_front_of(sought) {
         start + 1
     } else {
         start
@@ -36,7 +36,8 @@ pub(crate) fn count_in_front(children: &[Child], sought: &Sought<'_>) -> usize
 }
 
 // One of two halves.
-fn half(children: &[Child], sought: &Sought<'_>, span: Span) -> Span
+fn half(children: &Children, sought: &Sought<'_>, span: Span) -> Span
+    requires many { length children.now ≤ usize.MAX }
     requires some { 0 < span.count }
     requires within { span.start + span.count ≤ length children.now }
     requires before { AreBefore sought.now span.start children.now }
@@ -48,7 +49,7 @@ fn half(children: &[Child], sought: &Sought<'_>, span: Span) -> Span
     let below = span.count / 2;
     let middle = span.start + below;
     let count = span.count - below;
-    if children[middle].is_in_front_of(sought) {
+    if children.at(middle).is_in_front_of(sought) {
         Span {
             start: middle,
             count,
@@ -62,7 +63,8 @@ fn half(children: &[Child], sought: &Sought<'_>, span: Span) -> Span
 }
 
 // One of four quarters.
-fn quarter(children: &[Child], sought: &Sought<'_>, span: Span) -> Span
+fn quarter(children: &Children, sought: &Sought<'_>, span: Span) -> Span
+    requires many { length children.now ≤ usize.MAX }
     requires some { 0 < span.count }
     requires within { span.start + span.count ≤ length children.now }
     requires before { AreBefore sought.now span.start children.now }
@@ -74,7 +76,8 @@ fn quarter(children: &[Child], sought: &Sought<'_>, span: Span) -> Span
 }
 
 // One of sixteen parts, or the only child that is left.
-fn sixteenth(children: &[Child], sought: &Sought<'_>, span: Span) -> Span
+fn sixteenth(children: &Children, sought: &Sought<'_>, span: Span) -> Span
+    requires many { length children.now ≤ usize.MAX }
     requires some { 0 < span.count }
     requires within { span.start + span.count ≤ length children.now }
     requires before { AreBefore sought.now span.start children.now }
@@ -93,7 +96,8 @@ fn sixteenth(children: &[Child], sought: &Sought<'_>, span: Span) -> Span
 }
 
 // The last child that is left.
-fn last(children: &[Child], sought: &Sought<'_>, span: Span) -> usize
+fn last(children: &Children, sought: &Sought<'_>, span: Span) -> usize
+    requires many { length children.now ≤ usize.MAX }
     requires some { 0 < span.count }
     requires within { span.start + span.count ≤ length children.now }
     requires before { AreBefore sought.now span.start children.now }
