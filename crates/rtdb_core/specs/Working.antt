@@ -3,3 +3,4 @@ pub mod Fates
 pub mod Passages
 pub mod Heard
 pub mod Moved
+pub mod Selections

@@ -18,6 +18,7 @@ mod refusals;
 mod rejudging;
 mod scratch;
 mod selected;
+mod selections;
 mod session;
 mod telling;
 mod trees;

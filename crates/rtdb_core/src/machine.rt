@@ -550,7 +550,13 @@ impl Machine {
     ) -> Result<Tidings<'a>, NoMemory>
         ensures { IfOk result (λ tidings. tidings ≡ news_of self.now.tree (settled 0 decisions.now session.now.listeners)) }
     {
-        tidings_of(arena, self.tree.as_ref(), session.listeners(), decisions)
+        tidings_of(
+            self.alloc,
+            arena,
+            self.tree.as_ref(),
+            session.listeners(),
+            decisions,
+        )
     }
 
     // Makes what was decided of an open session's listeners, whose news was told.

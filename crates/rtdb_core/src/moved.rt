@@ -1,6 +1,7 @@
-//! Whether what is selected has moved by a step. What was found of a few queries is kept, since many
-//! listeners ask for the same.
-ghost use Rattle.std.specs.Prelude.{◌≡◌, Option, Some, option_map, IfOk, IfSome};
+//! Whether what stands at a place has changed by a step, and whether what is selected there has moved. What was found
+//! of places is kept, and of a few queries, since many listeners ask about the same.
+ghost use Rattle.std.specs.Prelude.{◌≡◌, ◌≢◌, Option, Some, option_map, IfOk, IfSome};
+ghost use Rattle.std.specs.Bool.{OnTrue, OnFalse};
 ghost use Rattle.tree_model.specs.PathMap.{sub};
 ghost use Rattle.tree_model.specs.Tree.{non_null};
 ghost use Rattle.path_capture.specs.Write.{tree_or_null};
@@ -12,15 +13,22 @@ use crate::children::{a_child_moves, reach_few_children};
 use crate::passage::Passage;
 use crate::scratch::Scratch;
 use crate::selected::stored;
-use arena_snapshot::{View, is_changed, same};
+use arena_snapshot::{View, is_changed_at, same};
 use bumpalo::Bump;
-use json_tree::NoMemory;
+use json_tree::{Key, NoMemory};
 use listeners::{Query, select};
-use path_capture::Path;
+use path_capture::{Path, Write, compare_keys, is_prefix_of};
 use std::marker::Model;
 
 /// Of how many queries is kept what was found: of the first ones that are asked for.
 const MAX_FOUND: usize = 8;
+
+/// Whether what stands at a place has changed.
+#[derive(Clone, Copy)]
+pub(crate) struct Known<'s> {
+    place: &'s [Key],
+    has_changed: bool,
+}
 
 /// What was found of a query at a path.
 #[derive(Clone, Copy)]
@@ -34,6 +42,8 @@ pub(crate) struct Found<'s> {
 #[derive(Drop)]
 pub(crate) struct Moved<'a, 'p, 's> {
     passage: &'p Passage<'p>,
+    // In the order of the places.
+    known: Vec<Known<'s>, &'a Bump>,
     found: Vec<Found<'s>, &'a Bump>,
 }
 
@@ -41,7 +51,7 @@ impl<'a, 'p, 's> Model for Moved<'a, 'p, 's> {
     ghost use Rattle.std.specs.Coded.{coded×};
     ghost use Rattle.tree_model.specs.Tree.{Tree, tree_code};
     ghost use Rattle.rtdb_core.specs.Working.Passages.{IsPassage, tree_before, tree_after};
-    ghost use Rattle.rtdb_core.specs.Working.Moved.{AreFound};
+    ghost use Rattle.rtdb_core.specs.Working.Moved.{AreFound, AreKnown};
 
     ghost Value = { Tree × Tree };
 
@@ -49,7 +59,7 @@ impl<'a, 'p, 's> Model for Moved<'a, 'p, 's> {
 
     ghost view = { λ moved. (tree_before moved.passage.now, tree_after moved.passage.now) };
 
-    ghost invariant = { λ moved. IsPassage moved.passage.now × AreFound (tree_before moved.passage.now) (tree_after moved.passage.now) moved.found.items };
+    ghost invariant = { λ moved. IsPassage moved.passage.now × AreFound (tree_before moved.passage.now) (tree_after moved.passage.now) moved.found.items × AreKnown (tree_before moved.passage.now) (tree_after moved.passage.now) moved.known.items };
 }
 
 impl<'a, 'p, 's> Moved<'a, 'p, 's> {
@@ -60,8 +70,51 @@ impl<'a, 'p, 's> Moved<'a, 'p, 's> {
     {
         Moved {
             passage,
+            known: Vec::new(arena),
             found: Vec::new(arena),
         }
+    }
+
+    /// Whether another tree stands at a place after the step. What was found is kept, so that the writes are compared
+    /// once with what stands there, however many ask.
+    pub(crate) fn has_changed(&mut self, place: &'s [Key]) -> bool
+        ensures changed { OnTrue result (sub self.old.1 place.now ≢ sub self.old.0 place.now) }
+        ensures unchanged { OnFalse result (sub self.old.1 place.now ≡ sub self.old.0 place.now) }
+        ensures same { self.new ≡ self.old }
+    {
+        if is_elsewhere(self.passage.writes, place) {
+            return is_changed_at(self.passage.base, self.passage.writes, place);
+        }
+        let index = index_of(&self.known, place);
+        if let Some(has_changed) = self.known_at(index, place) {
+            return has_changed;
+        }
+        let has_changed = is_changed_at(self.passage.base, self.passage.writes, place);
+        self.note(index, place, has_changed);
+        has_changed
+    }
+
+    // What is known of a place, which stands at this index if anything is.
+    fn known_at(&self, index: usize, place: &[Key]) -> Option<bool>
+        ensures changed { IfSome result (λ has_changed. OnTrue has_changed (sub self.now.1 place.now ≢ sub self.now.0 place.now)) }
+        ensures unchanged { IfSome result (λ has_changed. OnFalse has_changed (sub self.now.1 place.now ≡ sub self.now.0 place.now)) }
+    {
+        let known = self.known.get(index)?;
+        if compare_keys(known.place, place).is_eq() {
+            Some(known.has_changed)
+        } else {
+            None
+        }
+    }
+
+    // Keeps what was found of a place, where there is memory for it.
+    fn note(&mut self, index: usize, place: &'s [Key], has_changed: bool)
+        requires changed { OnTrue has_changed (sub self.old.1 place.now ≢ sub self.old.0 place.now) }
+        requires unchanged { OnFalse has_changed (sub self.old.1 place.now ≡ sub self.old.0 place.now) }
+        ensures { self.new ≡ self.old }
+    {
+        let index = index.min(self.known.len());
+        let _ = self.known.insert(index, Known { place, has_changed });
     }
 
     /// Whether what a query selects of a path has moved, without a query all that stands there. It takes
@@ -75,7 +128,7 @@ impl<'a, 'p, 's> Moved<'a, 'p, 's> {
         ensures moved { IfOk result (λ moved. moved ≡ moves self.old.0 self.old.1 path.now (option_map (λ query. query.now) query.entry)) }
         ensures same { self.new ≡ self.old }
     {
-        if !is_changed(self.passage.base, self.passage.writes, path) {
+        if !self.has_changed(path.keys()) {
             return Ok(false);
         }
         let Some(query) = query else {
@@ -110,6 +163,23 @@ impl<'a, 'p, 's> Moved<'a, 'p, 's> {
             let _ = self.found.push(Found { path, query, moved });
         }
     }
+}
+
+// Whether there is no write, or one alone that is neither above nor below a place, so that nothing is worth keeping.
+fn is_elsewhere(writes: &[Write], place: &[Key]) -> bool {
+    match writes {
+        [] => true,
+        [write] => {
+            let at = write.at().keys();
+            !is_prefix_of(at, place) && !is_prefix_of(place, at)
+        }
+        _ => false,
+    }
+}
+
+// How many places stand before this one.
+fn index_of(known: &[Known<'_>], place: &[Key]) -> usize {
+    known.partition_point(|one| compare_keys(one.place, place).is_lt())
 }
 
 // Whether what a query selects of a path has moved.

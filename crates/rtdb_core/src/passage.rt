@@ -13,7 +13,7 @@ use crate::fates::Fate;
 use crate::moved::Moved;
 use crate::scratch::Scratch;
 use crate::selected::{asked_for, stored};
-use arena_snapshot::{View, is_changed_at};
+use arena_snapshot::View;
 use bumpalo::Bump;
 use evaluator::{Identity, MAX_MOMENT, Moment};
 use json_tree::{NoMemory, Node};
@@ -82,7 +82,7 @@ pub(crate) fn fate_of<'s>(
     if !listener.is_live {
         return Ok(None);
     }
-    if stays(passage, listener.path) {
+    if stays(passage, listener.path, moved) {
         return Ok(None);
     }
     if !hears(scratch.arena()?, passage, who, listener)? {
@@ -98,16 +98,18 @@ pub(crate) fn fate_of<'s>(
 }
 
 // Whether a listener of this path stays as it is, for nothing has changed of what its read depends on.
-fn stays(passage: &Passage<'_>, path: &Path) -> bool
-    requires { IsPassage passage.now }
+fn stays<'s>(passage: &Passage<'_>, path: &'s Path, moved: &mut Moved<'_, '_, 's>) -> bool
+    requires passage { IsPassage passage.now }
+    requires moved { moved.old ≡ (tree_before passage.now, tree_after passage.now) }
     ensures heard { OnTrue result (passage.now.was_heard ≡ true) }
     ensures same { OnTrue result (IsAsBefore passage.now.rules.now (tree_before passage.now) (tree_after passage.now) path.now) }
+    ensures moved { moved.new ≡ moved.old }
 {
     if !passage.was_heard {
         return false;
     }
     match watched(passage.rules, path) {
-        Some(place) => !is_changed_at(passage.base, passage.writes, place),
+        Some(place) => !moved.has_changed(place),
         None => false,
     }
 }

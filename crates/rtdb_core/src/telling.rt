@@ -7,14 +7,16 @@ ghost use Rattle.rtdb_model.specs.Tidings.{notice_of};
 ghost use Rattle.rtdb_core.specs.Working.Fates.{settled};
 
 use crate::fates::{Decision, Docket, after};
-use crate::selected::view_in;
+use crate::selections::Selections;
 use bumpalo::Bump;
 use json_tree::{NoMemory, Node};
 use listeners::{Listener, Table};
 use rtdb_model::{Sight, Tiding, Tidings};
+use std::alloc::Global;
 
 /// What is told of these listeners, once what was decided of them is made: a list in the arena.
 pub(crate) fn tidings_of<'a>(
+    alloc: Global,
     arena: &'a Bump,
     tree: Option<&'a Node>,
     listeners: &'a Table,
@@ -23,10 +25,11 @@ pub(crate) fn tidings_of<'a>(
     ensures { IfOk result (λ tidings. tidings ≡ news_of (node_or_null tree.entry) (settled 0 decisions.now listeners.now)) }
 {
     let mut tidings = Vec::new(arena);
+    let mut selections = Selections::new(alloc, arena, tree);
     let mut docket = Docket::new(decisions);
     for index in 0..listeners.len() {
         let listener = after(listeners.entry(index), docket.front());
-        if let Some(tiding) = told(arena, tree, &listener)? {
+        if let Some(tiding) = told(&mut selections, &listener)? {
             tidings.push(tiding)?;
         }
         docket = docket.behind();
@@ -36,16 +39,16 @@ pub(crate) fn tidings_of<'a>(
 
 // What is told of a listener.
 fn told<'a>(
-    arena: &'a Bump,
-    tree: Option<&'a Node>,
+    selections: &mut Selections<'a>,
     listener: &Listener<'a>,
 ) -> Result<Option<Tiding<'a>>, NoMemory>
-    ensures { IfOk result (λ tiding. option_map notice_of tiding ≡ told (node_or_null tree.entry) (seen listener.now)) }
+    ensures told { IfOk result (λ tiding. option_map notice_of tiding ≡ told selections.old (seen listener.now)) }
+    ensures same { selections.new ≡ selections.old }
 {
     let what = if !listener.is_live {
         Sight::Gone
     } else if listener.is_marked {
-        Sight::Now(view_in(arena, tree, listener.path.keys(), listener.query)?)
+        Sight::Now(selections.at(listener.path, listener.query)?)
     } else {
         return Ok(None);
     };

@@ -1,5 +1,7 @@
 -- What was found of queries. No public clause stands on these words.
 use Rattle.std.specs.Prelude.{◌≡◌, ◌≢◌, ◌⊎◌, true, false, List, [], ◌∷◌, Some, All}
+use Rattle.std.specs.Bool.{OnTrue, OnFalse}
+use Rattle.std.specs.List.{AllByRecursion}
 use Rattle.tree_model.specs.Key.{Key}
 use Rattle.tree_model.specs.PathMap.{sub}
 use Rattle.tree_model.specs.Tree.{Tree}
@@ -7,6 +9,7 @@ use Rattle.listeners.specs.Query.{Query}
 use Rattle.listeners.specs.Selection.{is_selected}
 use Rattle.rtdb_model.specs.Rejudged.{moves}
 use Rattle.rtdb_core.specs.declared.moved.Found.{Found}
+use Rattle.rtdb_core.specs.declared.moved.Known.{Known}
 
 -- it is so, where these trees stand before a step and after it
 abbrev pub IsFound : Tree → Tree → Found → Type 0
@@ -14,6 +17,13 @@ IsFound before after found = found.moved ≡ moves before after found.path.now (
 
 abbrev pub AreFound : Tree → Tree → List Found → Type 0
 AreFound before after all = All (IsFound before after) all
+
+-- another tree stands at the place just where it is known so
+abbrev pub IsKnown : Tree → Tree → Known → Type 0
+IsKnown before after known = OnTrue known.has_changed (sub after known.place.now ≢ sub before known.place.now) × OnFalse known.has_changed (sub after known.place.now ≡ sub before known.place.now)
+
+abbrev pub AreKnown : Tree → Tree → List Known → Type 0
+AreKnown before after all = AllByRecursion (IsKnown before after) all
 
 -- ---- by children
 

@@ -1,10 +1,9 @@
-use Rattle.std.proofs.Common.{◌≡◌, ◌≢◌, ◌∙◌, ◌+◌, ◌<◌, ◌≤◌, Bool, true, false, true≢false, List, [], ◌∷◌, ◌++◌, length, get_or, inl, inr, ap, sym, subst, arith}
+use Rattle.std.proofs.Common.{◌≡◌, ◌∙◌, true, true≢false, List, [], ◌∷◌, ◌++◌, length, get_or, inl, inr, ap, sym, arith}
 use Rattle.tree_model.specs.Key.{Key}
 use Rattle.tree_model.specs.Path.{Path, is_prefix}
 use Rattle.tree_model.specs.PathMap.{sub}
 use Rattle.tree_model.specs.Tree.{Tree}
 use Rattle.tree_model.specs.Write.{Write, location, proposed}
-use Rattle.path_capture.specs.Write.{tree_or_null}
 use Rattle.arena_snapshot.proofs.Tests.{from_true, on_true, on_false}
 use Rattle.listeners.specs.Selection.{is_selected}
 use Rattle.rtdb_core.specs.Working.Moved.{IsMovedBy, IsLeft}

@@ -1,4 +1,4 @@
-use Rattle.std.proofs.Common.{◌≡◌, ◌∙◌, ◌<◌, ◌^◌, length, sym, ap, subst, arith}
+use Rattle.std.proofs.Common.{◌∙◌, ◌<◌, ◌^◌, length, sym, ap, subst, arith}
 use Rattle.rtdb_model.specs.State.{State}
 use Rattle.rtdb_model.specs.Step.{tree_with}
 use Rattle.rtdb_core.specs.Working.Fates.{sparse, all_sessions, with_tree}
