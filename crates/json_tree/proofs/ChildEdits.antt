@@ -5,7 +5,7 @@ use Rattle.std.specs.FinMap.{find, is_sorted}
 use Rattle.std.specs.List.{insert, remove}
 use Rattle.std.specs.List.Sorted.{IsBinarySearchResult}
 use Rattle.std.specs.Str.{bytes_eq}
-use Rattle.std.proofs.lemmas.List.{length-set, set-get_or, set-set, get_or_default, get_or-set_same}
+use Rattle.std.proofs.lemmas.List.{length-set, set-get_or}
 use Rattle.std.proofs.lemmas.List.Edits.{length-insert, length-remove}
 use Rattle.tree_model.specs.declared.limits.TheConstants.{MAX_DEPTH}
 use Rattle.tree_model.specs.Key.{Key, key_cmp, is_key}
@@ -31,18 +31,6 @@ pub record StandsAt (cs : List (Key × Tree)) (i : ℕ) (d : Key × Tree) (name 
   pub within : i < length cs
   pub at : d ≡ get_or cs i d
   pub tied : key_cmp (get_or cs i d).0 name ≡ Equal
-
--- the tree of a child is taken out, by its index
-pub taken_out : (cs : List (Key × Tree)) (i : ℕ) (name : Key) (e : Key × Tree) (t : Tree) → AreLawfulChildren cs → i < length cs → key_cmp (get_or cs i e).0 name ≡ Equal → t ≡ (get_or cs i e).1 → StandsAt cs i ((get_or cs i e).0, t) name
-taken_out cs i name e t h within tied is =
-    let same = get_or_default cs i e ((get_or cs i e).0, t) within in
-    record { children = h; within = within; at = (λ k. ((get_or cs i e).0, is k)) ∙ same; tied = ap (λ (c : Key × Tree). key_cmp c.0 name) (sym same) ∙ tied }
-
--- and another is put back
-pub put_back : (cs mid new : List (Key × Tree)) (i : ℕ) (e : Key × Tree) (x t : Tree) → i < length cs → mid ≡ set cs i ((get_or cs i e).0, x) → new ≡ set mid i ((get_or mid i e).0, t) → new ≡ set cs i ((get_or cs i e).0, t)
-put_back cs mid new i e x t within out back =
-    let there : get_or mid i e ≡ ((get_or cs i e).0, x) = ap (λ ds. get_or ds i e) out ∙ get_or-set_same cs i ((get_or cs i e).0, x) e within in
-    back ∙ (λ k. set (out k) i ((there k).0, t)) ∙ set-set cs i ((get_or cs i e).0, x) ((get_or cs i e).0, t)
 
 module _ {cs : List (Key × Tree)} {i : ℕ} {d : Key × Tree} {name : Key} (h : StandsAt cs i d name) where
   key_is : (get_or cs i d).0 ≡ name

@@ -19,4 +19,3 @@ pub mod ChildEdits
 pub mod Undoing
 pub mod Fronts
 pub mod Searching
-pub mod Gaps

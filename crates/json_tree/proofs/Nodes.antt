@@ -1,5 +1,5 @@
 -- What holds of the tree that a node is seen as.
-use Rattle.std.proofs.Common.{ℕ, ◌≡◌, ◌≢◌, ◌≤◌, ◌<◌, List, sym, ap, ◌∙◌, subst}
+use Rattle.std.proofs.Common.{ℕ, ◌≡◌, ◌≢◌, ◌≤◌, ◌<◌, List, Vec, Global, sym, ap, ◌∙◌, subst}
 use Rattle.std.specs.List.{All}
 use Rattle.tree_model.specs.declared.limits.TheConstants.{MAX_DEPTH}
 use Rattle.tree_model.specs.Key.{Key}
@@ -18,7 +18,7 @@ use Rattle.json_tree.proofs.Lists.{weaker, all_from_recursion}
 
 pub kind≢null : (k : Kind) → IsKind k → tree_of k ≢ null
 kind≢null (Primitive leaf) h = lone≢null (primitive_of leaf)
-kind≢null (Parent deep cs many) h = graft≢null cs h.0
+kind≢null (Parent cs deep many) h = graft≢null cs.items h.0
 
 pub depth_within : (t : Tree) → IsLawful t → depth t ≤ MAX_DEPTH
 depth_within t h = depth_le t MAX_DEPTH (λ q there. path_length q (h.paths q there))
@@ -27,14 +27,14 @@ depth_within t h = depth_le t MAX_DEPTH (λ q there. path_length q (h.paths q th
 pub at_primitive : {k : Kind} {t : Tree} {leaf : Leaf} → tree_of k ≡ t → k ≡ Primitive leaf → t ≡ lone (primitive_of leaf)
 at_primitive view_is is = sym view_is ∙ ap tree_of is
 
-pub at_parent : {k : Kind} {t : Tree} {cs : List (Key × Tree)} {deep many : ℕ} → tree_of k ≡ t → k ≡ Parent deep cs many → t ≡ graft cs
+pub at_parent : {k : Kind} {t : Tree} {cs : Vec (Key × Tree) Global} {deep many : ℕ} → tree_of k ≡ t → k ≡ Parent cs deep many → t ≡ graft cs.items
 at_parent view_is is = sym view_is ∙ ap tree_of is
 
-pub parts_at_parent : {k : Kind} {cs : List (Key × Tree)} {deep many : ℕ} → IsKind k → k ≡ Parent deep cs many → AreLawfulChildren cs
+pub parts_at_parent : {k : Kind} {cs : Vec (Key × Tree) Global} {deep many : ℕ} → IsKind k → k ≡ Parent cs deep many → AreLawfulChildren cs.items
 parts_at_parent h is = subst IsKind is h
 
 -- and the size of one that has children
-pub size_at_parent : {k : Kind} {cs : List (Key × Tree)} {deep many : ℕ} → IsSized k → k ≡ Parent deep cs many → IsSize (graft cs) deep many
+pub size_at_parent : {k : Kind} {cs : Vec (Key × Tree) Global} {deep many : ℕ} → IsSized k → k ≡ Parent cs deep many → IsSize (graft cs.items) deep many
 size_at_parent h is = subst IsSized is h
 
 -- lawful children leave room for their keys

@@ -1,5 +1,5 @@
 -- The depth and the count of a parent where one child changes.
-use Rattle.std.proofs.Common.{◌≡◌, ◌≢◌, ℕ, zero, suc, ◌+◌, ◌-◌, ◌^◌, ◌≤◌, ◌<◌, min, max, List, [], ◌∷◌, map, length, get_or, set, sym, ap, ◌∙◌, arith}
+use Rattle.std.proofs.Common.{◌≡◌, ◌≢◌, ℕ, zero, suc, ◌+◌, ◌-◌, ◌^◌, ◌≤◌, ◌<◌, min, max, List, [], ◌∷◌, map, length, get_or, set, Vec, Global, sym, ap, ◌∙◌, arith}
 use Rattle.std.specs.List.{insert, remove, sum_by}
 use Rattle.std.proofs.lemmas.List.{get_or-set_same}
 use Rattle.std.proofs.lemmas.List.Sums.{sum_by-set, sum_by-insert, sum_by-remove}
@@ -131,13 +131,13 @@ set_there cs i c x h is = is ∙ get_or-set_same cs i c x h
 -- ---- what the parent has then
 
 -- what a parent keeps beside its children
-pub size_of_node : {k : Kind} {cs : List (Key × Tree)} {deep many : ℕ} → IsNode k → k ≡ Parent deep cs many → IsSizeOf cs deep many
+pub size_of_node : {k : Kind} {cs : Vec (Key × Tree) Global} {deep many : ℕ} → IsNode k → k ≡ Parent cs deep many → IsSizeOf cs.items deep many
 size_of_node {cs = cs} node is =
     let parts = parts_at_parent node.parts is in
     let size = size_at_parent node.sized is in
     record {
-      depth = size.depth ∙ depth-graft cs parts.0;
-      count = size.count ∙ ap (λ m. min m (2 ^ 64 - 1)) (count-graft cs parts.0);
+      depth = size.depth ∙ depth-graft cs.items parts.0;
+      count = size.count ∙ ap (λ m. min m (2 ^ 64 - 1)) (count-graft cs.items parts.0);
     }
 
 -- the depth of the parent where it is known

@@ -11,7 +11,7 @@ use Rattle.json_tree.specs.declared.node.Kind.TheVariants.{Primitive, Parent}
 
 abbrev pub tree_of : Kind → Tree
 tree_of (Primitive leaf) = lone (primitive_of leaf)
-tree_of (Parent deep children many) = graft children
+tree_of (Parent children deep many) = graft children.items
 
 -- children that may stand together, each lawful below its key
 abbrev pub AreLawfulChildren : List (Key × Tree) → Type 0
@@ -20,7 +20,7 @@ AreLawfulChildren cs = AreChildren cs × AllByRecursion IsLawfulChild cs
 -- a leaf, or lawful children
 abbrev pub IsKind : Kind → Type 0
 IsKind (Primitive leaf) = Unit {0}
-IsKind (Parent deep children many) = AreLawfulChildren children
+IsKind (Parent children deep many) = AreLawfulChildren children.items
 
 -- the depth and the count of a tree, the count up to the greatest `usize`
 pub record IsSize (t : Tree) (deep many : ℕ) : Type 0 where
@@ -30,7 +30,7 @@ pub record IsSize (t : Tree) (deep many : ℕ) : Type 0 where
 -- a parent knows the depth and the count of its tree
 abbrev pub IsSized : Kind → Type 0
 IsSized (Primitive leaf) = Unit {0}
-IsSized (Parent deep children many) = IsSize (graft children) deep many
+IsSized (Parent children deep many) = IsSize (graft children.items) deep many
 
 -- the parts of a node
 pub record IsNode (kind : Kind) : Type 0 where

@@ -2,11 +2,9 @@
 pub mod Search
 pub mod Share
 pub mod NodeFalls
-pub mod ChildrenFall
 pub mod Levels
 pub mod Members
 pub mod Changed
 pub mod Held
 pub mod Words
 pub mod Front
-pub mod Gap

@@ -9,8 +9,7 @@ ghost use Rattle.json_tree.specs.Json.{data_of, members_of, value_of};
 
 use crate::leaf::Leaf;
 use crate::memory::NoMemory;
-use crate::node::{Kind, Node};
-use crate::siblings::Children;
+use crate::node::{Child, Node};
 use json::Writer;
 use std::alloc::AllocError;
 
@@ -47,21 +46,20 @@ pub fn write_node(out: &mut Writer, node: &Node) -> Result<(), AllocError>
     ensures tokens { OnOk result (out.new.tokens
         ≡ out.old.tokens ++ json_tokens (outline (value_of node.now))) }
 {
-    match &node.kind {
-        Kind::Primitive(leaf) => write_leaf(out, leaf),
-        Kind::Parent { children, .. } => write_children(out, children),
+    match node.leaf() {
+        Some(leaf) => write_leaf(out, leaf),
+        None => write_children(out, node.children()),
     }
 }
 
 #[cycle(write)]
-fn write_children(out: &mut Writer, children: &Children) -> Result<(), AllocError>
+fn write_children(out: &mut Writer, children: &[Child]) -> Result<(), AllocError>
     ensures before { out.new.before ≡ out.old.before }
     ensures tokens { OnOk result (out.new.tokens ≡ out.old.tokens ++ json_tokens
         (outline (object (members_of (map (λ child. (child.0, value_of child.1)) children.now))))) }
 {
     out.begin_object()?;
-    for i in 0..children.len() {
-        let child = children.at(i);
+    for child in children {
         let key = child.key();
         let node = child.node();
         out.key(key.text())?;

@@ -16,8 +16,7 @@ ghost use Rattle.json_tree.specs.declared.json_value.ValueFault.TheVariants.{NoM
 use crate::key::{Key, is_lawful_key};
 use crate::leaf::{Leaf, Number, is_lawful_text};
 use crate::memory::NoMemory;
-use crate::node::{Child, Kind, Node};
-use crate::siblings::Children;
+use crate::node::{Child, Node};
 use serde_json::{Map, Value};
 use std::alloc::Global;
 use thiserror::Error;
@@ -303,21 +302,20 @@ fn parent(children: Vec<Child>) -> Result<Option<Node>, NoMemory>
 fn write(alloc: Global, node: &Node) -> Result<Value, NoMemory>
     ensures { IfOk result (λ value. view value ≡ value_of node.now) }
 {
-    match &node.kind {
-        Kind::Primitive(leaf) => write_leaf(alloc, leaf),
-        Kind::Parent { children, .. } => Ok(Value::Object(write_children(alloc, children)?)),
+    match node.leaf() {
+        Some(leaf) => write_leaf(alloc, leaf),
+        None => Ok(Value::Object(write_children(alloc, node.children())?)),
     }
 }
 
 #[cycle(write)]
-fn write_children(alloc: Global, children: &Children) -> Result<Map<String, Value>, NoMemory>
+fn write_children(alloc: Global, children: &[Child]) -> Result<Map<String, Value>, NoMemory>
     requires { is_sorted key_cmp children.now ≡ true }
     ensures { IfOk result (λ members. members_view members.entries
         ≡ members_of (map (λ child. (child.0, value_of child.1)) children.now)) }
 {
     let mut members = Map::new(alloc);
-    for i in 0..children.len() {
-        let child = children.at(i);
+    for child in children {
         let key = child.key();
         let node = child.node();
         serde_json::put(&mut members, alloc, key.text(), write(alloc, node)?)?;

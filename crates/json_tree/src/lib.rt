@@ -16,7 +16,6 @@ mod node;
 mod puts;
 mod search;
 mod share;
-mod siblings;
 mod undo;
 
 pub use json_laws::{

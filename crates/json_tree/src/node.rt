@@ -17,7 +17,6 @@ use crate::key::Key;
 use crate::leaf::Leaf;
 use crate::memory::NoMemory;
 use crate::search::count_in_front;
-use crate::siblings::Children;
 use std::alloc::Global;
 use std::cmp::Ordering;
 use std::marker::Model;
@@ -39,18 +38,17 @@ pub struct Node {
 pub(crate) enum Kind {
     Primitive(Leaf),
     Parent {
-        // The depth and the count of the tree, kept so that nobody walks it for them. The depth comes first, where it
-        // lies beside the tag: so a node has 48 bytes.
-        depth: u8,
         // Ascending by the bytes of the keys, at least one.
-        children: Children,
+        children: Vec<Child>,
+        // The depth and the count of the tree, kept so that nobody walks it for them.
+        depth: usize,
         count: usize,
     },
 }
 
-/// A child of a node: its key, and its tree. Both lie in a growth of their own, so that where a child is moved in
-/// the list of children, 16 bytes are; beside it stands the front of the key, so that a search mostly looks at the
-/// list alone. Contracts see the pair. (Guide "Structure Your Database", how data is
+/// A child of a node: its key, and its tree. Both lie in a growth of their own, so that where a child comes
+/// or goes, those behind it are moved by 16 bytes each; beside it stands the front of the key, so that a search
+/// mostly looks at the list alone. Contracts see the pair. (Guide "Structure Your Database", how data is
 /// structured.)
 #[cycle(node)]
 #[derive(Debug, Drop)]
@@ -69,7 +67,7 @@ pub struct Place<'a> {
 }
 
 impl Model for Child {
-    ghost use Rattle.std.specs.Prelude.{ℕ, List, ◌+◌, ◌*◌};
+    ghost use Rattle.std.specs.Prelude.{ℕ, List, ◌+◌};
     ghost use Rattle.std.specs.Coded.{coded×, coded_list, coded_ℕ};
     ghost use Rattle.tree_model.specs.PathMap.{depth as depth_of};
     ghost use Rattle.tree_model.specs.Tree.{Tree, tree_code};
@@ -84,7 +82,7 @@ impl Model for Child {
 
     ghost invariant = { λ child. IsFrontOf child.held.value.0 child.front.0 };
 
-    ghost size = { λ child. 3 * depth_of child.1 + 2 };
+    ghost size = { λ child. depth_of child.1 + depth_of child.1 + 1 };
 
     ghost use Rattle.std.proofs.Common.{arith};
 
@@ -178,9 +176,9 @@ impl Model for Node {
 
     ghost invariant = { λ node. IsNode node.kind };
 
-    ghost use Rattle.std.specs.Prelude.{◌+◌, ◌*◌};
+    ghost use Rattle.std.specs.Prelude.{◌+◌};
 
-    ghost size = { λ tree. 3 * depth_of tree + 1 };
+    ghost size = { λ tree. depth_of tree + depth_of tree };
 
     ghost use Rattle.json_tree.specs.Working.NodeFalls.{falls};
 
@@ -207,12 +205,11 @@ impl Node {
         ensures succeeds { IsOk result }
         ensures tree { IfOk result (λ node. node ≡ graft children.items) }
     {
-        let children = Children::of_vec(children);
         let (depth, count) = sizes_of(&children);
         Ok(Node {
             kind: Kind::Parent {
-                depth: depth as u8,
                 children,
+                depth,
                 count,
             },
         })
@@ -281,10 +278,8 @@ impl Node {
         ensures { option_map (λ entry. (entry.0.now, entry.1.now)) result
             ≡ slice_get (map_of.entries (children self.now)) i }
     {
-        match &self.kind {
-            Kind::Primitive(_) => None,
-            Kind::Parent { children, .. } => entry_of(children, i),
-        }
+        let entry = self.children().get(i)?;
+        Some((entry.key(), entry.node()))
     }
 
     /// The most keys above a primitive, in constant time.
@@ -293,7 +288,7 @@ impl Node {
     {
         match &self.kind {
             Kind::Primitive(_) => 0,
-            Kind::Parent { depth, .. } => *depth as usize,
+            Kind::Parent { depth, .. } => *depth,
         }
     }
 
@@ -317,12 +312,12 @@ impl Node {
         let kind = match &self.kind {
             Kind::Primitive(leaf) => Kind::Primitive(leaf.copy(alloc)?),
             Kind::Parent {
-                depth,
                 children,
+                depth,
                 count,
             } => Kind::Parent {
-                depth: *depth,
                 children: copy_of(alloc, children)?,
+                depth: *depth,
                 count: *count,
             },
         };
@@ -342,6 +337,18 @@ impl Node {
         }
     }
 
+    // The children with their keys, in their order.
+    pub(crate) fn children(&self) -> &[Child]
+        ensures exact { result.now ≡ map_of.entries (children self.now) }
+        ensures parent { get self.now [] ≡ None → AreChildren result.now }
+        ensures graft { get self.now [] ≡ None → self.now ≡ graft result.now }
+    {
+        match &self.kind {
+            Kind::Primitive(_) => &[],
+            Kind::Parent { children, .. } => children.as_slice(),
+        }
+    }
+
     /// What holds of every node: something stands there, and all of it is lawful.
     pub fn law(&self)
         ensures some { self.now ≢ null }
@@ -353,20 +360,18 @@ impl Node {
 }
 
 // The depth and the count of a tree of these children.
-pub(crate) fn sizes_of(children: &Children) -> (usize, usize)
-    requires some { children.now ≢ [] }
-    requires ascending { is_sorted key_cmp children.now ≡ true }
-    requires room { All (λ child. depth child.1 < MAX_DEPTH) children.now }
-    ensures children { AreChildren children.now }
-    ensures lawful { AllByRecursion IsLawfulChild children.now }
-    ensures depth { result.0 ≡ depth (graft children.now) }
-    ensures within { result.0 ≤ MAX_DEPTH }
-    ensures count { result.1 ≡ min (count (graft children.now)) usize.MAX }
+pub(crate) fn sizes_of(children: &Vec<Child>) -> (usize, usize)
+    requires some { children.now.items ≢ [] }
+    requires ascending { is_sorted key_cmp children.now.items ≡ true }
+    requires room { All (λ child. depth child.1 < MAX_DEPTH) children.now.items }
+    ensures children { AreChildren children.now.items }
+    ensures lawful { AllByRecursion IsLawfulChild children.now.items }
+    ensures depth { result.0 ≡ depth (graft children.now.items) }
+    ensures count { result.1 ≡ min (count (graft children.now.items)) usize.MAX }
 {
     let mut depth = 0;
     let mut count = 1usize;
-    for i in 0..children.len() {
-        let child = children.at(i);
+    for child in children {
         let node = child.node();
         child.key().text();
         node.law();
@@ -376,16 +381,16 @@ pub(crate) fn sizes_of(children: &Children) -> (usize, usize)
     (depth, count)
 }
 
-fn place_of<'a>(children: &'a Children, name: &str) -> Place<'a>
-    requires { AreChildren children.now }
+fn place_of<'a>(children: &'a Vec<Child>, name: &str) -> Place<'a>
+    requires { AreChildren children.now.items }
     ensures child { option_map (λ node. node.now) result.child
-        ≡ non_null (sub (graft children.now) (name.now ∷ [])) }
+        ≡ non_null (sub (graft children.now.items) (name.now ∷ [])) }
     ensures before { result.before ≡ count_by (λ key. is_lt (key_cmp key name.now))
-        (map (λ child. child.0) children.now) }
+        (map (λ child. child.0) children.now.items) }
 {
     match index_of(children, name) {
         Ok(index) => Place {
-            child: Some(children.at(index).node()),
+            child: Some(children[index].node()),
             before: index,
         },
         Err(index) => Place {
@@ -397,69 +402,47 @@ fn place_of<'a>(children: &'a Children, name: &str) -> Place<'a>
 
 // Where the child of this key is, or where it would go. Fronts lead to one child, and only where that has the
 // front of the text, and is another, the whole is searched.
-pub(crate) fn index_of(children: &Children, name: &str) -> Result<usize, usize>
-    ensures bound { IsSearchInRange result (length children.now) }
+pub(crate) fn index_of(children: &Vec<Child>, name: &str) -> Result<usize, usize>
+    ensures bound { IsSearchInRange result (length children.now.items) }
     ensures position { IsBinarySearchResult (λ child. key_cmp child.0 name.now)
-        children.now result }
+        children.now.items result }
 {
     let sought = Sought::of(name);
     let index = count_in_front(children, &sought);
     if index == children.len() {
         return Err(index);
     }
-    match children.at(index).compare(&sought) {
+    match children[index].compare(&sought) {
         Ordering::Equal => Ok(index),
         Ordering::Greater => Err(index),
         Ordering::Less => searched(children, &sought),
     }
 }
 
-// The same by a binary search over the whole keys.
-fn searched(children: &Children, sought: &Sought<'_>) -> Result<usize, usize>
-    ensures bound { IsSearchInRange result (length children.now) }
+// The same by a binary search.
+fn searched(children: &Vec<Child>, sought: &Sought<'_>) -> Result<usize, usize>
+    ensures bound { IsSearchInRange result (length children.now.items) }
     ensures position { IsBinarySearchResult (λ child. key_cmp child.0 sought.now)
-        children.now result }
+        children.now.items result }
 {
-    let mut start = 0;
-    let mut end = children.len();
-    'halving: while start < end {
-        let middle = start + (end - start) / 2;
-        match children.at(middle).compare(sought) {
-            Ordering::Less => start = middle + 1,
-            Ordering::Equal => return Ok(middle),
-            Ordering::Greater => end = middle,
-        }
-    }
-    Err(start)
+    children.binary_search_by(|child| child.compare(sought))
 }
 
-fn key_of(children: &Children, i: usize) -> Option<&Key>
+fn key_of(children: &Vec<Child>, i: usize) -> Option<&Key>
     ensures { option_map (λ key. key.now) result
-        ≡ slice_get (map (λ child. child.0) children.now) i }
+        ≡ slice_get (map (λ child. child.0) children.now.items) i }
 {
     if i < children.len() {
-        Some(children.at(i).key())
-    } else {
-        None
-    }
-}
-
-fn entry_of(children: &Children, i: usize) -> Option<(&Key, &Node)>
-    ensures { option_map (λ entry. (entry.0.now, entry.1.now)) result ≡ slice_get children.now i }
-{
-    if i < children.len() {
-        let child = children.at(i);
-        Some((child.key(), child.node()))
+        Some(children[i].key())
     } else {
         None
     }
 }
 
 // About how many bytes the keys of these children take in a text.
-fn room_of_keys(children: &Children) -> usize {
+fn room_of_keys(children: &Vec<Child>) -> usize {
     let mut room = 0usize;
-    for i in 0..children.len() {
-        let child = children.at(i);
+    for child in children {
         room = room.saturating_add(child.key().text().len() + AROUND_A_KEY);
     }
     room
@@ -467,23 +450,21 @@ fn room_of_keys(children: &Children) -> usize {
 
 // About how many bytes the trees of these children take in a text.
 #[cycle(room)]
-fn room_below(children: &Children) -> usize {
+fn room_below(children: &Vec<Child>) -> usize {
     let mut room = 0usize;
-    for i in 0..children.len() {
-        let child = children.at(i);
+    for child in children {
         room = room.saturating_add(child.node().text_room());
     }
     room
 }
 
 #[cycle(copy)]
-fn copy_of(alloc: Global, children: &Children) -> Result<Children, NoMemory>
-    ensures { IfOk result (λ copies. copies ≡ children.now) }
+fn copy_of(alloc: Global, children: &Vec<Child>) -> Result<Vec<Child>, NoMemory>
+    ensures { IfOk result (λ copies. copies.items ≡ children.now.items) }
 {
     let mut copies = Vec::with_capacity(alloc, children.len())?;
-    for i in 0..children.len() {
-        let child = children.at(i);
+    for child in children {
         copies.push(child.copy(alloc)?)?;
     }
-    Ok(Children::of_vec(copies))
+    Ok(copies)
 }

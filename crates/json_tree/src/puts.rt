@@ -15,19 +15,16 @@ use crate::leaf::Leaf;
 use crate::memory::NoMemory;
 use crate::node::{Child, Kind, Node, index_of};
 use crate::share::{Exchange, NO_EXCHANGE, NO_SHARE, share_of, sizes_after};
-use crate::siblings::Children;
 use std::alloc::Global;
 use std::mem::{replace, swap};
 use tree_model::MAX_DEPTH;
 
 /// Puts a tree at a path of a stored tree, or removes what is there, in place. A key is copied where a new
 /// child is made, by a growth only where it has over 24 bytes. Memory is taken only for what is new, and before
-/// anything changes: at an `Err` nothing has changed. To replace what is there takes none, and to remove needs none:
-/// where it is to be had, a long list of children is split by it. It takes one step down for each key, log w of w
-/// children each, beside what is written, and where a child is new or goes, those between it and the place of the last
-/// such change move: w at most, and where one after another changes in ascending or in descending order, w and one for
-/// each of them in all. The children of a node are counted anew only where its deepest child became less deep and no
-/// other is as deep.
+/// anything changes: at an `Err` nothing has changed, and to remove, or to replace what is there, takes
+/// none. It takes one step down for each key, log w of w children each, beside what is written, and where
+/// a child is new or goes, those behind it move: d · w at most. The children of a node are counted anew only
+/// where its deepest child became less deep and no other is as deep.
 pub fn put(
     alloc: Global,
     tree: &mut Option<Node>,
@@ -129,18 +126,13 @@ fn insert(
             Ok(true)
         }
         Kind::Parent {
-            depth,
             children,
+            depth,
             count,
         } => {
             let (exchange, stood) = insert_below(alloc, children, key, rest, value, reach)?;
-            let (depth_after, count_after) = sizes_after(
-                children,
-                *depth as usize,
-                *count,
-                exchange,
-            );
-            *depth = depth_after as u8;
+            let (depth_after, count_after) = sizes_after(children, *depth, *count, exchange);
+            *depth = depth_after;
             *count = count_after;
             Ok(stood)
         }
@@ -152,36 +144,33 @@ fn insert(
 #[cycle(insert)]
 fn insert_below(
     alloc: Global,
-    children: &mut Children,
+    children: &mut Vec<Child>,
     key: &Key,
     rest: &[Key],
     value: &mut Node,
     reach: &mut usize,
 ) -> Result<(Exchange, bool), NoMemory>
-    requires children { AreLawfulChildren children.old }
+    requires children { AreLawfulChildren children.old.items }
     requires room { length rest.now + depth value.old < MAX_DEPTH }
     requires reach { reach.old + length rest.now < MAX_DEPTH }
-    ensures children { AreLawfulChildren children.new }
-    ensures exchange { IfOk result (λ made. Exchanges children.old children.new made.0) }
-    ensures ok { OnOk result (graft children.new
-        ≡ proposed (graft children.old) ((key.now ∷ rest.now, value.old) ∷ [])) }
+    ensures children { AreLawfulChildren children.new.items }
+    ensures exchange { IfOk result (λ made. Exchanges children.old.items children.new.items made.0) }
+    ensures ok { OnOk result (graft children.new.items
+        ≡ proposed (graft children.old.items) ((key.now ∷ rest.now, value.old) ∷ [])) }
     ensures was { IfOk result (λ made. (if made.1 then value.new else null)
-        ≡ sub (graft children.old) (changed_at (graft children.old) (key.now ∷ rest.now))) }
+        ≡ sub (graft children.old.items) (changed_at (graft children.old.items) (key.now ∷ rest.now))) }
     ensures reach { OnOk result (reach.new
-        ≡ reach.old + length (changed_at (graft children.old) (key.now ∷ rest.now))) }
-    ensures err { OnErr result (children.new ≡ children.old) }
-    ensures existing { exists (graft children.old) (key.now ∷ rest.now) ≡ true → IsOk result }
+        ≡ reach.old + length (changed_at (graft children.old.items) (key.now ∷ rest.now))) }
+    ensures err { OnErr result (children.new.items ≡ children.old.items) }
+    ensures existing { exists (graft children.old.items) (key.now ∷ rest.now) ≡ true → IsOk result }
 {
     *reach += 1;
     match index_of(children, key.text()) {
         Ok(index) => {
-            let mut below = of_no_use();
-            children.swap_node(index, &mut below);
-            let before = share_of(&below);
-            let inserted = insert(alloc, &mut below, rest, value, reach);
-            let after = share_of(&below);
-            children.swap_node(index, &mut below);
-            Ok((Exchange { before, after }, inserted?))
+            let before = share_of(children[index].node());
+            let stood = insert(alloc, &mut children[index].held.1, rest, value, reach)?;
+            let after = share_of(children[index].node());
+            Ok((Exchange { before, after }, stood))
         }
         Err(index) => {
             let below = chain(alloc, rest, taken(value))?;
@@ -203,14 +192,10 @@ fn insert_below(
 fn taken(value: &mut Node) -> Node
     ensures { result ≡ value.old }
 {
-    replace(value, of_no_use())
-}
-
-// A leaf that stands where a tree was taken from, until one is put back.
-fn of_no_use() -> Node {
-    Node {
+    let nothing = Node {
         kind: Kind::Primitive(Leaf::Truth(false)),
-    }
+    };
+    replace(value, nothing)
 }
 
 // The tree of a tree at a path: one child at each key.
@@ -261,8 +246,8 @@ fn remove(node: &mut Node, path: &[Key]) -> bool
         return true;
     };
     let Kind::Parent {
-        depth,
         children,
+        depth,
         count,
     } = &mut node.kind
     else {
@@ -271,8 +256,8 @@ fn remove(node: &mut Node, path: &[Key]) -> bool
     let Some(exchange) = remove_below(children, key, rest) else {
         return true;
     };
-    let (depth_after, count_after) = sizes_after(children, *depth as usize, *count, exchange);
-    *depth = depth_after as u8;
+    let (depth_after, count_after) = sizes_after(children, *depth, *count, exchange);
+    *depth = depth_after;
     *count = count_after;
     false
 }
@@ -280,25 +265,21 @@ fn remove(node: &mut Node, path: &[Key]) -> bool
 // Removes what is at a path below the child of a key. None where no child is left, and then they are
 // as they were.
 #[cycle(remove)]
-fn remove_below(children: &mut Children, key: &Key, rest: &[Key]) -> Option<Exchange>
-    requires { AreLawfulChildren children.old }
-    ensures children { AreLawfulChildren children.new }
-    ensures exchange { IfSome result (λ exchange. Exchanges children.old children.new exchange) }
+fn remove_below(children: &mut Vec<Child>, key: &Key, rest: &[Key]) -> Option<Exchange>
+    requires { AreLawfulChildren children.old.items }
+    ensures children { AreLawfulChildren children.new.items }
+    ensures exchange { IfSome result (λ exchange. Exchanges children.old.items children.new.items exchange) }
     ensures gone { IfNone result
-        (proposed (graft children.old) ((key.now ∷ rest.now, null) ∷ []) ≡ null) }
-    ensures same { IfNone result (children.new ≡ children.old) }
-    ensures left { OnSome result (graft children.new
-        ≡ proposed (graft children.old) ((key.now ∷ rest.now, null) ∷ [])) }
+        (proposed (graft children.old.items) ((key.now ∷ rest.now, null) ∷ []) ≡ null) }
+    ensures same { IfNone result (children.new.items ≡ children.old.items) }
+    ensures left { OnSome result (graft children.new.items
+        ≡ proposed (graft children.old.items) ((key.now ∷ rest.now, null) ∷ [])) }
 {
     match index_of(children, key.text()) {
         Ok(index) => {
-            let mut below = of_no_use();
-            children.swap_node(index, &mut below);
-            let before = share_of(&below);
-            let is_gone = remove(&mut below, rest);
-            let after = share_of(&below);
-            children.swap_node(index, &mut below);
-            if !is_gone {
+            let before = share_of(children[index].node());
+            if !remove(&mut children[index].held.1, rest) {
+                let after = share_of(children[index].node());
                 return Some(Exchange { before, after });
             }
             let is_only_child = children.len() == 1;

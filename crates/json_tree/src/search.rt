@@ -3,7 +3,7 @@ ghost use Rattle.std.specs.Prelude.{◌+◌, ◌<◌, ◌≤◌, length};
 ghost use Rattle.json_tree.specs.Working.Search.{AreBefore};
 
 use crate::front::Sought;
-use crate::siblings::Children;
+use crate::node::Child;
 
 /// So many children from one on, among which a text is sought.
 #[derive(Clone, Copy)]
@@ -16,7 +16,7 @@ pub(crate) struct Span {
 /// before it. It takes log w steps for w children, and looks at no key. Up to 1,024 children are halved by
 /// steps that stand in no loop: in a loop a compiler makes a branch of the choice of a half, and a processor
 /// guesses every second one of them wrongly.
-pub(crate) fn count_in_front(children: &Children, sought: &Sought<'_>) -> usize
+pub(crate) fn count_in_front(children: &[Child], sought: &Sought<'_>) -> usize
     ensures within { result ≤ length children.now }
     ensures before { AreBefore sought.now result children.now }
 {
@@ -28,7 +28,7 @@ pub(crate) fn count_in_front(children: &Children, sought: &Sought<'_>) -> usize
     let span = sixteenth(children, sought, span);
     let span = sixteenth(children, sought, span);
     let start = last(children, sought, span);
-    if children.at(start).is_in_front_of(sought) {
+    if children[start].is_in_front_of(sought) {
         start + 1
     } else {
         start
@@ -36,8 +36,7 @@ pub(crate) fn count_in_front(children: &Children, sought: &Sought<'_>) -> usize
 }
 
 // One of two halves.
-fn half(children: &Children, sought: &Sought<'_>, span: Span) -> Span
-    requires many { length children.now ≤ usize.MAX }
+fn half(children: &[Child], sought: &Sought<'_>, span: Span) -> Span
     requires some { 0 < span.count }
     requires within { span.start + span.count ≤ length children.now }
     requires before { AreBefore sought.now span.start children.now }
@@ -49,7 +48,7 @@ fn half(children: &Children, sought: &Sought<'_>, span: Span) -> Span
     let below = span.count / 2;
     let middle = span.start + below;
     let count = span.count - below;
-    if children.at(middle).is_in_front_of(sought) {
+    if children[middle].is_in_front_of(sought) {
         Span {
             start: middle,
             count,
@@ -63,8 +62,7 @@ fn half(children: &Children, sought: &Sought<'_>, span: Span) -> Span
 }
 
 // One of four quarters.
-fn quarter(children: &Children, sought: &Sought<'_>, span: Span) -> Span
-    requires many { length children.now ≤ usize.MAX }
+fn quarter(children: &[Child], sought: &Sought<'_>, span: Span) -> Span
     requires some { 0 < span.count }
     requires within { span.start + span.count ≤ length children.now }
     requires before { AreBefore sought.now span.start children.now }
@@ -76,8 +74,7 @@ fn quarter(children: &Children, sought: &Sought<'_>, span: Span) -> Span
 }
 
 // One of sixteen parts, or the only child that is left.
-fn sixteenth(children: &Children, sought: &Sought<'_>, span: Span) -> Span
-    requires many { length children.now ≤ usize.MAX }
+fn sixteenth(children: &[Child], sought: &Sought<'_>, span: Span) -> Span
     requires some { 0 < span.count }
     requires within { span.start + span.count ≤ length children.now }
     requires before { AreBefore sought.now span.start children.now }
@@ -96,8 +93,7 @@ fn sixteenth(children: &Children, sought: &Sought<'_>, span: Span) -> Span
 }
 
 // The last child that is left.
-fn last(children: &Children, sought: &Sought<'_>, span: Span) -> usize
-    requires many { length children.now ≤ usize.MAX }
+fn last(children: &[Child], sought: &Sought<'_>, span: Span) -> usize
     requires some { 0 < span.count }
     requires within { span.start + span.count ≤ length children.now }
     requires before { AreBefore sought.now span.start children.now }

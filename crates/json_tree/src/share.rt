@@ -9,9 +9,7 @@ ghost use Rattle.tree_model.specs.Children.{graft};
 ghost use Rattle.json_tree.specs.Node.{AreLawfulChildren};
 ghost use Rattle.json_tree.specs.Working.Share.{deepest, IsSizeOf, Exchanges};
 
-use crate::node::{Node, sizes_of};
-use crate::siblings::Children;
-use tree_model::MAX_DEPTH;
+use crate::node::{Child, Node, sizes_of};
 
 /// What a child adds to its parent.
 #[derive(Clone, Copy, Debug, PartialEq, Eq)]
@@ -56,16 +54,15 @@ pub(crate) fn share_of(child: &Node) -> Share
 // The depth and the count of a parent of these children, where it had the others before one of them
 // changed.
 pub(crate) fn sizes_after(
-    children: &Children,
+    children: &Vec<Child>,
     depth_before: usize,
     count_before: usize,
     exchange: Exchange,
 ) -> (usize, usize)
-    requires children { AreLawfulChildren children.now }
-    requires sizes { (old : List (KeyBytes × Tree)) × IsSizeOf old depth_before count_before × Exchanges old children.now exchange }
-    ensures depth { result.0 ≡ depth (graft children.now) }
-    ensures within { result.0 ≤ MAX_DEPTH }
-    ensures count { result.1 ≡ min (count (graft children.now)) usize.MAX }
+    requires children { AreLawfulChildren children.now.items }
+    requires sizes { (old : List (KeyBytes × Tree)) × IsSizeOf old depth_before count_before × Exchanges old children.now.items exchange }
+    ensures depth { result.0 ≡ depth (graft children.now.items) }
+    ensures count { result.1 ≡ min (count (graft children.now.items)) usize.MAX }
 {
     // The greatest `usize` may stand for more, from which nothing can be taken off.
     if count_before == usize::MAX {
@@ -82,9 +79,9 @@ pub(crate) fn sizes_after(
 
 // Whether the depth of the parent is the greater of what it was and what the child now makes it. It
 // may be less only where the child was the deepest, and no other is as deep.
-fn is_depth_known(children: &Children, depth_before: usize, exchange: Exchange) -> bool
-    requires { (old : List (KeyBytes × Tree)) × (depth_before ≡ deepest old) × Exchanges old children.now exchange }
-    ensures { OnTrue result (deepest children.now ≡ max depth_before exchange.after.depth) }
+fn is_depth_known(children: &Vec<Child>, depth_before: usize, exchange: Exchange) -> bool
+    requires { (old : List (KeyBytes × Tree)) × (depth_before ≡ deepest old) × Exchanges old children.now.items exchange }
+    ensures { OnTrue result (deepest children.now.items ≡ max depth_before exchange.after.depth) }
 {
     if exchange.before.depth < depth_before {
         return true;
@@ -96,11 +93,11 @@ fn is_depth_known(children: &Children, depth_before: usize, exchange: Exchange) 
 }
 
 // Whether a child makes its parent so deep. True for the first that does, so mostly in one step.
-fn is_as_deep(children: &Children, wanted: usize) -> bool
-    ensures { OnTrue result (wanted ≤ deepest children.now) }
+fn is_as_deep(children: &Vec<Child>, wanted: usize) -> bool
+    ensures { OnTrue result (wanted ≤ deepest children.now.items) }
 {
-    for i in 0..children.len() {
-        let node = children.at(i).node();
+    for child in children {
+        let node = child.node();
         node.law();
         if node.depth() + 1 == wanted {
             return true;

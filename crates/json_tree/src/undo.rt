@@ -39,7 +39,7 @@ impl Model for Undo {
 
 impl Undo {
     /// Puts back what stood there, in place, or removes what is there where nothing stood. The location
-    /// has to exist, so it needs no memory; the time is that of [`put`].
+    /// has to exist, so it takes no memory; the time is that of [`put`].
     pub fn undo(self, tree: &mut Option<Node>)
         requires { exists (unwrap_or tree.old null) (location self) ≡ true }
         ensures { unwrap_or tree.new null ≡ proposed (unwrap_or tree.old null) (self ∷ []) }

@@ -1,16 +1,23 @@
 -- Each child is less deep than its parent.
-use Rattle.std.specs.Prelude.{◌≤◌, ◌+◌, ◌*◌, max}
+use Rattle.std.specs.Prelude.{List, [], ◌∷◌, ◌≤◌, ◌+◌, max, map}
 use Rattle.std.proofs.Common.{arith}
-use Rattle.tree_model.specs.PathMap.{depth}
+use denote.Param.Weighed.{most}
+use Rattle.tree_model.specs.Key.{Key}
+use Rattle.tree_model.specs.PathMap.{greatest, depth}
+use Rattle.tree_model.specs.Tree.{Tree}
 use Rattle.tree_model.proofs.Grafts.{depth-graft}
 use Rattle.json_tree.specs.Node.{tree_of, IsKind, IsNode}
 use Rattle.json_tree.specs.declared.node.Kind.{Kind}
 use Rattle.json_tree.specs.declared.node.Kind.TheVariants.{Primitive, Parent}
 use Rattle.json_tree.specs.declared.node.Child.TheDeep.{deep-Kind}
 
-kind_falls : (k : Kind) → IsKind k → max (deep-Kind k) 0 ≤ 3 * depth (tree_of k) + 1
-kind_falls (Primitive leaf) h = omega arith
-kind_falls (Parent deep cs many) h = omega (arith, depth-graft cs h.0)
+most_le-greatest : (cs : List (Key × Tree)) → most (λ c. depth c.1 + depth c.1 + 1 + 1) cs ≤ greatest (map (λ c. depth c.1 + 1) cs) + greatest (map (λ c. depth c.1 + 1) cs)
+most_le-greatest [] = omega arith
+most_le-greatest (c ∷ cs) = omega (arith, most_le-greatest cs)
 
-pub falls : (k : Kind) → IsNode k → max (deep-Kind k) 0 ≤ 3 * depth (tree_of k) + 1
+kind_falls : (k : Kind) → IsKind k → max (deep-Kind k) 0 ≤ depth (tree_of k) + depth (tree_of k)
+kind_falls (Primitive leaf) h = omega arith
+kind_falls (Parent cs deep many) h = omega (arith, most_le-greatest cs.items, depth-graft cs.items h.0)
+
+pub falls : (k : Kind) → IsNode k → max (deep-Kind k) 0 ≤ depth (tree_of k) + depth (tree_of k)
 falls k h = kind_falls k h.parts

@@ -10,7 +10,7 @@ decreases-write_node l = 2 * depth l.node.now + 1
 abbrev pub decreases-write_children : goal.decreases-write_children
 decreases-write_children l = 2 * greatest (map (λ c. depth c.1 + 1) l.children.now)
 
-abbrev pub invariant-write_children-loop-i : goal.invariant-write_children-loop-i
-invariant-write_children-loop-i l =
+abbrev pub invariant-write_children-loop-child : goal.invariant-write_children-loop-child
+invariant-write_children-loop-child l =
     (l.out.before ≡ l.fn.out.before)
-    × (l.out.tokens ++ children_tokens (drop l.i l.children) ≡ l.fn.out.tokens ++ begin_object ∷ children_tokens l.children)
+    × (l.out.tokens ++ children_tokens (drop l.child-index l.children) ≡ l.fn.out.tokens ++ begin_object ∷ children_tokens l.children)

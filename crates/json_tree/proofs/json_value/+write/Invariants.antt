@@ -11,5 +11,5 @@ decreases-write l = 2 * depth l.node.now + 1
 abbrev pub decreases-write_children : goal.decreases-write_children
 decreases-write_children l = 2 * greatest (map (λ c. depth c.1 + 1) l.children.now)
 
-abbrev pub invariant-write_children-loop-i : goal.invariant-write_children-loop-i
-invariant-write_children-loop-i l = members_view l.members.entries ≡ members_of (map written (take l.i l.children))
+abbrev pub invariant-write_children-loop-child : goal.invariant-write_children-loop-child
+invariant-write_children-loop-child l = members_view l.members.entries ≡ members_of (map written (take l.child-index l.children))

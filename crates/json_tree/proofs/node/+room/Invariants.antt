@@ -6,4 +6,4 @@ abbrev pub decreases-Node::text_room : goal.decreases-Node::text_room
 decreases-Node::text_room l = 2 * depth l.self.now + 1
 
 abbrev pub decreases-room_below : goal.decreases-room_below
-decreases-room_below l = 2 * greatest (map (λ c. depth c.1 + 1) l.children.now)
+decreases-room_below l = 2 * greatest (map (λ c. depth c.1 + 1) l.children.now.items)

@@ -7,20 +7,20 @@ use Rattle.json_tree.proofs.node.place_of.Goals as goal
 
 pub returns-in-Ok-clause-child : goal.returns-in-Ok-clause-child
 returns-in-Ok-clause-child c =
-    let items = c.args.children.now in
+    let items = c.args.children.now.items in
     let name = c.args.name.now in
-    let found = searched name items (Ok c.in-Ok.index) c.requires.ascending c.in-Ok.ensures.bound c.in-Ok.ensures.position c.at.result.now in
-    ap Some c.node.ensures ∙ ap (λ (child : Key × Tree). Some child.1) c.at.ensures ∙ sym found ∙ sym (child-graft items name c.requires)
+    let found = searched name items (Ok c.in-Ok.index) c.requires.ascending c.in-Ok.ensures.bound c.in-Ok.ensures.position c.index.result.now in
+    ap Some c.node.ensures ∙ ap (λ (child : Key × Tree). Some child.1) c.index.ensures ∙ sym found ∙ sym (child-graft items name c.requires)
 
 pub returns-in-Ok-clause-before : goal.returns-in-Ok-clause-before
-returns-in-Ok-clause-before c = sym (ranked c.args.name.now c.args.children.now (Ok c.in-Ok.index) c.requires.ascending c.in-Ok.ensures.bound c.in-Ok.ensures.position c.at.result.now)
+returns-in-Ok-clause-before c = sym (ranked c.args.name.now c.args.children.now.items (Ok c.in-Ok.index) c.requires.ascending c.in-Ok.ensures.bound c.in-Ok.ensures.position c.index.result.now)
 
 pub returns-in-Err-clause-child : goal.returns-in-Err-clause-child
 returns-in-Err-clause-child c =
-    let items = c.args.children.now in
+    let items = c.args.children.now.items in
     let name = c.args.name.now in
     let none = searched name items (Err c.in-Err.index) c.requires.ascending c.in-Err.ensures.bound c.in-Err.ensures.position in
     sym none ∙ sym (child-graft items name c.requires)
 
 pub returns-in-Err-clause-before : goal.returns-in-Err-clause-before
-returns-in-Err-clause-before c = sym (ranked c.args.name.now c.args.children.now (Err c.in-Err.index) c.requires.ascending c.in-Err.ensures.bound c.in-Err.ensures.position)
+returns-in-Err-clause-before c = sym (ranked c.args.name.now c.args.children.now.items (Err c.in-Err.index) c.requires.ascending c.in-Err.ensures.bound c.in-Err.ensures.position)

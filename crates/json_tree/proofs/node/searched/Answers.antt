@@ -1,27 +1,12 @@
-use Rattle.std.proofs.Common.{◌+◌, ◌-◌, ◌/◌, ◌<◌, length, sym, ◌∙◌, arith}
-use Rattle.json_tree.proofs.Searching.{before_up_to, behind_from}
+use Rattle.std.proofs.Common.{rules, subst}
+use Rattle.std.specs.List.Sorted.{IsBinarySearchResult}
+use Rattle.std.proofs.lemmas.Fn.{always_returns_same}
+use Rattle.tree_model.specs.Key.{Key, key_cmp}
+use Rattle.tree_model.specs.Tree.{Tree}
 use Rattle.json_tree.proofs.node.searched.Goals as goal
 
-pub halving-preserved-in-Less : goal.halving-preserved-in-Less
-halving-preserved-in-Less c =
-    let middle = c.halving.start + (c.halving.end - c.halving.start) / 2 in
-    let far = c.halving.invariant.within in
-    let within : middle < length c.args.children.now = omega arith in
-    record {
-      order = omega arith;
-      within = far;
-      before = before_up_to c.args.sought.now (middle + 1) middle c.args.children.now c.at.result.now (omega arith) within c.at.ensures (sym c.compare.ensures ∙ c.in-Less.is);
-      behind = c.halving.invariant.behind;
-    }
-
-pub halving-preserved : goal.halving-preserved
-halving-preserved c =
-    let middle = c.halving.start + (c.halving.end - c.halving.start) / 2 in
-    let far = c.halving.invariant.within in
-    let within : middle < length c.args.children.now = omega arith in
-    record {
-      order = omega arith;
-      within = omega arith;
-      before = c.halving.invariant.before;
-      behind = λ rises. behind_from c.args.sought.now middle c.args.children.now c.at.result.now within c.at.ensures (sym c.compare.ensures ∙ c.in-Greater.is) rises;
-    }
+pub returns-clause-position : goal.returns-clause-position
+returns-clause-position c =
+    let name = c.args.sought.now in
+    let computes = always_returns_same _ _ _ (λ a r f' called. search rules) in
+    subst (λ cs. IsBinarySearchResult (λ (child : Key × Tree). key_cmp child.0 name) cs c.binary_search_by.result) c.deref.ensures.value (c.binary_search_by.ensures.position (λ (child : Key × Tree). key_cmp child.0 name) computes)

@@ -1,12 +1,12 @@
-use Rattle.std.proofs.Common.{◌≡◌, ◌+◌, ◌-◌, ◌<◌, true, ◌∷◌, [], length, get_or, take, drop, Result, Ok, Err, OnErr, sym, ap, ◌∙◌, subst, refl, arith}
+use Rattle.std.proofs.Common.{◌≡◌, ◌≢◌, ◌+◌, ◌-◌, ◌<◌, true, ◌∷◌, [], length, take, drop, sym, ap, ◌∙◌, subst, refl, arith}
 use Rattle.std.specs.List.{insert}
 use Rattle.std.specs.Result.{is_ok}
 use Rattle.std.proofs.lemmas.Bool.{false≢true}
-use Rattle.std.proofs.lemmas.List.{nil_from_length, length-set}
+use Rattle.std.proofs.lemmas.List.{nil_from_length}
 use Rattle.tree_model.specs.declared.limits.TheConstants.{MAX_DEPTH}
 use Rattle.tree_model.specs.Key.{Key, is_key}
 use Rattle.tree_model.specs.PathMap.{sub, exists, depth}
-use Rattle.tree_model.specs.Tree.{Tree, null}
+use Rattle.tree_model.specs.Tree.{Tree, null, IsLawful}
 use Rattle.tree_model.specs.Children.{graft}
 use Rattle.tree_model.specs.Write.{proposed}
 use Rattle.tree_model.proofs.Lookups.{sub-root}
@@ -17,8 +17,8 @@ use Rattle.json_tree.specs.Working.Changed.{changed_at}
 use Rattle.json_tree.proofs.Nodes.{at_primitive, parts_at_parent}
 use Rattle.json_tree.proofs.Edits.{first_and_rest}
 use Rattle.json_tree.proofs.Proposing.{proposed-root, proposed-lone, proposed-chain, depth-chain, room_after}
-use Rattle.json_tree.proofs.ChildEdits.{taken_out, put_back, depth_there, children-set, graft-set, set_same, missing_at, children-insert, graft-insert}
-use Rattle.json_tree.proofs.Shares.{size_of_node, exchanges-set, exchanges-insert}
+use Rattle.json_tree.proofs.ChildEdits.{StandsAt, depth_there, children-set, graft-set, missing_at, children-insert, graft-insert}
+use Rattle.json_tree.proofs.Shares.{IsShareOf, size_of_node, set_there, exchanges-set, exchanges-insert}
 use Rattle.json_tree.proofs.Undoing.{place-lone, changed-lone, exists-lone, place-there, changed-there, exists-there, place-missing, changed-missing, exists-missing}
 use Rattle.json_tree.proofs.puts.+insert.Goals as goal
 
@@ -30,7 +30,7 @@ insert-insert_below-requires t c =
     (omega arith, (parts_at_parent c.node.invariant.parts c.in-Parent.is, omega arith))
 
 pub insert-sizes_after-depth_after-requires-clause-sizes : goal.insert-sizes_after-depth_after-requires-clause-sizes
-insert-sizes_after-depth_after-requires-clause-sizes t c = (c.in-Parent.children, size_of_node c.node.invariant c.in-Parent.is, c.in_ok-exchange-in-Parent.ensures.exchange)
+insert-sizes_after-depth_after-requires-clause-sizes t c = (c.in-Parent.children.items, size_of_node c.node.invariant c.in-Parent.is, c.in_ok-exchange-in-Parent.ensures.exchange)
 
 pub insert-invariant_of-node-in-Parent : goal.insert-invariant_of-node-in-Parent
 insert-invariant_of-node-in-Parent t c =
@@ -101,68 +101,48 @@ insert-returns-in_ok-parent-in-Primitive-clause-reach t c =
 
 -- ---- its children
 
--- what holds in any case holds after an error
-at_error : {T E P : Type 0} (r : Result T E) → P → OnErr r P
-at_error (Ok x) p = tt
-at_error (Err e) p = p
-
-pub insert_below-swap_node-requires-in-Ok : goal.insert_below-swap_node-requires-in-Ok
-insert_below-swap_node-requires-in-Ok t c =
-    let e : Key × Tree = (c.text.result.now, null) in
-    let long = ap length (c.swap_node.ensures.children e) ∙ length-set c.args.children.now c.in-Ok.index ((get_or c.args.children.now c.in-Ok.index e).0, c.of_no_use-below.result) in
-    omega (arith, c.in-Ok.ensures.bound)
-
-pub insert_below-returns-in_ok-inserted-in-Ok-clause-children : goal.insert_below-returns-in_ok-inserted-in-Ok-clause-children
-insert_below-returns-in_ok-inserted-in-Ok-clause-children t c =
-    let cs = c.args.children.now in
-    let e : Key × Tree = (c.text.result.now, null) in
-    let found = taken_out cs c.in-Ok.index c.text.result.now e c.swap_node.new.node c.requires.children c.in-Ok.ensures.bound (c.in-Ok.ensures.position e) (c.swap_node.ensures.node e) in
-    let items = put_back cs c.swap_node.new.self c.swap_node-in-Ok.new.self c.in-Ok.index e c.of_no_use-below.result c.insert-inserted.new.node c.in-Ok.ensures.bound (c.swap_node.ensures.children e) (c.swap_node-in-Ok.ensures.children e) in
+pub insert_below-returns-in_ok-stood-in-Ok-clause-children : goal.insert_below-returns-in_ok-stood-in-Ok-clause-children
+insert_below-returns-in_ok-stood-in-Ok-clause-children t c =
+    let cs = c.args.children.now.items in
+    let was : Key × Tree = c.index_mut.result.now in
+    let d : Key × Tree = c.deref_mut.result.now in
+    let opened : was ≡ d = sym (c.deref_mut.ensures.value ∙ c.behind-children.view_is) in
+    let found : StandsAt cs c.in-Ok.index d c.text.result.now = subst (λ (x : Key × Tree). StandsAt cs c.in-Ok.index x c.text.result.now) opened (record { children = c.requires.children; within = c.in-Ok.ensures.bound; at = c.index_mut.ensures.value; tied = c.in-Ok.ensures.position was }) in
     let within = c.requires.room in
-    let below = c.swap_node.new.node in
-    let room = room_after c.insert-inserted.result below c.insert-inserted.new.node c.args.rest.now c.args.value.now c.insert-inserted.ensures.ok c.insert-inserted.ensures.err (depth_there found) (omega arith) in
-    subst AreLawfulChildren (sym items) (children-set found c.insert-inserted.new.node c.share_of-after.ensures.some c.share_of-after.ensures.lawful room)
+    let room = room_after c.insert.result d.1 c.insert.new.node c.args.rest.now c.args.value.now c.insert.ensures.ok c.insert.ensures.err (depth_there found) (omega arith) in
+    let after = set_there cs c.in-Ok.index (d.0, c.insert.new.node) c.index-in-Ok.result.now c.in-Ok.ensures.bound c.index-in-Ok.ensures in
+    let there : c.node-in-Ok.result.now ≡ c.insert.new.node = c.node-in-Ok.ensures ∙ ap (λ (x : Key × Tree). x.1) after in
+    children-set found c.insert.new.node (subst (λ (x : Tree). x ≢ null) there c.share_of-after.ensures.some) (subst IsLawful there c.share_of-after.ensures.lawful) room
 
-pub insert_below-returns-in_ok-inserted-in-Ok-clause-exchange : goal.insert_below-returns-in_ok-inserted-in-Ok-clause-exchange
-insert_below-returns-in_ok-inserted-in-Ok-clause-exchange t c =
-    let cs = c.args.children.now in
-    let e : Key × Tree = (c.text.result.now, null) in
-    let found = taken_out cs c.in-Ok.index c.text.result.now e c.swap_node.new.node c.requires.children c.in-Ok.ensures.bound (c.in-Ok.ensures.position e) (c.swap_node.ensures.node e) in
-    let items = put_back cs c.swap_node.new.self c.swap_node-in-Ok.new.self c.in-Ok.index e c.of_no_use-below.result c.insert-inserted.new.node c.in-Ok.ensures.bound (c.swap_node.ensures.children e) (c.swap_node-in-Ok.ensures.children e) in
+pub insert_below-returns-in_ok-stood-in-Ok-clause-exchange : goal.insert_below-returns-in_ok-stood-in-Ok-clause-exchange
+insert_below-returns-in_ok-stood-in-Ok-clause-exchange t c =
+    let cs = c.args.children.now.items in
+    let was : Key × Tree = c.index_mut.result.now in
+    let d : Key × Tree = c.deref_mut.result.now in
+    let opened : was ≡ d = sym (c.deref_mut.ensures.value ∙ c.behind-children.view_is) in
+    let after = set_there cs c.in-Ok.index (d.0, c.insert.new.node) c.index-in-Ok.result.now c.in-Ok.ensures.bound c.index-in-Ok.ensures in
+    let there : c.node-in-Ok.result.now ≡ c.insert.new.node = c.node-in-Ok.ensures ∙ ap (λ (x : Key × Tree). x.1) after in
     let before = c.share_of-before.ensures in
     let later = c.share_of-after.ensures in
-    rw (items) (exchanges-set cs c.in-Ok.index _ ((get_or cs c.in-Ok.index e).0, c.swap_node.new.node) (get_or cs c.in-Ok.index e).0 c.insert-inserted.new.node c.in-Ok.ensures.bound found.at (record { depth = before.depth; count = before.count }) (record { depth = later.depth; count = later.count }))
+    exchanges-set cs c.in-Ok.index _ c.index.result.now d.0 c.insert.new.node c.in-Ok.ensures.bound c.index.ensures
+    (subst (λ (x : Tree). IsShareOf x c.share_of-before.result.depth c.share_of-before.result.count) c.node.ensures (record { depth = before.depth; count = before.count }))
+    (subst (λ (x : Tree). IsShareOf x c.share_of-after.result.depth c.share_of-after.result.count) there (record { depth = later.depth; count = later.count }))
 
-pub insert_below-returns-in_ok-inserted-in-Ok-clause-ok : goal.insert_below-returns-in_ok-inserted-in-Ok-clause-ok
-insert_below-returns-in_ok-inserted-in-Ok-clause-ok t c =
-    let cs = c.args.children.now in
-    let e : Key × Tree = (c.text.result.now, null) in
-    let found = taken_out cs c.in-Ok.index c.text.result.now e c.swap_node.new.node c.requires.children c.in-Ok.ensures.bound (c.in-Ok.ensures.position e) (c.swap_node.ensures.node e) in
-    let items = put_back cs c.swap_node.new.self c.swap_node-in-Ok.new.self c.in-Ok.index e c.of_no_use-below.result c.insert-inserted.new.node c.in-Ok.ensures.bound (c.swap_node.ensures.children e) (c.swap_node-in-Ok.ensures.children e) in
-    ap graft items ∙ graft-set found c.args.rest.now c.insert-inserted.new.node c.args.value.now c.in_ok-inserted-in-Ok.ensures.ok ∙ ap (λ k. proposed (graft cs) ((k ∷ c.args.rest.now, c.args.value.now) ∷ [])) c.text.ensures.bytes
-
-pub insert_below-returns-in_err-inserted-in-Ok-clause-children : goal.insert_below-returns-in_err-inserted-in-Ok-clause-children
-insert_below-returns-in_err-inserted-in-Ok-clause-children t c =
-    let cs = c.args.children.now in
-    let e : Key × Tree = (c.text.result.now, null) in
-    let found = taken_out cs c.in-Ok.index c.text.result.now e c.swap_node.new.node c.requires.children c.in-Ok.ensures.bound (c.in-Ok.ensures.position e) (c.swap_node.ensures.node e) in
-    let items = put_back cs c.swap_node.new.self c.swap_node-in-Ok.new.self c.in-Ok.index e c.of_no_use-below.result c.insert-inserted.new.node c.in-Ok.ensures.bound (c.swap_node.ensures.children e) (c.swap_node-in-Ok.ensures.children e) in
-    subst AreLawfulChildren (sym (items ∙ set_same found c.insert-inserted.new.node c.in_err-inserted-in-Ok.ensures.err)) c.requires.children
-
-pub insert_below-returns-in_err-inserted-in-Ok-clause-err : goal.insert_below-returns-in_err-inserted-in-Ok-clause-err
-insert_below-returns-in_err-inserted-in-Ok-clause-err t c =
-    let cs = c.args.children.now in
-    let e : Key × Tree = (c.text.result.now, null) in
-    let found = taken_out cs c.in-Ok.index c.text.result.now e c.swap_node.new.node c.requires.children c.in-Ok.ensures.bound (c.in-Ok.ensures.position e) (c.swap_node.ensures.node e) in
-    let items = put_back cs c.swap_node.new.self c.swap_node-in-Ok.new.self c.in-Ok.index e c.of_no_use-below.result c.insert-inserted.new.node c.in-Ok.ensures.bound (c.swap_node.ensures.children e) (c.swap_node-in-Ok.ensures.children e) in
-    at_error c.from_residual.result (items ∙ set_same found c.insert-inserted.new.node c.in_err-inserted-in-Ok.ensures.err)
+pub insert_below-returns-in_ok-stood-in-Ok-clause-ok : goal.insert_below-returns-in_ok-stood-in-Ok-clause-ok
+insert_below-returns-in_ok-stood-in-Ok-clause-ok t c =
+    let cs = c.args.children.now.items in
+    let was : Key × Tree = c.index_mut.result.now in
+    let d : Key × Tree = c.deref_mut.result.now in
+    let opened : was ≡ d = sym (c.deref_mut.ensures.value ∙ c.behind-children.view_is) in
+    let found : StandsAt cs c.in-Ok.index d c.text.result.now = subst (λ (x : Key × Tree). StandsAt cs c.in-Ok.index x c.text.result.now) opened (record { children = c.requires.children; within = c.in-Ok.ensures.bound; at = c.index_mut.ensures.value; tied = c.in-Ok.ensures.position was }) in
+    graft-set found c.args.rest.now c.insert.new.node c.args.value.now c.in_ok-stood-in-Ok.ensures.ok ∙ ap (λ k. proposed (graft cs) ((k ∷ c.args.rest.now, c.args.value.now) ∷ [])) c.text.ensures.bytes
 
 pub insert_below-returns-in_ok-insert-in-Err-clause-children : goal.insert_below-returns-in_ok-insert-in-Err-clause-children
 insert_below-returns-in_ok-insert-in-Err-clause-children t c =
-    let cs = c.args.children.now in
+    let cs = c.args.children.now.items in
     let below : Tree = c.in_ok-below-in-Err.below in
     let missing = missing_at cs c.in-Err.index c.text.result.now c.requires.children c.in-Err.ensures.bound c.in-Err.ensures.position in
-    let items = c.in_ok-insert-in-Err.ensures.ok ∙ ap (insert cs c.in-Err.index) c.in_ok-child-in-Err.ensures ∙ ap (λ k. insert cs c.in-Err.index (k, below)) (c.in_ok-copy-in-Err.ensures ∙ sym c.text.ensures.bytes) in
+    let items = c.in_ok-insert-in-Err.ensures.items ∙ ap (insert cs c.in-Err.index) c.in_ok-child-in-Err.ensures ∙ ap (λ k. insert cs c.in-Err.index (k, below)) (c.in_ok-copy-in-Err.ensures ∙ sym c.text.ensures.bytes) in
     let made = c.in_ok-below-in-Err.ensures ∙ ap (λ v. proposed null ((c.args.rest.now, v) ∷ [])) c.taken.ensures in
     let deep = depth-chain below c.args.rest.now c.args.value.now made in
     let within = c.requires.room in
@@ -172,16 +152,16 @@ insert_below-returns-in_ok-insert-in-Err-clause-children t c =
 
 pub insert_below-returns-in_ok-insert-in-Err-clause-exchange : goal.insert_below-returns-in_ok-insert-in-Err-clause-exchange
 insert_below-returns-in_ok-insert-in-Err-clause-exchange t c =
-    let cs = c.args.children.now in
+    let cs = c.args.children.now.items in
     let share = c.share_of-after-in-Err.ensures in
-    rw (c.in_ok-insert-in-Err.ensures.ok, c.in_ok-child-in-Err.ensures) (exchanges-insert cs c.in-Err.index _ c.in_ok-copy-in-Err.field-0 c.in_ok-below-in-Err.below refl refl (record { depth = share.depth; count = share.count }))
+    rw (c.in_ok-insert-in-Err.ensures.items, c.in_ok-child-in-Err.ensures) (exchanges-insert cs c.in-Err.index _ c.in_ok-copy-in-Err.field-0 c.in_ok-below-in-Err.below refl refl (record { depth = share.depth; count = share.count }))
 
 pub insert_below-returns-in_ok-insert-in-Err-clause-ok : goal.insert_below-returns-in_ok-insert-in-Err-clause-ok
 insert_below-returns-in_ok-insert-in-Err-clause-ok t c =
-    let cs = c.args.children.now in
+    let cs = c.args.children.now.items in
     let below : Tree = c.in_ok-below-in-Err.below in
     let missing = missing_at cs c.in-Err.index c.text.result.now c.requires.children c.in-Err.ensures.bound c.in-Err.ensures.position in
-    let items = c.in_ok-insert-in-Err.ensures.ok ∙ ap (insert cs c.in-Err.index) c.in_ok-child-in-Err.ensures ∙ ap (λ k. insert cs c.in-Err.index (k, below)) (c.in_ok-copy-in-Err.ensures ∙ sym c.text.ensures.bytes) in
+    let items = c.in_ok-insert-in-Err.ensures.items ∙ ap (insert cs c.in-Err.index) c.in_ok-child-in-Err.ensures ∙ ap (λ k. insert cs c.in-Err.index (k, below)) (c.in_ok-copy-in-Err.ensures ∙ sym c.text.ensures.bytes) in
     let made = c.in_ok-below-in-Err.ensures ∙ ap (λ v. proposed null ((c.args.rest.now, v) ∷ [])) c.taken.ensures in
     ap graft items
     ∙ graft-insert missing c.args.rest.now below c.args.value.now made
@@ -189,66 +169,72 @@ insert_below-returns-in_ok-insert-in-Err-clause-ok t c =
 
 -- what stood there
 
-pub insert_below-returns-in_ok-inserted-in-Ok-clause-was : goal.insert_below-returns-in_ok-inserted-in-Ok-clause-was
-insert_below-returns-in_ok-inserted-in-Ok-clause-was t c =
-    let cs = c.args.children.now in
-    let e : Key × Tree = (c.text.result.now, null) in
-    let found = taken_out cs c.in-Ok.index c.text.result.now e c.swap_node.new.node c.requires.children c.in-Ok.ensures.bound (c.in-Ok.ensures.position e) (c.swap_node.ensures.node e) in
-    c.in_ok-inserted-in-Ok.ensures.was ∙ sym (changed-there found c.args.rest.now) ∙ ap (λ k. sub (graft cs) (changed_at (graft cs) (k ∷ c.args.rest.now))) c.text.ensures.bytes
+pub insert_below-returns-in_ok-stood-in-Ok-clause-was : goal.insert_below-returns-in_ok-stood-in-Ok-clause-was
+insert_below-returns-in_ok-stood-in-Ok-clause-was t c =
+    let cs = c.args.children.now.items in
+    let was : Key × Tree = c.index_mut.result.now in
+    let d : Key × Tree = c.deref_mut.result.now in
+    let opened : was ≡ d = sym (c.deref_mut.ensures.value ∙ c.behind-children.view_is) in
+    let found : StandsAt cs c.in-Ok.index d c.text.result.now = subst (λ (x : Key × Tree). StandsAt cs c.in-Ok.index x c.text.result.now) opened (record { children = c.requires.children; within = c.in-Ok.ensures.bound; at = c.index_mut.ensures.value; tied = c.in-Ok.ensures.position was }) in
+    c.in_ok-stood-in-Ok.ensures.was ∙ sym (changed-there found c.args.rest.now) ∙ ap (λ k. sub (graft cs) (changed_at (graft cs) (k ∷ c.args.rest.now))) c.text.ensures.bytes
 
 pub insert_below-returns-in_ok-insert-in-Err-clause-was : goal.insert_below-returns-in_ok-insert-in-Err-clause-was
 insert_below-returns-in_ok-insert-in-Err-clause-was t c =
-    let cs = c.args.children.now in
+    let cs = c.args.children.now.items in
     let missing = missing_at cs c.in-Err.index c.text.result.now c.requires.children c.in-Err.ensures.bound c.in-Err.ensures.position in
     sym (changed-missing missing c.args.rest.now) ∙ ap (λ k. sub (graft cs) (changed_at (graft cs) (k ∷ c.args.rest.now))) c.text.ensures.bytes
 
 -- how many keys lead there
 
-pub insert_below-returns-in_ok-inserted-in-Ok-clause-reach : goal.insert_below-returns-in_ok-inserted-in-Ok-clause-reach
-insert_below-returns-in_ok-inserted-in-Ok-clause-reach t c =
-    let cs = c.args.children.now in
-    let e : Key × Tree = (c.text.result.now, null) in
-    let found = taken_out cs c.in-Ok.index c.text.result.now e c.swap_node.new.node c.requires.children c.in-Ok.ensures.bound (c.in-Ok.ensures.position e) (c.swap_node.ensures.node e) in
-    let below = c.in_ok-inserted-in-Ok.ensures.reach in
+pub insert_below-returns-in_ok-stood-in-Ok-clause-reach : goal.insert_below-returns-in_ok-stood-in-Ok-clause-reach
+insert_below-returns-in_ok-stood-in-Ok-clause-reach t c =
+    let cs = c.args.children.now.items in
+    let was : Key × Tree = c.index_mut.result.now in
+    let d : Key × Tree = c.deref_mut.result.now in
+    let opened : was ≡ d = sym (c.deref_mut.ensures.value ∙ c.behind-children.view_is) in
+    let found : StandsAt cs c.in-Ok.index d c.text.result.now = subst (λ (x : Key × Tree). StandsAt cs c.in-Ok.index x c.text.result.now) opened (record { children = c.requires.children; within = c.in-Ok.ensures.bound; at = c.index_mut.ensures.value; tied = c.in-Ok.ensures.position was }) in
+    let below = c.in_ok-stood-in-Ok.ensures.reach in
     let one_more = ap length (sym (place-there found c.args.rest.now) ∙ ap (λ k. changed_at (graft cs) (k ∷ c.args.rest.now)) c.text.ensures.bytes) in
     omega arith
 
 pub insert_below-returns-in_ok-insert-in-Err-clause-reach : goal.insert_below-returns-in_ok-insert-in-Err-clause-reach
 insert_below-returns-in_ok-insert-in-Err-clause-reach t c =
-    let cs = c.args.children.now in
+    let cs = c.args.children.now.items in
     let missing = missing_at cs c.in-Err.index c.text.result.now c.requires.children c.in-Err.ensures.bound c.in-Err.ensures.position in
     ap (λ p. c.args.reach.now + length p) (sym (place-missing missing c.args.rest.now) ∙ ap (λ k. changed_at (graft cs) (k ∷ c.args.rest.now)) c.text.ensures.bytes)
 
 -- what exists is replaced without memory
 
-pub insert_below-returns-in_err-inserted-in-Ok-clause-existing : goal.insert_below-returns-in_err-inserted-in-Ok-clause-existing
-insert_below-returns-in_err-inserted-in-Ok-clause-existing t c there =
-    let cs = c.args.children.now in
-    let e : Key × Tree = (c.text.result.now, null) in
-    let found = taken_out cs c.in-Ok.index c.text.result.now e c.swap_node.new.node c.requires.children c.in-Ok.ensures.bound (c.in-Ok.ensures.position e) (c.swap_node.ensures.node e) in
-    let below : exists c.swap_node.new.node c.args.rest.now ≡ true = sym (exists-there found c.args.rest.now) ∙ ap (λ k. exists (graft cs) (k ∷ c.args.rest.now)) c.text.ensures.bytes ∙ there in
-    absurd (false≢true (sym (ap is_ok c.in_err-inserted-in-Ok.was) ∙ c.insert-inserted.ensures.existing below))
+pub insert_below-returns-in_err-stood-in-Ok-clause-existing : goal.insert_below-returns-in_err-stood-in-Ok-clause-existing
+insert_below-returns-in_err-stood-in-Ok-clause-existing t c there =
+    let cs = c.args.children.now.items in
+    let was : Key × Tree = c.index_mut.result.now in
+    let d : Key × Tree = c.deref_mut.result.now in
+    let opened : was ≡ d = sym (c.deref_mut.ensures.value ∙ c.behind-children.view_is) in
+    let found : StandsAt cs c.in-Ok.index d c.text.result.now = subst (λ (x : Key × Tree). StandsAt cs c.in-Ok.index x c.text.result.now) opened (record { children = c.requires.children; within = c.in-Ok.ensures.bound; at = c.index_mut.ensures.value; tied = c.in-Ok.ensures.position was }) in
+    let below : exists d.1 c.args.rest.now ≡ true = sym (exists-there found c.args.rest.now) ∙ ap (λ k. exists (graft cs) (k ∷ c.args.rest.now)) c.text.ensures.bytes ∙ there in
+    absurd (false≢true (sym (ap is_ok c.in_err-stood-in-Ok.was) ∙ c.insert.ensures.existing below))
 
 pub insert_below-returns-in_err-below-in-Err-clause-existing : goal.insert_below-returns-in_err-below-in-Err-clause-existing
 insert_below-returns-in_err-below-in-Err-clause-existing t c there =
-    let cs = c.args.children.now in
+    let cs = c.args.children.now.items in
     let missing = missing_at cs c.in-Err.index c.text.result.now c.requires.children c.in-Err.ensures.bound c.in-Err.ensures.position in
     absurd (false≢true (sym (exists-missing missing c.args.rest.now) ∙ ap (λ k. exists (graft cs) (k ∷ c.args.rest.now)) c.text.ensures.bytes ∙ there))
 
 pub insert_below-returns-in_err-insert-in-Err-clause-existing : goal.insert_below-returns-in_err-insert-in-Err-clause-existing
 insert_below-returns-in_err-insert-in-Err-clause-existing t c there =
-    let cs = c.args.children.now in
+    let cs = c.args.children.now.items in
     let missing = missing_at cs c.in-Err.index c.text.result.now c.requires.children c.in-Err.ensures.bound c.in-Err.ensures.position in
     absurd (false≢true (sym (exists-missing missing c.args.rest.now) ∙ ap (λ k. exists (graft cs) (k ∷ c.args.rest.now)) c.text.ensures.bytes ∙ there))
 
 pub insert_below-returns-in_err-child-in-Err-clause-existing : goal.insert_below-returns-in_err-child-in-Err-clause-existing
 insert_below-returns-in_err-child-in-Err-clause-existing t c there =
-    let cs = c.args.children.now in
+    let cs = c.args.children.now.items in
     let missing = missing_at cs c.in-Err.index c.text.result.now c.requires.children c.in-Err.ensures.bound c.in-Err.ensures.position in
     absurd (false≢true (sym (exists-missing missing c.args.rest.now) ∙ ap (λ k. exists (graft cs) (k ∷ c.args.rest.now)) c.text.ensures.bytes ∙ there))
 
 pub insert_below-returns-in_err-copy-in-Err-clause-existing : goal.insert_below-returns-in_err-copy-in-Err-clause-existing
 insert_below-returns-in_err-copy-in-Err-clause-existing t c there =
-    let cs = c.args.children.now in
+    let cs = c.args.children.now.items in
     let missing = missing_at cs c.in-Err.index c.text.result.now c.requires.children c.in-Err.ensures.bound c.in-Err.ensures.position in
     absurd (false≢true (sym (exists-missing missing c.args.rest.now) ∙ ap (λ k. exists (graft cs) (k ∷ c.args.rest.now)) c.text.ensures.bytes ∙ there))
