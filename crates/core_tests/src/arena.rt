@@ -162,6 +162,7 @@ fn over_an_arena_that_cannot_be_reset_memory_is_wanting(rt: HostRuntime) -> Resu
 // ---- the calls by which a script makes some steps
 
 // What a read, a read by a query, a write and the beginning of a poll are answered.
+#[derive(Drop)]
 struct LentAnswers {
     read: &'static str,
     granted: &'static str,
