@@ -42,8 +42,7 @@ fn what_of(alloc: Global, what: &What) -> Result<String, Fail> {
     }
 }
 
-/// The name of a refusal.
-pub(crate) fn name_of(refusal: &Refusal) -> &'static str {
+fn name_of(refusal: &Refusal) -> &'static str {
     match refusal {
         Refusal::SessionOpen => "SessionOpen",
         Refusal::TooManySessions => "TooManySessions",
