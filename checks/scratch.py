@@ -25,8 +25,9 @@ def stop(why):
 def libraries_by_crate():
     """The crates of crates.txt, lowest first, each with those of the repository that it stands on."""
     lines = (ROOT / "crates.txt").read_text(encoding="utf-8").splitlines()
-    named = dict(line.split(":", 1) for line in lines if line.strip() and not line.startswith("#"))
-    left = {name.split()[0]: [it for it in deps.split() if it in named] for name, deps in named.items()}
+    rows = [line.split(":", 1) for line in lines if line.strip() and not line.startswith("#")]
+    named = {front.split()[0]: deps for front, deps in rows}
+    left = {name: [it for it in deps.split() if it in named] for name, deps in named.items()}
     ordered = {}
     while left:
         name = next(it for it in left if all(dep in ordered for dep in left[it]))
@@ -72,7 +73,7 @@ def scratch_copy(keeps_libraries, names=None):
         for name in kept:
             shutil.copytree(ROOT / "crates" / name, copy / "crates" / name, ignore=skipped)
         lines = (ROOT / "crates.txt").read_text(encoding="utf-8").splitlines()
-        listed = [it for it in lines if it.startswith("#") or it.split(":")[0].strip() in kept]
+        listed = [it for it in lines if it.startswith("#") or (it.split(":")[0].split() or [""])[0] in kept]
         (copy / "crates.txt").write_text("\n".join(listed) + "\n", encoding="utf-8")
         shutil.copyfile(ROOT / "HANDLES", copy / "HANDLES")
         try:

@@ -48,7 +48,7 @@ one_where : (b : Bool) (event : Event) (rules : Book) → DeploysFile event → 
 one_where true event rules h one = one_by event rules h one
 one_where false event rules h one = one
 
-one_after : (old mid : State) (call : Call) (reply : Reply) → Step old call.now call.session call.event reply mid → DeploysFile call.event → HasOneCapture old.rules → HasOneCapture mid.rules
+pub one_after : (old mid : State) (call : Call) (reply : Reply) → Step old call.now call.session call.event reply mid → DeploysFile call.event → HasOneCapture old.rules → HasOneCapture mid.rules
 one_after old mid call reply s h one =
     subst (λ (book : Book). HasOneCapture book) (sym (rules_are old mid call.now call.session call.event reply s)) (one_where (is_done reply) call.event old.rules h one)
 

@@ -1,0 +1,7 @@
+pub mod Lists
+pub mod Histories
+pub mod Judging
+pub mod Keeps
+pub mod Seats
+pub mod Serving
+pub mod Crossing

@@ -1,0 +1,23 @@
+//! One database for many threads, whose calls have one legal history.
+//!
+//! Threads share a [`Hall`], and each has a [`Seat`]. Contracts see a seat as what it knows of the hall: the history
+//! that it has seen, which is one that a database of one thread can have, and which entries of it are its own calls.
+//! What the layer above needs is [`Hall::call`], which adds one entry, and [`Hall::close`], which gives the database
+//! as the history leaves it. The history itself is stored nowhere: only its length is.
+#![tactic(auto)]
+
+mod content;
+mod entry;
+mod hall;
+mod history_laws;
+mod patience;
+mod rule;
+mod seat;
+mod turns;
+mod view;
+
+pub use entry::Entry;
+pub use hall::{Hall, Spent};
+pub use history_laws::{a_history_goes_on_at_its_end, every_entry_is_judged_by_the_rules_in_force};
+pub use seat::Seat;
+pub use turns::MAX_ENTRIES;
