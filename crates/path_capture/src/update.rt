@@ -25,7 +25,7 @@ pub fn make_all(alloc: Global, tree: &mut Option<Node>, writes: Vec<Write>) -> R
 {
     law_of(tree);
     let mut left = writes;
-    sort_backwards(&mut left);
+    turn_backwards(&mut left);
     let mut undos = Vec::new(alloc);
     match make_puts(alloc, tree, &mut left, &mut undos) {
         Ok(()) => {
@@ -38,6 +38,15 @@ pub fn make_all(alloc: Global, tree: &mut Option<Node>, writes: Vec<Write>) -> R
             Err(refused)
         }
     }
+}
+
+// Orders writes by their locations, the last first. Most come in ascending order, and need no move once they are turned
+// round.
+fn turn_backwards(writes: &mut Vec<Write>)
+    ensures { IsPermutation writes.old.items writes.new.items }
+{
+    writes.reverse();
+    sort_backwards(writes);
 }
 
 // Orders writes by their locations, the last first.

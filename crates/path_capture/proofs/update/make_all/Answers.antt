@@ -7,25 +7,25 @@ use Rattle.tree_model.proofs.Order.{overlaps-permutation, proposed-permutation}
 use Rattle.path_capture.proofs.update.make_all.Goals as goal
 
 pub make_puts-requires-clause-apart : goal.make_puts-requires-clause-apart
-make_puts-requires-clause-apart c = overlaps-permutation _ _ c.sort_backwards.ensures c.requires
+make_puts-requires-clause-apart c = overlaps-permutation _ _ c.turn_backwards.ensures c.requires
 
 pub make_removals-requires-clause-apart : goal.make_removals-requires-clause-apart
-make_removals-requires-clause-apart c = overlaps-permutation _ _ c.sort_backwards-in-Ok.ensures c.in-Ok.ensures.apart
+make_removals-requires-clause-apart c = overlaps-permutation _ _ c.sort_backwards.ensures c.in-Ok.ensures.apart
 
 pub make_removals-requires-clause-removals : goal.make_removals-requires-clause-removals
 make_removals-requires-clause-removals c =
-    All-permutation (λ write. written write ≡ null) _ _ c.sort_backwards-in-Ok.ensures c.in-Ok.ensures.removals
+    All-permutation (λ write. written write ≡ null) _ _ c.sort_backwards.ensures c.in-Ok.ensures.removals
 
 pub returns-in-Ok-clause-ok : goal.returns-in-Ok-clause-ok
 returns-in-Ok-clause-ok c =
     c.make_removals.ensures
-    ∙ sym (proposed-permutation _ _ _ c.sort_backwards-in-Ok.ensures c.in-Ok.ensures.apart)
+    ∙ sym (proposed-permutation _ _ _ c.sort_backwards.ensures c.in-Ok.ensures.apart)
     ∙ c.in-Ok.ensures.goal
-    ∙ sym (proposed-permutation _ _ _ c.sort_backwards.ensures c.requires)
+    ∙ sym (proposed-permutation _ _ _ c.turn_backwards.ensures c.requires)
 
 pub returns-in-Err-clause-err : goal.returns-in-Err-clause-err
 returns-in-Err-clause-err c = c.rewind.ensures ∙ ap non_null c.make_puts.ensures.rewound ∙ sym c.law_of.ensures
 
 pub returns-in-Err-clause-removals : goal.returns-in-Err-clause-removals
 returns-in-Err-clause-removals c all =
-    subst IsOk c.in-Err.is (c.make_puts.ensures.nothing (All-permutation (λ write. written write ≡ null) _ _ c.sort_backwards.ensures all))
+    subst IsOk c.in-Err.is (c.make_puts.ensures.nothing (All-permutation (λ write. written write ≡ null) _ _ c.turn_backwards.ensures all))
