@@ -11,7 +11,7 @@ use Rattle.rtdb_model.specs.declared.news.Notice.{Notice}
 use Rattle.rtdb_model.specs.declared.news.What.TheVariants.{Gone, Now}
 use Rattle.rtdb_model.specs.declared.reply.Reply.TheVariants.{News}
 use Rattle.rtdb_model.specs.News.{gone, selected_now}
-use Rattle.answers.specs.AnswerText.{notice_data, text}
+use Rattle.answers.specs.AnswerText.{notice_data, text, pushed_text}
 use Rattle.answers.proofs.Items.{left_items, regrouped}
 
 regrouped_value : (a b c d : List ℕ) → (a ++ (b ++ c)) ++ d ≡ a ++ (b ++ (c ++ d))
@@ -69,3 +69,18 @@ news_told notices old front told all begins is closes =
     ∙ append_assoc (old ++ head) (left_items notice_data false notices) (codes ",\"ok\":true}")
     ∙ append_assoc old head (left_items notice_data false notices ++ codes ",\"ok\":true}")
     ∙ ap (λ s. old ++ s) (news_text notices)
+
+-- the text of a push round that of the notices
+pub push_text : (notices : List Notice) → codes "{\"push\":[" ++ (left_items notice_data false notices ++ codes "}") ≡ pushed_text notices
+unfolding pushed_text serde_json_on_literals
+push_text notices = refl
+
+pub push_told : (notices : List Notice) (old front told all : List ℕ) → front ≡ old ++ codes "{\"push\":[" → told ++ codes "]" ≡ front ++ left_items notice_data false notices → all ≡ told ++ codes "]}" → all ≡ old ++ pushed_text notices
+push_told notices old front told all begins is closes =
+    let head = codes "{\"push\":[" in
+    closes
+    ∙ sym (append_assoc told (codes "]") (codes "}"))
+    ∙ ap (λ s. s ++ codes "}") (is ∙ ap (λ s. s ++ left_items notice_data false notices) begins)
+    ∙ append_assoc (old ++ head) (left_items notice_data false notices) (codes "}")
+    ∙ append_assoc old head (left_items notice_data false notices ++ codes "}")
+    ∙ ap (λ s. old ++ s) (push_text notices)

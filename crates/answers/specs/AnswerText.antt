@@ -65,6 +65,7 @@ number_of code.WriteDenied = 502
 number_of code.ValidateDenied = 503
 number_of code.TreeFull = 504
 number_of code.NoMemory = 601
+number_of code.Spent = 602
 
 abbrev pub name_of : Code → List ℕ
 name_of code.BadJson = codes "BadJson"
@@ -97,6 +98,7 @@ name_of code.WriteDenied = codes "WriteDenied"
 name_of code.ValidateDenied = codes "ValidateDenied"
 name_of code.TreeFull = codes "TreeFull"
 name_of code.NoMemory = codes "NoMemory"
+name_of code.Spent = codes "Spent"
 
 -- what every refusal has, before and after the members that only some have
 abbrev pub refusal_members : Code → Members → Members
@@ -154,6 +156,7 @@ refusal_data (refusals.WriteDenied at named) = write_denied_data at named
 refusal_data (refusals.ValidateDenied at pattern why) = validate_denied_data at pattern why
 refusal_data refusals.TreeFull = plain_data code.TreeFull
 refusal_data refusals.NoMemory = plain_data code.NoMemory
+refusal_data refusals.Spent = plain_data code.Spent
 
 -- what is told of a listener: that it is cancelled, or the value that it selects
 abbrev pub notice_data : Notice → Data
@@ -175,6 +178,15 @@ reply_data (Refused refusal) = refusal_data refusal
 -- the text of a reply
 unfoldable pub text : Reply → List ℕ
 text reply = compact_text (reply_data reply)
+
+-- ---- pushes
+
+abbrev pub pushed_data : List Notice → Data
+pushed_data notices = object (member (codes "push") (notices_data notices) no_members)
+
+-- the text of news that are sent to a client which did not ask for them
+unfoldable pub pushed_text : List Notice → List ℕ
+pushed_text notices = compact_text (pushed_data notices)
 
 -- ---- faults of messages and of rules files
 

@@ -35,6 +35,7 @@ pub enum Code {
     ValidateDenied,
     TreeFull,
     NoMemory,
+    Spent,
 }
 
 impl Code {
@@ -73,6 +74,7 @@ impl Code {
             Code::ValidateDenied => 503,
             Code::TreeFull => 504,
             Code::NoMemory => 601,
+            Code::Spent => 602,
         }
     }
 
@@ -111,6 +113,7 @@ impl Code {
             Code::ValidateDenied => "ValidateDenied",
             Code::TreeFull => "TreeFull",
             Code::NoMemory => "NoMemory",
+            Code::Spent => "Spent",
         }
     }
 }

@@ -5,7 +5,7 @@ ghost use Rattle.serde_json.specs.Written.{compact_text, items_text};
 ghost use Rattle.rtdb_model.specs.declared.reply.Reply.TheVariants.{News as Told};
 ghost use Rattle.rtdb_model.specs.News.{gone};
 ghost use Rattle.rtdb_model.specs.Tidings.{notice_of};
-ghost use Rattle.answers.specs.AnswerText.{text, notice_data, items_of};
+ghost use Rattle.answers.specs.AnswerText.{text, pushed_text, notice_data, items_of};
 
 use crate::answer_writer::AnswerWriter;
 use json_tree::NoMemory;
@@ -20,6 +20,16 @@ impl AnswerWriter {
         self.piece(b"{\"news\":[")?;
         self.notices(news.as_slice())?;
         self.piece(b"],\"ok\":true}")
+    }
+
+    /// Writes the text of news that are sent to a client which did not ask for them, in one pass over them.
+    pub fn put_push(&mut self, news: &News) -> Result<(), NoMemory>
+        ensures before { self.new.before ≡ self.old.before }
+        ensures text { OnOk result (self.new.text ≡ self.old.text ++ pushed_text news.now) }
+    {
+        self.piece(b"{\"push\":[")?;
+        self.notices(news.as_slice())?;
+        self.piece(b"]}")
     }
 
     /// Writes the text of the reply that a poll is given with these tidings, in one pass over what they tell,

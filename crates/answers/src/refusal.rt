@@ -58,6 +58,7 @@ impl AnswerWriter {
             Refusal::ValidateDenied(at, pattern, why) => self.validate_denied(at, pattern, *why),
             Refusal::TreeFull => self.plain(Code::TreeFull),
             Refusal::NoMemory => self.plain(Code::NoMemory),
+            Refusal::Spent => self.plain(Code::Spent),
         }
     }
 

@@ -58,5 +58,6 @@ fn name_of(refusal: &Refusal) -> &'static str {
         Refusal::ValidateDenied(_, _, _) => "ValidateDenied",
         Refusal::TreeFull => "TreeFull",
         Refusal::NoMemory => "NoMemory",
+        Refusal::Spent => "Spent",
     }
 }

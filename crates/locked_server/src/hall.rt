@@ -1,5 +1,5 @@
 //! A hall: a database that many threads call, one after another.
-ghost use Rattle.std.specs.Prelude.{◌≡◌, ◌≤◌, ◌++◌, [], length, IfOk, OnErr};
+ghost use Rattle.std.specs.Prelude.{◌≡◌, ◌≢◌, ◌≤◌, ◌++◌, [], length, IfOk};
 ghost use Rattle.locked_server.specs.Known.{Closes, IsSameSeat, Made, Met, Missed, SeesLegal, SeesMore, own};
 
 use crate::content::{Content, Slot};
@@ -11,12 +11,11 @@ use crate::view::View;
 use atomic_table::Table;
 use bumpalo::Bump;
 use json_tree::NoMemory;
-use rtdb_core::{Core, Event, MAX_MOMENT, Reply};
+use rtdb_core::{Core, Event, MAX_MOMENT, Refusal, Reply};
 use std::alloc::Global;
 use std::marker::Model;
 use std::snapshot::Snapshot;
 use std::sync::Wait;
-use thiserror::Error;
 
 /// A database that many threads call, one after another. Contracts see which hall it is.
 #[derive(Drop)]
@@ -36,11 +35,6 @@ impl Model for Hall {
 
     ghost invariant = { λ hall. (hall.table.shared.table_id.words ≡ 2) × (hall.table.shared.table_id.slots ≡ 1) };
 }
-
-/// The history has as many entries as it may, and the call was not made.
-#[derive(Clone, Copy, Debug, PartialEq, Eq, Error)]
-#[error("a history of more than 2^62 calls")]
-pub struct Spent;
 
 impl Hall {
     /// A hall whose history is empty, and its first seat. It takes three growths, of which two stay, for the database
@@ -119,8 +113,8 @@ impl Hall {
 
     /// Waits for its turn, and lets the database answer an event of a session, at a moment in milliseconds since 1970,
     /// as [`Core::step`] does: that is the next entry of the history, a refusal too. Where 2^62 tickets have been
-    /// taken, it waits until the history has that many entries, and answers [`Spent`], which is no entry. The arena is
-    /// for what the step needs. The call takes no memory of its own, and costs, beside the step, four steps on the
+    /// taken, it waits until the history has that many entries, and answers [`Refusal::Spent`], which no step does, and
+    /// which is no entry. The arena is for what the step needs. The call takes no memory of its own, and costs, beside the step, four steps on the
     /// words that all seats share, and more where another seat comes first.
     pub fn call<R: Wait>(
         &self,
@@ -130,23 +124,23 @@ impl Hall {
         now: u64,
         session: u64,
         event: Event,
-    ) -> Result<Reply, Spent>
+    ) -> Reply
         requires moment { now ≤ MAX_MOMENT }
         requires hall { seat.old.hall ≡ self.now }
         ensures same { IsSameSeat seat.old seat.new }
-        ensures made { IfOk result (λ reply. Made seat.old seat.new now session event reply) }
-        ensures missed { OnErr result (Missed seat.old seat.new) }
+        ensures made { result ≢ Reply.Refused Refusal.Spent → Made seat.old seat.new now session event result }
+        ensures missed { result ≡ Reply.Refused Refusal.Spent → Missed seat.old seat.new }
         ensures legal { SeesLegal seat.new }
     {
         let words = &self.table.shared;
         match take_ticket(rt, words, &mut seat.pass, MAX_ENTRIES) {
             Some(ticket) => {
                 await_turn(rt, words, &mut seat.pass, ticket);
-                Ok(serve(words, &mut seat.pass, arena, now, session, event))
+                serve(words, &mut seat.pass, arena, now, session, event)
             }
             None => {
                 self.await_last_entry(rt, seat);
-                Err(Spent)
+                Reply::Refused(Refusal::Spent)
             }
         }
     }

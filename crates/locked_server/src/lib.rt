@@ -17,7 +17,7 @@ mod turns;
 mod view;
 
 pub use entry::Entry;
-pub use hall::{Hall, Spent};
+pub use hall::Hall;
 pub use history_laws::{a_history_goes_on_at_its_end, every_entry_is_judged_by_the_rules_in_force};
 pub use seat::Seat;
 pub use turns::MAX_ENTRIES;

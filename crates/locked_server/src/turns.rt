@@ -1,5 +1,5 @@
 //! A seat's ticket, and its turn with the database.
-ghost use Rattle.std.specs.Prelude.{◌≡◌, ◌^◌, ◌<◌, ◌≤◌, [], MatchOption};
+ghost use Rattle.std.specs.Prelude.{◌≡◌, ◌≢◌, ◌^◌, ◌<◌, ◌≤◌, [], MatchOption};
 ghost use Rattle.rtdb_model.specs.Headline.{DeploysFile};
 ghost use Rattle.locked_server.specs.declared.view.Stage.TheVariants.{Resting, Waiting};
 ghost use Rattle.locked_server.specs.Working.Rule.{Turn, with_ticket};
@@ -11,7 +11,7 @@ use crate::rule::{Draw, Enter, HallRule, Watch};
 use crate::view::View;
 use atomic_table::{Seat, Shared};
 use bumpalo::Bump;
-use rtdb_core::{Core, Event, MAX_MOMENT, Reply};
+use rtdb_core::{Core, Event, MAX_MOMENT, Refusal, Reply};
 use std::snapshot::Snapshot;
 use std::sync::Wait;
 
@@ -84,6 +84,7 @@ pub(crate) fn serve(
     requires database { HasDatabase pass.old.me }
     ensures hall { pass.new.table_id ≡ pass.old.table_id }
     ensures entered { IsEntered pass.old.me pass.new.me now session event result }
+    ensures own { result ≢ Reply.Refused Refusal.Spent }
 {
     let Some(content) = words.exchange(pass, 0, None) else {
         unreachable!()

@@ -31,9 +31,9 @@ unfolding Step
 one_step old new other now session event reply another alike (inl h) (inl g) =
     (ap (λ (o : Outcome). o.reply) (sym h ∙ g), ap (λ (o : Outcome). o.after) (sym h ∙ g))
 one_step old new other now session event reply another alike (inl h) (inr g) =
-    absurd ((fine old now session event).answers (ap (λ (o : Outcome). o.reply) h ∙ alike.1 g.0))
+    absurd ((fine old now session event).answers.0 (ap (λ (o : Outcome). o.reply) h ∙ alike.1 g.0))
 one_step old new other now session event reply another alike (inr h) (inl g) =
-    absurd ((fine old now session event).answers (ap (λ (o : Outcome). o.reply) g ∙ alike.0 h.0))
+    absurd ((fine old now session event).answers.0 (ap (λ (o : Outcome). o.reply) g ∙ alike.0 h.0))
 one_step old new other now session event reply another alike (inr h) (inr g) =
     (h.0 ∙ sym g.0, h.1 ∙ sym g.1)
 

@@ -32,7 +32,7 @@ refused_stays old new now session event refusal (inr h) = h.1
 -- what takes no memory is not answered by want of it
 pub answered : (old new : State) (now session : ℕ) (event : Event) (reply : Reply) → takes_no_memory old session event ≡ true → Step old now session event reply new → reply ≢ Refused NoMemory
 unfolding Step
-answered old new now session event reply none (inl h) = λ e. (fine old now session event).answers (ap (λ (o : Outcome). o.reply) h ∙ e)
+answered old new now session event reply none (inl h) = λ e. (fine old now session event).answers.0 (ap (λ (o : Outcome). o.reply) h ∙ e)
 answered old new now session event reply none (inr h) = λ _. false≢true (sym h.2 ∙ none)
 
 pub rules_are : (old new : State) (now session : ℕ) (event : Event) (reply : Reply) → Step old now session event reply new → new.rules ≡ cond (is_done reply) (rules_by event old.rules) old.rules

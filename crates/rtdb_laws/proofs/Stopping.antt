@@ -17,7 +17,7 @@ use Rattle.rtdb_model.specs.declared.limits.TheConstants.{MAX_SESSIONS, MAX_LOCA
 use Rattle.rtdb_model.specs.declared.event.Event.{Event}
 use Rattle.rtdb_model.specs.declared.event.Event.TheVariants.{Open, Close, SignIn, SignOut, Get, Set, Remove, Update, Listen, Unlisten, Poll, Tick, Deploy}
 use Rattle.rtdb_model.specs.declared.reply.Refusal.{Refusal}
-use Rattle.rtdb_model.specs.declared.reply.Refusal.TheVariants.{SessionOpen, TooManySessions, NoSession, NotAdmin, EmptyUpdate, Overlap, DuplicateId, TooManyListeners, NoListener, ReadDenied, WriteDenied, ValidateDenied, TreeFull, NoMemory}
+use Rattle.rtdb_model.specs.declared.reply.Refusal.TheVariants.{SessionOpen, TooManySessions, NoSession, NotAdmin, EmptyUpdate, Overlap, DuplicateId, TooManyListeners, NoListener, ReadDenied, WriteDenied, ValidateDenied, TreeFull, NoMemory, Spent}
 use Rattle.rtdb_model.specs.declared.reply.Reply.{Reply}
 use Rattle.rtdb_model.specs.declared.reply.Reply.TheVariants.{Done, Refused}
 use Rattle.rtdb_model.specs.State.{State, is_open, identity_of, listeners_of, is_admin, scene_at}
@@ -140,6 +140,7 @@ module _ (old : State) (now session : ℕ) where
   is_stopped event (ValidateDenied at pattern why) h = absurd h
   is_stopped event TreeFull h = absurd h
   is_stopped event NoMemory h = absurd h
+  is_stopped event Spent h = absurd h
 
   -- ---- what is refused so is stopped
 
@@ -317,6 +318,7 @@ module _ (old : State) (session : ℕ) where
   stopped_takes_none event (ValidateDenied at pattern why) h = absurd h
   stopped_takes_none event TreeFull h = absurd h
   stopped_takes_none event NoMemory h = absurd h
+  stopped_takes_none event Spent h = absurd h
 
   pub stop_for_memory : (event : Event) → none_for event ≡ false → IsStoppedRightly old session event (Refused NoMemory)
   stop_for_memory event wants = record {

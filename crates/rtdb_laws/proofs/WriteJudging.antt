@@ -48,6 +48,7 @@ is_judgement (Refused (refusals.WriteDenied at named)) = true
 is_judgement (Refused (refusals.ValidateDenied at pattern why)) = true
 is_judgement (Refused refusals.TreeFull) = true
 is_judgement (Refused refusals.NoMemory) = false
+is_judgement (Refused refusals.Spent) = false
 
 module _ (old : State) (now session : ℕ) (all : List Write) where
   abbrev pub WriteJudged : Outcome → Type 0

@@ -21,6 +21,6 @@ pub use run_laws::{
 };
 pub use step_laws::{
     a_refused_event_changes_nothing, a_step_is_a_function, every_step_is_judged,
-    what_takes_no_memory_is_answered,
+    no_step_answers_spent, what_takes_no_memory_is_answered,
 };
 pub use worked::{what_reads_are_answered, what_writes_are_answered};

@@ -19,6 +19,11 @@ pub fn what_takes_no_memory_is_answered()
     ensures { (old new : State) (now session : ℕ) (event : Event) (reply : Reply) → takes_no_memory old session event ≡ true → Step old now session event reply new → reply ≢ Reply.Refused Refusal.NoMemory }
 {}
 
+/// No step answers that as many events were answered as may be: who asks on many threads alone is answered so.
+pub fn no_step_answers_spent()
+    ensures { (old new : State) (now session : ℕ) (event : Event) (reply : Reply) → Step old now session event reply new → reply ≢ Reply.Refused Refusal.Spent }
+{}
+
 /// Each step is judged, by rules of which no object has two captures. Each refusal that comes before any
 /// rule is asked comes exactly where it should, memory or not; but for want of memory, what no rule can
 /// refuse is done exactly where none of these stops it; a read is answered by what stands there, and

@@ -21,7 +21,7 @@ use Rattle.rtdb_model.specs.declared.limits.TheConstants.{MAX_SESSIONS, MAX_LOCA
 use Rattle.rtdb_model.specs.declared.event.Event.{Event}
 use Rattle.rtdb_model.specs.declared.event.Event.TheVariants.{Open, Close, SignIn, SignOut, Get, Set, Remove, Update, Listen, Unlisten, Poll, Tick, Deploy}
 use Rattle.rtdb_model.specs.declared.reply.Refusal.{Refusal}
-use Rattle.rtdb_model.specs.declared.reply.Refusal.TheVariants.{SessionOpen, TooManySessions, NoSession, NotAdmin, EmptyUpdate, Overlap, DuplicateId, TooManyListeners, NoListener, TreeFull, NoMemory}
+use Rattle.rtdb_model.specs.declared.reply.Refusal.TheVariants.{SessionOpen, TooManySessions, NoSession, NotAdmin, EmptyUpdate, Overlap, DuplicateId, TooManyListeners, NoListener, TreeFull, NoMemory, Spent}
 use Rattle.rtdb_model.specs.declared.reply.Reply.{Reply}
 use Rattle.rtdb_model.specs.declared.reply.Reply.TheVariants.{Done, Value, News, Refused}
 use Rattle.rtdb_model.specs.State.{Session, Sessions, State, fresh, is_open, identity_of, listeners_of, is_admin, scene_at}
@@ -33,18 +33,22 @@ use Rattle.rtdb_model.proofs.Slots.{identity-with, identity-again}
 abbrev SignsOnly : State → ℕ → Event → Outcome → Type 0
 SignsOnly old session event o = (other : ℕ) → identity_of o.after other ≡ cond (is_done o.reply && other == session) (identity_by event (identity_of old other)) (identity_of old other)
 
--- a refusal leaves the state, no outcome is want of memory, and rules and identities are as the event says
+-- it is no want of memory, and not that as many events were answered as may be
+abbrev pub IsOwn : Reply → Type 0
+IsOwn reply = (reply ≢ Refused NoMemory) × (reply ≢ Refused Spent)
+
+-- a refusal leaves the state, each outcome is its event's own, and rules and identities are as the event says
 pub record IsFine (old : State) (session : ℕ) (event : Event) (o : Outcome) : Type 0 where
   pub stays : (refusal : Refusal) → o.reply ≡ Refused refusal → o.after ≡ old
-  pub answers : o.reply ≢ Refused NoMemory
+  pub answers : IsOwn o.reply
   pub rules : o.after.rules ≡ cond (is_done o.reply) (rules_by event old.rules) old.rules
   pub identities : SignsOnly old session event o
 
-fine_refusal : (old : State) (session : ℕ) (event : Event) (refusal : Refusal) → Refused refusal ≢ Refused NoMemory → IsFine old session event (refused old refusal)
+fine_refusal : (old : State) (session : ℕ) (event : Event) (refusal : Refusal) → IsOwn (Refused refusal) → IsFine old session event (refused old refusal)
 fine_refusal old session event refusal other = record { stays = λ _ _. refl; answers = other; rules = refl; identities = λ _. refl }
 
 fine_done : (old : State) (session : ℕ) (event : Event) (new : State) → new.rules ≡ rules_by event old.rules → SignsOnly old session event (record { reply = Done; after = new }) → IsFine old session event (record { reply = Done; after = new })
-fine_done old session event new same signs = record { stays = λ refusal e. absurd (never refusal e); answers = λ e. never NoMemory e; rules = same; identities = signs }
+fine_done old session event new same signs = record { stays = λ refusal e. absurd (never refusal e); answers = (never NoMemory, never Spent); rules = same; identities = signs }
   where
     never : (refusal : Refusal) → Done ≡ Refused refusal → ⊥
     never refusal e = cc
@@ -53,7 +57,7 @@ fine_done old session event new same signs = record { stays = λ refusal e. absu
 fine_answer : (old : State) (session : ℕ) (event : Event) (o : Outcome) → ((refusal : Refusal) → o.reply ≡ Refused refusal → ⊥) → is_done o.reply ≡ false → o.after.rules ≡ old.rules → ((other : ℕ) → identity_of o.after other ≡ identity_of old other) → IsFine old session event o
 fine_answer old session event o never none same signs = record {
   stays = λ refusal e. absurd (never refusal e);
-  answers = λ e. never NoMemory e;
+  answers = (never NoMemory, never Spent);
   rules = same ∙ ap (λ (b : Bool). cond b (rules_by event old.rules) old.rules) (sym none);
   identities = λ other. signs other ∙ ap (λ (b : Bool). cond (b && other == session) (identity_by event (identity_of old other)) (identity_of old other)) (sym none);
 }
@@ -81,23 +85,23 @@ signs_nobody : (b : Bool) (who : Option Identity) → who ≡ cond b who who
 signs_nobody true who = refl
 signs_nobody false who = refl
 
--- ---- no refusal of the rules or of room is want of memory
+-- ---- each refusal of the rules or of room is its event's own
 
 abbrev WantsNone : Option Refusal → Type 0
-WantsNone o = (refusal : Refusal) → o ≡ Some refusal → Refused refusal ≢ Refused NoMemory
+WantsNone o = (refusal : Refusal) → o ≡ Some refusal → IsOwn (Refused refusal)
 
 denial_wants_none : (v : Verdict) → WantsNone (denial v)
-denial_wants_none verdicts.Granted refusal e = λ f. cc
-denial_wants_none (verdicts.ReadDenied named) refusal e = λ f. cc
-denial_wants_none (verdicts.WriteDenied at named) refusal e = λ f. cc
-denial_wants_none (verdicts.ValidateDenied at pattern why) refusal e = λ f. cc
+denial_wants_none verdicts.Granted refusal e = (λ f. cc, λ f. cc)
+denial_wants_none (verdicts.ReadDenied named) refusal e = (λ f. cc, λ f. cc)
+denial_wants_none (verdicts.WriteDenied at named) refusal e = (λ f. cc, λ f. cc)
+denial_wants_none (verdicts.ValidateDenied at pattern why) refusal e = (λ f. cc, λ f. cc)
 
 full_wants_none : (tree : Tree) → WantsNone (full tree)
 full_wants_none tree = by_room (nat_le (count tree) MAX_LOCATIONS)
   where
     by_room : (b : Bool) → WantsNone (cond b None (Some TreeFull))
-    by_room true refusal e = λ f. cc
-    by_room false refusal e = λ f. cc
+    by_room true refusal e = (λ f. cc, λ f. cc)
+    by_room false refusal e = (λ f. cc, λ f. cc)
 
 or_full_wants_none : (o : Option Refusal) (tree : Tree) → WantsNone o → WantsNone (or_full o tree)
 or_full_wants_none None tree h = full_wants_none tree
@@ -119,12 +123,12 @@ unless old session event (Some refusal) other h g = fine_refusal old session eve
 
 module _ (old : State) (session : ℕ) where
   closed_refused : (event : Event) → IsFine old session event (refused old NoSession)
-  closed_refused event = fine_refusal old session event NoSession (λ e. cc)
+  closed_refused event = fine_refusal old session event NoSession (λ e. cc, λ e. cc)
 
   fine_open : IsFine old session Open (opens old session)
   fine_open =
-      either old session Open (is_open old session) _ _ (fine_refusal old session Open SessionOpen (λ e. cc))
-      (either old session Open (nat_le MAX_SESSIONS (map_of.len old.sessions)) _ _ (fine_refusal old session Open TooManySessions (λ e. cc))
+      either old session Open (is_open old session) _ _ (fine_refusal old session Open SessionOpen (λ e. cc, λ e. cc))
+      (either old session Open (nat_le MAX_SESSIONS (map_of.len old.sessions)) _ _ (fine_refusal old session Open TooManySessions (λ e. cc, λ e. cc))
       (fine_done old session Open (opened old session) refl (λ other. at_session old session other (opened old session).sessions (Some fresh) (map_of.get-insert nat_cmp_total old.sessions session fresh other))))
 
   fine_close : IsFine old session Close (closes old session)
@@ -163,20 +167,20 @@ module _ (old : State) (session : ℕ) where
   fine_update : (now : ℕ) (writes : List Write) → IsFine old session (Update writes) (updates old now session writes)
   fine_update now writes =
       either old session (Update writes) (not (is_open old session)) _ _ (closed_refused (Update writes))
-      (either old session (Update writes) (length writes == 0) _ _ (fine_refusal old session (Update writes) EmptyUpdate (λ e. cc))
-      (either old session (Update writes) (overlaps writes) _ _ (fine_refusal old session (Update writes) Overlap (λ e. cc)) (fine_makes now (Update writes) writes refl (λ _. refl))))
+      (either old session (Update writes) (length writes == 0) _ _ (fine_refusal old session (Update writes) EmptyUpdate (λ e. cc, λ e. cc))
+      (either old session (Update writes) (overlaps writes) _ _ (fine_refusal old session (Update writes) Overlap (λ e. cc, λ e. cc)) (fine_makes now (Update writes) writes refl (λ _. refl))))
 
   fine_deploy : (now : ℕ) (rules : Book) → IsFine old session (Deploy rules) (deploys old now session rules)
   fine_deploy now rules =
       either old session (Deploy rules) (not (is_open old session)) _ _ (closed_refused (Deploy rules))
-      (either old session (Deploy rules) (not (is_admin (identity_of old session))) _ _ (fine_refusal old session (Deploy rules) NotAdmin (λ e. cc))
+      (either old session (Deploy rules) (not (is_admin (identity_of old session))) _ _ (fine_refusal old session (Deploy rules) NotAdmin (λ e. cc, λ e. cc))
       (fine_all now (Deploy rules) (record { tree = old.tree; rules = rules; sessions = old.sessions }) refl refl (λ _. refl)))
 
   -- what a session listens to changes, and not who is signed in on it
   fine_own : (event : Event) (reply : Reply) (mine : List Listener) → ((refusal : Refusal) → reply ≡ Refused refusal → ⊥) → rules_by event old.rules ≡ old.rules → ((before : Option Identity) → identity_by event before ≡ before) → IsFine old session event (record { reply = reply; after = with_session old session (identity_of old session) mine })
   fine_own event reply mine never keeps leaves = record {
     stays = λ refusal e. absurd (never refusal e);
-    answers = λ e. never NoMemory e;
+    answers = (never NoMemory, never Spent);
     rules = rules_are (is_done reply);
     identities = λ other. identity-with old session (identity_of old session) mine other ∙ as_before other (other == session) refl ∙ by_done (is_done reply && other == session) other;
   }
@@ -197,15 +201,15 @@ module _ (old : State) (session : ℕ) where
   fine_listen now id path query =
       let event = Listen id path query in
       either old session event (not (is_open old session)) _ _ (closed_refused event)
-      (either old session event (has_id id (listeners_of old session)) _ _ (fine_refusal old session event DuplicateId (λ e. cc))
-      (either old session event (nat_le MAX_LISTENERS (length (listeners_of old session))) _ _ (fine_refusal old session event TooManyListeners (λ e. cc))
+      (either old session event (has_id id (listeners_of old session)) _ _ (fine_refusal old session event DuplicateId (λ e. cc, λ e. cc))
+      (either old session event (nat_le MAX_LISTENERS (length (listeners_of old session))) _ _ (fine_refusal old session event TooManyListeners (λ e. cc, λ e. cc))
       (unless old session event (read_refusal old now session path query) _ (read_wants_none old now session path query)
       (fine_own event (Value (non_null (selected_at old.tree path query))) _ (λ refusal e. cc) refl (λ _. refl)))))
 
   fine_unlisten : (id : List ℕ) → IsFine old session (Unlisten id) (unlistens old session id)
   fine_unlisten id =
       either old session (Unlisten id) (not (is_open old session)) _ _ (closed_refused (Unlisten id))
-      (either old session (Unlisten id) (not (has_id id (listeners_of old session))) _ _ (fine_refusal old session (Unlisten id) NoListener (λ e. cc))
+      (either old session (Unlisten id) (not (has_id id (listeners_of old session))) _ _ (fine_refusal old session (Unlisten id) NoListener (λ e. cc, λ e. cc))
       (fine_own (Unlisten id) Done (without_id id (listeners_of old session)) (λ refusal e. cc) refl (λ _. refl)))
 
   fine_poll : (now : ℕ) → IsFine old session Poll (polls old now session)

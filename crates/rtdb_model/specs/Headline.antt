@@ -28,7 +28,7 @@ use Rattle.rtdb_model.specs.declared.event.Event.{Event}
 use Rattle.rtdb_model.specs.declared.event.Event.TheVariants.{Open, Close, SignIn, SignOut, Get, Set, Remove, Update, Listen, Unlisten, Poll, Tick, Deploy}
 use Rattle.rtdb_model.specs.declared.news.Notice.{Notice}
 use Rattle.rtdb_model.specs.declared.reply.Refusal.{Refusal}
-use Rattle.rtdb_model.specs.declared.reply.Refusal.TheVariants.{SessionOpen, TooManySessions, NoSession, NotAdmin, EmptyUpdate, Overlap, DuplicateId, TooManyListeners, NoListener, ReadDenied, WriteDenied, ValidateDenied, TreeFull, NoMemory}
+use Rattle.rtdb_model.specs.declared.reply.Refusal.TheVariants.{SessionOpen, TooManySessions, NoSession, NotAdmin, EmptyUpdate, Overlap, DuplicateId, TooManyListeners, NoListener, ReadDenied, WriteDenied, ValidateDenied, TreeFull, NoMemory, Spent}
 use Rattle.rtdb_model.specs.declared.reply.Reply.{Reply}
 use Rattle.rtdb_model.specs.declared.reply.Reply.TheVariants.{Done, Value, News, Refused}
 use Rattle.rtdb_model.specs.State.{State, is_open, identity_of, listeners_of, is_admin, scene_at}
@@ -70,6 +70,7 @@ is_early (WriteDenied at named) = false
 is_early (ValidateDenied at pattern why) = false
 is_early TreeFull = false
 is_early NoMemory = false
+is_early Spent = false
 
 -- When each of these refusals comes: a session that is open is opened; one that is not is opened, where as many are open as may be; the session has to be open and is not; and on an open session: rules are deployed, and no administrator is signed in; an update has no write; two writes of an update overlap; a listen is under an id that the session listens under already; it is under another, and the session has as many listeners as it may; an unlisten is under an id that it does not listen under. (This project's profile.)
 abbrev pub IsStopped : State → ℕ → Event → Refusal → Type 0
@@ -87,6 +88,7 @@ IsStopped before session event (WriteDenied at named) = ⊥
 IsStopped before session event (ValidateDenied at pattern why) = ⊥
 IsStopped before session event TreeFull = ⊥
 IsStopped before session event NoMemory = ⊥
+IsStopped before session event Spent = ⊥
 
 -- Each of these refusals comes exactly where it should, and never is want of memory answered in its place. (This project's profile.)
 pub record IsStoppedRightly (before : State) (session : ℕ) (event : Event) (reply : Reply) : Type 0 where

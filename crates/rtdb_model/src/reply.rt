@@ -55,6 +55,9 @@ pub enum Refusal {
     TreeFull,
     /// Memory was wanting, or the arena could not be reset.
     NoMemory,
+    /// As many events were answered as may be, and this one was not asked. No step answers it: it comes of those who
+    /// ask for many threads.
+    Spent,
 }
 
 /// Why a read is refused, of which a denial is borrowed from the rules and the arena.

@@ -174,7 +174,7 @@ pub record Turn (m m' : Mine) (found : ℕ) : Type 0 where
 abbrev pub HasWatched : Told
 HasWatched s m found m' = (found ≡ ticket_of m.0.stage → Turn m m' found) × (found ≢ ticket_of m.0.stage → m' ≡ m)
 
--- the call that is told beside the database is the last entry of the history, and the database is home
+-- the call that stands beside the database is the last entry of the history, and the database is home
 abbrev pub HasEntered : Told
 HasEntered s m found m' = (n : ℕ) × IsTrue (is_in m.0.first.numbers n)
     × ((x : Content) (a : LastCall) → m.1 ≡ (0, Some x) ∷ [] → x.last ≡ Some a

@@ -1,6 +1,7 @@
 use Rattle.std.proofs.Common.{rules, ap, sym, ◌∙◌, ◌≡◌, refl, Some, ◌∷◌, subst}
 use Rattle.rtdb_model.specs.Step.{Step}
 use Rattle.rtdb_model.specs.Headline.{DeploysFile}
+use Rattle.rtdb_model.proofs.Answers.{never_spent}
 use Rattle.rtdb_model.specs.declared.event.Event.{Event}
 use Rattle.rtdb_model.specs.declared.reply.Reply.{Reply}
 use Rattle.atomic_table.specs.Table.{rest}
@@ -30,3 +31,6 @@ returns-clause-entered c =
     let stepped = subst (λ (z : Event × Reply). Step c.in-Some.content.core c.args.now c.args.session z.0 z.1 c.step-reply.new.self) (λ i. (sym c.of-asked.ensures i, sym c.of.ensures i)) c.step-reply.ensures in
     let files = subst DeploysFile (sym c.of-asked.ensures) c.deploys_file.ensures in
     rw (← c.of-asked.ensures, ← c.of.ensures) (has_served _ _ _ _ _ _ c.fetch_add.result c.args.words.now.table_id.slots e refl leaves stepped files c.fetch_add.ensures.2)
+
+pub returns-clause-own : goal.returns-clause-own
+returns-clause-own c = never_spent _ _ _ _ _ _ c.step-reply.ensures

@@ -5,7 +5,7 @@ use Rattle.locked_server.proofs.Serving.{makes}
 use Rattle.locked_server.proofs.hall.Hall.call.Goals as goal
 
 pub returns-in-Some-clause-made : goal.returns-in-Some-clause-made
-returns-in-Some-clause-made g c = let s = c.serve.ensures.entered in let k = makes c.seat.inside.pass.me _ _ _ _ _ c.in-Some.ensures.ticket.1 c.await_turn.ensures.turn s.1 s.2 in
+returns-in-Some-clause-made g c other = let s = c.serve.ensures.entered in let k = makes c.seat.inside.pass.me _ _ _ _ _ c.in-Some.ensures.ticket.1 c.await_turn.ensures.turn s.1 s.2 in
     rw (← c.seat.view_is) (s.0, k.0, k.1)
 
 pub serve-requires-clause-database : goal.serve-requires-clause-database
