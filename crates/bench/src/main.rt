@@ -4,6 +4,7 @@
 
 mod example_rules;
 mod expressions;
+mod hall;
 mod rules_files;
 mod selections;
 mod steps;
@@ -15,6 +16,8 @@ use anyhow::{Context, Result};
 use std::alloc::Global;
 use std::env;
 use std::rt::Clock;
+use std::sync::Wait;
+use std::thread::Threads;
 
 /// A bench, by what it measures.
 #[derive(Clone, Copy)]
@@ -26,6 +29,7 @@ enum Bench {
     Selections,
     Verdicts,
     Steps,
+    Hall,
 }
 
 fn main(rt: HostRuntime) -> Result<()> {
@@ -51,7 +55,8 @@ views 100 5000 50000, for numbers of children
 expressions 10000, for numbers of rounds
 selections 100 5000 50000, for numbers of children
 verdicts 100 50000, for numbers of messages
-steps 0 64 1024 4096, for numbers of listeners";
+steps 0 64 1024 4096, for numbers of listeners
+hall 0 1 2 4 8 64, for numbers of seats, 0 for none and no hall";
 
 fn bench_named(name: &str) -> Option<Bench> {
     match name.as_bytes() {
@@ -62,11 +67,17 @@ fn bench_named(name: &str) -> Option<Bench> {
         b"selections" => Some(Bench::Selections),
         b"verdicts" => Some(Bench::Verdicts),
         b"steps" => Some(Bench::Steps),
+        b"hall" => Some(Bench::Hall),
         _ => None,
     }
 }
 
-fn run(rt: &(impl Clock + Print), alloc: Global, bench: Bench, number: u32) -> Result<()> {
+fn run<R: Clock + Print + Threads + Wait + Sync>(
+    rt: &R,
+    alloc: Global,
+    bench: Bench,
+    number: u32,
+) -> Result<()> {
     match bench {
         Bench::Values => values::time_width(rt, alloc, number),
         Bench::RulesFiles => rules_files::time_rules(rt, alloc, number),
@@ -75,5 +86,6 @@ fn run(rt: &(impl Clock + Print), alloc: Global, bench: Bench, number: u32) -> R
         Bench::Selections => selections::time_width(rt, alloc, number),
         Bench::Verdicts => verdicts::time_verdicts(rt, alloc, number),
         Bench::Steps => steps::time_listeners(rt, alloc, number),
+        Bench::Hall => hall::time_seats(rt, alloc, number),
     }
 }
