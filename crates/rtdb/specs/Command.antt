@@ -5,10 +5,10 @@ use Rattle.rules_reader.specs.declared.fault.RulesFault.{RulesFault}
 use Rattle.rules_reader.specs.Book.{Book, rules}
 use Rattle.rules_reader.specs.File.{States}
 use Rattle.rules_reader.specs.Refusal.{Refuses}
-use Rattle.sessions.specs.declared.script.ScriptEnd.{ScriptEnd}
+use Rattle.scripts.specs.declared.script.ScriptEnd.{ScriptEnd}
 use Rattle.answers.specs.AnswerText.{accepted_text, rules_fault_text}
-use Rattle.sessions.specs.Ends.{SourceTells, Ends}
-use Rattle.sessions.specs.Said.{as_line}
+use Rattle.scripts.specs.Ends.{SourceTells, Ends}
+use Rattle.scripts.specs.Said.{as_line}
 use Rattle.rtdb.specs.Order.{Wanted, checks, runs}
 use Rattle.rtdb.specs.Status.{done, refused, failed, no_memory, status_of}
 

@@ -1,7 +1,7 @@
 -- The statuses that the program ends with. (This project's profile.)
 use Rattle.std.specs.Prelude.{ℕ}
-use Rattle.sessions.specs.declared.script.ScriptEnd.{ScriptEnd}
-use Rattle.sessions.specs.declared.script.ScriptEnd.TheVariants as ends
+use Rattle.scripts.specs.declared.script.ScriptEnd.{ScriptEnd}
+use Rattle.scripts.specs.declared.script.ScriptEnd.TheVariants as ends
 
 -- done
 abbrev pub done : ℕ

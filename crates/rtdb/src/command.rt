@@ -2,7 +2,7 @@
 ghost use Rattle.std.specs.Prelude.{◌≡◌, ◌≢◌, ◌<◌, ◌⊎◌, [], map, length, string_bytes, true, false, IfOk};
 ghost use Rattle.std.specs.Io.KnownBytes.{Appends};
 ghost use Rattle.clap.specs.Words.{fault_of};
-ghost use Rattle.sessions.specs.Said.{as_line};
+ghost use Rattle.scripts.specs.Said.{as_line};
 ghost use Rattle.rtdb.specs.Order.{the_program, Wanted, AreOrder};
 ghost use Rattle.rtdb.specs.Status.{bad_line, failed, no_memory, status_of};
 ghost use Rattle.rtdb.specs.Command.{IsChecked, HasChecked, HasRun, HasDone};
@@ -15,7 +15,7 @@ use answers::{write_accepted, write_rules_fault};
 use bumpalo::Bump;
 use json_tree::NoMemory;
 use rules_reader::{MAX_FILE_BYTES, compile};
-use sessions::{ScriptEnd, Sink, Source, run_last_script, send_text};
+use scripts::{ScriptEnd, Sink, Source, run_last_script, send_text};
 use std::alloc::Global;
 use std::io;
 

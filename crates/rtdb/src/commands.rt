@@ -3,7 +3,7 @@ ghost use Rattle.std.specs.Prelude.{None};
 
 use crate::command::command;
 use crate::files::{Files, ReadFault};
-use sessions::{Reading, Writing};
+use scripts::{Reading, Writing};
 use std::alloc::{AllocError, Global};
 use std::io;
 use std::test::Fail;

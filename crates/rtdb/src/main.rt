@@ -2,7 +2,7 @@
 //!
 //! `rtdb run` reads a script of JSON lines, a rules file and then requests, and answers each line;
 //! `rtdb check FILE` says whether a rules file is accepted. What they print is the contract of
-//! [`command`], which for a script is that of [`run_last_script`](sessions::run_last_script): each read and write
+//! [`command`], which for a script is that of [`run_last_script`](scripts::run_last_script): each read and write
 //! is granted exactly when the rules hold at some prefix, each denial names its rules, and what is
 //! refused changes nothing.
 #![tactic(auto)]
@@ -16,7 +16,7 @@ mod wanted;
 
 use command::{BAD_LINE, command, out_of_memory};
 use files::SystemFiles;
-use sessions::{Reading, Writing};
+use scripts::{Reading, Writing};
 use std::process::ExitCode;
 use std::{env, io};
 

@@ -7,4 +7,4 @@ mod memory;
 #[cfg(test)]
 mod parts;
 #[cfg(test)]
-mod scripts;
+mod whole_scripts;

@@ -1,7 +1,7 @@
 //! A source and a sink in memory, which fail where a test wants it.
 ghost use Rattle.std.specs.Prelude.{◌≡◌, Some, true, false};
 
-use sessions::{Broken, Sink, Source};
+use scripts::{Broken, Sink, Source};
 use std::cell::Cell;
 use std::io;
 

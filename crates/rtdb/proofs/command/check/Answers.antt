@@ -2,7 +2,7 @@ use Rattle.std.proofs.Common.{◌≡◌, ◌+◌, ◌<◌, ◌∙◌, ◌⊎◌,
 use Rattle.rules_reader.specs.declared.limits.TheConstants.{MAX_FILE_BYTES}
 use Rattle.rtdb.specs.Command.{IsChecked}
 use Rattle.rtdb.specs.Working.{IsTooLong}
-use Rattle.sessions.proofs.Sending.{Appends-refl}
+use Rattle.scripts.proofs.Sending.{Appends-refl}
 use Rattle.rtdb.proofs.Prefixes.{has_checked}
 use Rattle.rtdb.proofs.command.check.Goals as goal
 

@@ -1,5 +1,0 @@
-use Rattle.sessions.proofs.Running.{as_run}
-use Rattle.sessions.proofs.script_laws.lines_are_answered_by_a_run.Goals as goal
-
-pub returns : goal.returns
-returns c = as_run
