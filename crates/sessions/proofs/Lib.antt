@@ -1,0 +1,3 @@
+pub mod Gaining
+pub mod Going
+pub mod Turning

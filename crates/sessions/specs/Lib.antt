@@ -1,0 +1,6 @@
+pub mod Traffic
+pub mod Peers
+pub mod Calls
+pub mod Turns
+pub mod Serving
+pub mod Working

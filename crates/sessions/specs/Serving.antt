@@ -1,0 +1,65 @@
+-- A session from its opening to its end. (This project's profile.)
+use Rattle.std.specs.Prelude.{◌≡◌, ◌≢◌, ℕ, ◌<◌, true, ◌⊎◌, List, [], ◌∷◌, ◌++◌, All, length, Option, None, Some}
+use Rattle.tokens.specs.Tokens.{Tokens}
+use Rattle.rtdb_model.specs.declared.event.Event.TheVariants.{Open, Close}
+use Rattle.rtdb_model.specs.declared.reply.Reply.{Reply}
+use Rattle.rtdb_model.specs.declared.reply.Reply.TheVariants.{Done}
+use Rattle.answers.specs.AnswerText.{text}
+use Rattle.locked_server.specs.Known.{Known}
+use Rattle.sessions.specs.Traffic.{Traffic, Adds, Takes, IsOpen}
+use Rattle.sessions.specs.Calls.{Gains}
+use Rattle.sessions.specs.Turns.{Deeds, both, calling, Turn, IsWhole, IsCut, got_in, deeds_in}
+use Rattle.sessions.specs.declared.serve.SessionEnd.{SessionEnd}
+use Rattle.sessions.specs.declared.serve.SessionEnd.TheVariants.{PeerClosed, PeerFault, Turns, NoMemory, NotOpened}
+
+-- what a session has to do with: what its seat knows, the moments that its clock has given, where it reports them, and what went between the server and its peer
+pub record World : Type 0 where
+  pub seat : Known
+  pub moments : Option (List ℕ)
+  pub traffic : Traffic
+
+abbrev pub world : Known → Option (List ℕ) → Traffic → World
+world seat moments traffic = record { seat = seat; moments = moments; traffic = traffic }
+
+-- these messages were received and this was done, and nothing else
+pub record Goes (before : World) (messages : List (List ℕ)) (deeds : Deeds) (after : World) : Type 0 where
+  pub reads : Adds before.moments deeds.moments after.moments
+  pub gains : Gains before.seat deeds.calls after.seat
+  pub takes : Takes before.traffic.left messages after.traffic.left
+  pub sends : Adds before.traffic.sent deeds.texts after.traffic.sent
+
+-- the peer has closed or failed, where the session is said to end so
+abbrev pub Fits : SessionEnd → Traffic → Type 0
+Fits PeerClosed q = q.closed ≡ true
+Fits PeerFault q = q.failed ≡ true
+Fits Turns q = ⊥
+Fits NoMemory q = Unit {0}
+Fits NotOpened q = ⊥
+
+-- all turns were whole, as many as there may be; or the last one was cut short, one of no more than there may be
+abbrev pub EndsAs : Tokens → ℕ → ℕ → List Turn → Traffic → SessionEnd → Type 0
+EndsAs tokens session most turns q end =
+    (All (IsWhole tokens session) turns × (length turns ≡ most) × (end ≡ Turns))
+    ⊎ ((earlier : List Turn) × (last : Turn) × (turns ≡ earlier ++ last ∷ []) × All (IsWhole tokens session) earlier × IsCut tokens session last
+    × (length earlier < most) × Fits end q)
+
+-- the session was not opened: its opening was refused, or it could not be asked; at most the text of that was sent
+abbrev pub IsTurnedAway : ℕ → World → SessionEnd → World → Type 0
+IsTurnedAway session before end after =
+    (now : ℕ) × (reply : Reply) × (texts : List (List ℕ)) × (reply ≢ Done) × ((texts ≡ []) ⊎ (texts ≡ text reply ∷ []))
+    × Goes before [] (record (calling now session Open reply) { texts = texts }) after × (end ≡ NotOpened)
+
+-- the session was opened, had its turns, and was closed
+abbrev pub IsAttended : Tokens → ℕ → ℕ → World → SessionEnd → World → Type 0
+IsAttended tokens session most before end after =
+    (now then : ℕ) × (turns : List Turn) × (reply : Reply)
+    × Goes before (got_in turns) (both (calling now session Open Done) (both (deeds_in turns) (calling then session Close reply))) after
+    × EndsAs tokens session most turns after.traffic end
+
+-- the session was turned away, or attended
+abbrev pub Visits : Tokens → ℕ → ℕ → World → SessionEnd → World → Type 0
+Visits tokens session most before end after = IsTurnedAway session before end after ⊎ IsAttended tokens session most before end after
+
+-- A session was served, with these tokens and at most so many turns: it was turned away or attended, and then the server has finished with its peer.
+abbrev pub Serves : Tokens → ℕ → ℕ → World → SessionEnd → World → Type 0
+Serves tokens session most before end after = Visits tokens session most before end after × (after.traffic.finished ≡ true)

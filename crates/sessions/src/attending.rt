@@ -1,0 +1,130 @@
+//! One message of a client, and its answer.
+ghost use Rattle.std.specs.Prelude.{◌≡◌, ◌≤◌, ℕ, List, [], IfOk, OnOk};
+ghost use Rattle.sessions.specs.Calls.{Answered, Gains, entered};
+ghost use Rattle.sessions.specs.Turns.{IsAnswered};
+
+use answers::AnswerWriter;
+use bumpalo::Bump;
+use json_tree::NoMemory;
+use locked_server::{Hall, Seat};
+use requests::{Asked, Form, MessageReader, Stamp};
+use rtdb_core::{Event, MAX_MOMENT, Reply};
+use std::alloc::Global;
+use std::sync::Wait;
+use tokens::Tokens;
+
+/// Where a session is served: the hall, the secrets by which clients sign in, and the number of the session.
+#[derive(Clone, Copy)]
+pub(crate) struct Place<'a, R> {
+    pub(crate) rt: &'a R,
+    pub(crate) hall: &'a Hall,
+    pub(crate) tokens: &'a Tokens,
+    pub(crate) session: u64,
+}
+
+/// What messages are read with and answers are written with. It keeps its memory from message to message.
+#[derive(Drop)]
+pub(crate) struct Desk {
+    pub(crate) reader: MessageReader,
+    pub(crate) out: AnswerWriter,
+    // How many messages were read.
+    pub(crate) messages: u64,
+}
+
+impl Desk {
+    /// A desk on which nothing is written. It takes no memory.
+    pub(crate) fn new(alloc: Global) -> Desk
+        ensures before { result.out.before ≡ [] }
+        ensures text { result.out.text ≡ [] }
+    {
+        Desk {
+            reader: MessageReader::new(alloc),
+            out: AnswerWriter::new(alloc),
+            messages: 0,
+        }
+    }
+}
+
+/// Lets the hall answer an event of the session.
+pub(crate) fn ask<R: Wait>(
+    place: &Place<'_, R>,
+    seat: &mut Seat,
+    arena: &mut Bump,
+    now: u64,
+    event: Event,
+) -> Reply
+    requires hall { seat.old.hall ≡ place.now.hall.now }
+    requires moment { now ≤ MAX_MOMENT }
+    ensures hall { seat.new.hall ≡ place.now.hall.now }
+    ensures gains { Gains seat.old (entered now place.now.session event result) seat.new }
+{
+    place
+        .hall
+        .call(place.rt, seat, arena, now, place.session, event)
+}
+
+/// Answers a message: the text of the answer is then written on the desk. The message is read, and a rules file in it
+/// compiled, before the hall is asked; the text is written once the hall has answered. An error is want of memory for
+/// the text, and the call may have been made.
+pub(crate) fn attend<R: Wait>(
+    place: &Place<'_, R>,
+    seat: &mut Seat,
+    arena: &mut Bump,
+    desk: &mut Desk,
+    now: u64,
+    message: &[u8],
+) -> Result<(), NoMemory>
+    requires hall { seat.old.hall ≡ place.now.hall.now }
+    requires moment { now ≤ MAX_MOMENT }
+    requires none { desk.old.out.text ≡ [] }
+    ensures hall { seat.new.hall ≡ place.now.hall.now }
+    ensures before { desk.new.out.before ≡ desk.old.out.before }
+    ensures answered { (said : List ℕ) × (made : List Answered) × Gains seat.old made seat.new × IsAnswered place.now.tokens.now now place.now.session message.now said made × OnOk result (desk.new.out.text ≡ said) }
+{
+    let stamp = Stamp {
+        now,
+        session: place.session,
+    };
+    match desk
+        .reader
+        .read_asked(place.tokens, message, Form::Socket(stamp))
+    {
+        Ok(asked) => {
+            let Asked { stamp: _, event } = asked;
+            let reply = ask(place, seat, arena, now, event);
+            desk.out.put_reply(&reply)
+        }
+        Err(fault) => desk.out.put_line_fault(&fault),
+    }
+}
+
+/// Answers one message of a client, at a moment in milliseconds since 1970. The message is what a line of a script is,
+/// but for `now` and `s`, which it has not, and `open`, `close` and `tick`, which it can't ask. It costs what reading
+/// it, one call of the hall, and writing the answer do; the latter two are apart, so that no other client waits for
+/// this one's text. An error is want of memory for the text, and the call may have been made.
+pub fn answer<R: Wait>(
+    rt: &R,
+    alloc: Global,
+    hall: &Hall,
+    seat: &mut Seat,
+    arena: &mut Bump,
+    tokens: &Tokens,
+    session: u64,
+    now: u64,
+    message: &[u8],
+) -> Result<Vec<u8>, NoMemory>
+    requires hall { seat.old.hall ≡ hall.now }
+    requires moment { now ≤ MAX_MOMENT }
+    ensures hall { seat.new.hall ≡ hall.now }
+    ensures answered { (said : List ℕ) × (made : List Answered) × Gains seat.old made seat.new × IsAnswered tokens.now now session message.now said made × IfOk result (λ bytes. bytes.items ≡ said) }
+{
+    let place = Place {
+        rt,
+        hall,
+        tokens,
+        session,
+    };
+    let mut desk = Desk::new(alloc);
+    attend(&place, seat, arena, &mut desk, now, message)?;
+    Ok(desk.out.end())
+}
