@@ -1,0 +1,124 @@
+//! The rounds of one worker: clients, one after another.
+ghost use Rattle.std.specs.Prelude.{◌≡◌};
+
+use crate::moments::SystemMoments;
+use bumpalo::Bump;
+use locked_server::{Hall, Seat};
+use sessions::{Gate, SocketPeer, serve_session};
+use std::alloc::Global;
+use std::io;
+use std::net::{TcpListener, TcpStream};
+use std::sync::Wait;
+use std::time::{self, Duration};
+use tokens::Tokens;
+use tungstenite::{NoMask, WebSocket, WebSocketConfig, accept};
+
+// How long a client may say nothing in its handshake, in milliseconds.
+const HANDSHAKE_MS: u64 = 5_000;
+
+// How long a worker waits for a message before it looks for news, in milliseconds.
+const MESSAGE_MS: u64 = 20;
+
+// How long a client may read nothing of what is sent to it, in milliseconds.
+const WRITE_MS: u64 = 5_000;
+
+// How long a message may be that a socket takes in, in bytes: twice as long as a request may be, so that one which is too
+// long for a request is answered, and one which would hold much memory ends its connection.
+const MOST_RECEIVED: usize = 2 << 20;
+
+// How many bytes a socket asks the system for at a time.
+const READ_AT_ONCE: usize = 16 << 10;
+
+// How many turns a session has: more than there is time for.
+const TURNS: u64 = 1_000_000_000;
+
+/// What all workers share, and how many rounds each of them has.
+#[derive(Clone, Copy)]
+pub(crate) struct Place<'a, R, G> {
+    pub(crate) rt: &'a R,
+    pub(crate) alloc: Global,
+    pub(crate) listener: &'a TcpListener,
+    pub(crate) hall: &'a Hall,
+    pub(crate) tokens: &'a Tokens,
+    pub(crate) gate: &'a G,
+    pub(crate) rounds: u64,
+}
+
+/// What one worker has for itself: the number of its sessions, and its seat.
+#[derive(Drop)]
+pub(crate) struct Job {
+    pub(crate) session: u64,
+    pub(crate) seat: Seat,
+}
+
+/// Serves the rounds of one worker, and gives its seat back. A connection that is not accepted, or whose handshake
+/// fails, is a round too.
+pub(crate) fn work<R: Wait + time::Clock, G: Gate>(place: &Place<'_, R, G>, job: Job) -> Seat
+    requires { job.seat.hall ≡ place.now.hall.now }
+    ensures { result.hall ≡ place.now.hall.now }
+{
+    let Job { session, mut seat } = job;
+    let mut arena = Bump::new(place.alloc);
+    for _ in 0..place.rounds {
+        if let Some(socket) = next_client(place.alloc, place.listener) {
+            serve_client(place, &mut seat, &mut arena, session, socket);
+        }
+    }
+    seat
+}
+
+// Serves the session of one client. However it ends, the next client comes.
+fn serve_client<R: Wait + time::Clock, G: Gate>(
+    place: &Place<'_, R, G>,
+    seat: &mut Seat,
+    arena: &mut Bump,
+    session: u64,
+    socket: WebSocket<TcpStream, NoMask>,
+)
+    requires { seat.old.hall ≡ place.now.hall.now }
+    ensures { seat.new.hall ≡ place.now.hall.now }
+{
+    let mut clock = SystemMoments::new(place.rt);
+    let mut peer = SocketPeer::new(place.alloc, socket);
+    let _end = serve_session(
+        place.rt,
+        place.alloc,
+        place.hall,
+        seat,
+        arena,
+        place.tokens,
+        session,
+        place.gate,
+        &mut clock,
+        &mut peer,
+        TURNS,
+    );
+}
+
+// The next client, once its handshake is done; none where it was not accepted or its handshake failed.
+fn next_client(alloc: Global, listener: &TcpListener) -> Option<WebSocket<TcpStream, NoMask>> {
+    let (stream, _) = listener.accept().ok()?;
+    set_limits(&stream).ok()?;
+    let mut socket = accept(alloc, stream).ok()?;
+    socket.set_config(limits());
+    socket
+        .get_ref()
+        .set_read_timeout(Some(Duration::from_millis(MESSAGE_MS)))
+        .ok()?;
+    Some(socket)
+}
+
+// What a socket takes in.
+fn limits() -> WebSocketConfig {
+    WebSocketConfig::default()
+        .max_message_size(Some(MOST_RECEIVED))
+        .max_frame_size(Some(MOST_RECEIVED))
+        .read_buffer_size(READ_AT_ONCE)
+}
+
+// Sets the limits of the handshake, and that answers and pushes go out at once.
+fn set_limits(stream: &TcpStream) -> io::Result<()> {
+    stream.set_nodelay(true)?;
+    stream.set_read_timeout(Some(Duration::from_millis(HANDSHAKE_MS)))?;
+    stream.set_write_timeout(Some(Duration::from_millis(WRITE_MS)))
+}
