@@ -1,250 +1,153 @@
--- The file that a check wants is one of the words.
-use Rattle.std.proofs.Common.{arith, ◌≡◌, ℕ, zero, suc, Bool, true, false, cond, not, ◌&&◌, ◌||◌, List, [], ◌∷◌, ◌++◌, Option, Some, None, inl, inr, refl, sym, subst, codes, unwrap_or}
-use Rattle.std.specs.Prelude.{Contains, ◌⊎◌, ⊤, ◌==◌, find, fold, drop, slice_get, length, encode_utf8, option_map, option_and_then}
+-- What the program's commands find, where no fault is in the words.
+use Rattle.std.proofs.Common.{arith, ◌≡◌, ◌∙◌, ◌≤◌, ap, ℕ, Bool, true, false, cond, not, ◌||◌, List, [], ◌∷◌, Option, Some, None, inl, inr, refl, sym, subst, codes, true≢false}
+use Rattle.std.specs.Prelude.{Contains, ⊤, fold, drop, option_map, option_and_then, IsSome, IsSomeAnd, IfSome, unwrap_or}
+use Rattle.std.specs.Bool.{OnTrue}
 use Rattle.std.specs.Option.{option_map_or}
-use Rattle.std.specs.Str.{bytes_eq, chars}
-use Rattle.clap.specs.Lexer.{long_of, short_of}
-use Rattle.clap.specs.Facts.{explicit_source}
-use Rattle.clap.specs.Kinds.{Kinds, or_else, check_kinds}
-use Rattle.clap.specs.Walk.{Text, Row, Rule, Held, Walk, Waiting, Outcome, Step, Names, at_row, more_values, without, used, used_by_id, settled, settled_rows, reacted, reading_by, is_pending, pushed, started, done, waits, plain, refused, idle, option, positional, next, trailing, subcommand, value, flag_met, long_met, short_met, arg_by_long, arg_by_index, bundle_step, bundle_met, plain_word, after_flag, long_or_other, short_or_plain, subcommand_or_other, word_met, to_positional, after_step, walked_from, walked, walk_from, nothing_held, rows_after, answers_to, walk, with_default, has_row, first_of, stop_after}
-use Rattle.clap.specs.Simple.{Shape, built, built_leaf, inherited, with_rule, new_app, help_shape, entered, rows_at, label_of, names_of, filled, with_index, help_rule, subcommand_of}
+use Rattle.std.specs.Str.{bytes_eq}
+use Rattle.clap.specs.Kinds.{check_kinds}
+use Rattle.clap.specs.Walk.{Text, Row, Rule, Held, Walk, Step, Names, next, trailing, subcommand, value, word_met, to_positional, after_step, walked_from, walked, walk_from, nothing_held, rows_after, arg_by_id, arg_by_index, answers_to, first_of, one_of, stop_after}
+use Rattle.clap.specs.Simple.{Shape, built, built_leaf, inherited, filled, with_index, help_rule, help_shape, entered, rows_at, label_of, names_of, subcommand_of}
 use Rattle.clap.specs.Takes.{is_given}
-use Rattle.clap.specs.Faults.{fault_of, built_fault, entered_fault, level_fault, walk_fault, settle_fault, defaults_fault}
+use Rattle.clap.specs.Faults.{fault_of, built_fault, entered_fault, level_fault, walk_fault, defaults_fault}
 use Rattle.clap.specs.declared.error.kind.ErrorKind.TheVariants.{MissingRequiredArgument}
-use Rattle.clap.specs.declared.parser.matches.ValueSource.TheVariants.{CommandLine}
-use Rattle.rtdb.specs.Order.{file, the_program, Wanted, checks, runs, wanted, AreOrder}
+use Rattle.clap.specs.declared.builder.value_parser.ValueParser.{ValueParser}
+use Rattle.clap.specs.declared.builder.value_parser.ValueParser.TheVariants.{Unsigned}
+use Rattle.clap.proofs.ValueTestLemmas.{accepts-Accepts}
+use Rattle.rtdb.specs.declared.wanted.TheConstants.{MAX_PORT, MAX_WORKERS, MAX_ROUNDS, USUAL_WORKERS, USUAL_ROUNDS}
+use Rattle.rtdb.specs.Order.{file, option, check_app, run_app, serve_app, the_program, Wanted, Served, checks, runs, serves, wanted, served, number_of, number_at, AreOrder, IsGiven, IsNumberIn}
+use Rattle.rtdb.specs.Working.{AreOptions, IsReady}
+use Rattle.rtdb.proofs.Reading.{bounds_or}
+use Rattle.rtdb.proofs.Walked.{In, Each, each_append, each_in, contained, or_else_first, or_else_last, same_bytes, IsSingle, IsSaid, IsValue, IsAnswer, once_set, never_help, rows_known, checked_last, answer_at, value_at}
 
--- ---- words
+-- ---- the rules of the commands
 
-abbrev In : List Text → Text → Type 0
-In [] x = ⊥
-In (w ∷ ws) x = (w ≡ x) ⊎ In ws x
+abbrev check_shape : Shape
+check_shape = built_leaf (inherited the_program.top check_app.top)
 
-abbrev Each : {X : Type 0} → (X → Type 0) → List X → Type 0
-Each P [] = ⊤
-Each P (x ∷ xs) = P x × Each P xs
+abbrev run_shape : Shape
+run_shape = built_leaf (inherited the_program.top run_app.top)
 
-each_append : {X : Type 0} (P : X → Type 0) (xs ys : List X) → Each P xs → Each P ys → Each P (xs ++ ys)
-each_append P [] ys a b = b
-each_append P (x ∷ xs) ys a b = (a.0, each_append P xs ys a.1 b)
+abbrev serve_shape : Shape
+serve_shape = built_leaf (inherited the_program.top serve_app.top)
 
-each_in : (W ws : List Text) → ((x : Text) → In ws x → In W x) → Each (In W) ws
-each_in W [] up = tt
-each_in W (w ∷ ws) up = (up w (inl refl), each_in W ws (λ x i. up x (inr i)))
-
--- the first of these is one of the words
-abbrev FirstIn : List Text → List Text → Type 0
-FirstIn W [] = ⊥
-FirstIn W (v ∷ vs) = In W v
-
-first_append : (W vs us : List Text) → FirstIn W vs → FirstIn W (vs ++ us)
-first_append W [] us f = absurd f
-first_append W (v ∷ vs) us f = f
-
--- ---- the arguments of `check`
+abbrev help_command : Shape
+help_command = built_leaf help_shape
 
 abbrev the_file : Rule
 the_file = with_index 1 (filled file)
 
 abbrev the_help : Rule
-the_help = with_index 2 (filled help_rule)
+the_help = with_index 1 (filled help_rule)
 
-abbrev rules : List Rule
-rules = the_file ∷ the_help ∷ []
+abbrev the_option : Text → Option ValueParser → Bool → Rule
+the_option name parser needed = with_index 1 (filled (record (option name) { parser = parser; required = needed }))
 
--- ---- what is held on the way
+or_false : (b : Bool) → (b || false) ≡ true → b ≡ true
+or_false true h = refl
+or_false false h = h
 
-abbrev RowOf : List Text → Row → Type 0
-RowOf W r = FirstIn W r.values
+file_single : (c : List Rule) → arg_by_id c (codes "FILE") ≡ Some the_file → IsSingle c the_file
+file_single c own = record {
+  own = own;
+  once = once_set the_file refl refl;
+  quiet = λ x h. absurd (true≢false (sym h));
+  named = λ name h. absurd (true≢false (sym h));
+  bare = refl;
+}
 
-abbrev PendingOf : List Text → Option (Text × List Text) → Type 0
-PendingOf W None = ⊤
-PendingOf W (Some p) = FirstIn W p.1
+help_single : (c : List Rule) → arg_by_id c (codes "help") ≡ Some the_help → IsSingle c the_help
+help_single c own = record {
+  own = own;
+  once = never_help the_help refl;
+  quiet = λ x h. refl;
+  named = λ name h. ap (λ t. Some t) (same_bytes (codes "help") name (or_false (bytes_eq (codes "help") name) h));
+  bare = refl;
+}
 
-abbrev HeldOf : List Text → Held → Type 0
-HeldOf W h = Each (RowOf W) h.rows × PendingOf W h.pending
+option_single : (c : List Rule) (name : Text) (parser : Option ValueParser) (needed : Bool) → arg_by_id c name ≡ Some (the_option name parser needed) → IsSingle c (the_option name parser needed)
+option_single c name parser needed own = record {
+  own = own;
+  once = once_set (the_option name parser needed) refl refl;
+  quiet = λ x h. absurd (true≢false (sym h));
+  named = λ given h. ap (λ t. Some t) (same_bytes name given (or_false (bytes_eq name given) h));
+  bare = refl;
+}
 
-at_row_each : (P : Row → Type 0) (id : Text) (change : Row → List Row) (missing rows : List Row) → ((r : Row) → P r → Each P (change r)) → Each P missing → Each P rows → Each P (at_row id change missing rows)
-at_row_each P id change missing [] keeps m rs = m
-at_row_each P id change missing (r ∷ rows) keeps m rs = at_first (bytes_eq r.id id) (at_row_each P id change missing rows keeps m rs.1)
-  where
-    at_first : (b : Bool) → Each P (at_row id change missing rows) → Each P (cond b (change r ++ rows) (r ∷ at_row id change missing rows))
-    at_first true rest = each_append P (change r) rows (keeps r rs.0) rs.1
-    at_first false rest = (rs.0, rest)
+check_singles : Each (IsSingle check_shape.rules) check_shape.rules
+check_singles = (file_single check_shape.rules refl, (help_single check_shape.rules refl, tt))
 
-used_file : (W values : List Text) (rows : List Row) → FirstIn W values → Each (RowOf W) rows → Each (RowOf W) (used the_file values rows)
-used_file W [] rows f rs = absurd f
-used_file W (v ∷ vs) rows f rs =
-    let new : Row = record { id = the_file.id; values = v ∷ vs; count = None; source = Some CommandLine; reading = reading_by the_file } in
-    at_row_each (RowOf W) the_file.id (more_values CommandLine (v ∷ vs)) (new ∷ []) (without the_file.id rows) (λ r p. (first_append W r.values (v ∷ vs) p, tt)) (f, tt)
-    (at_row_each (RowOf W) the_file.id (λ (r : Row). []) [] rows (λ r p. tt) tt rs)
+abbrev the_rules : Rule
+the_rules = the_option (codes "rules") None true
 
-settled_each : (W : List Text) (p : Option (Text × List Text)) (rows : List Row) → PendingOf W p → Each (RowOf W) rows → Each (RowOf W) (settled_rows rules p rows)
-settled_each W None rows f rs = rs
-settled_each W (Some p) rows f rs = by_id (bytes_eq the_file.id p.0) (bytes_eq the_help.id p.0)
-  where
-    by_id : (a b : Bool) → Each (RowOf W) (used_by_id (cond a (Some the_file) (cond b (Some the_help) None)) p.1 rows)
-    by_id true b = used_file W p.1 rows f rs
-    by_id false true = rs
-    by_id false false = rs
+abbrev the_port : Rule
+the_port = the_option (codes "port") (Some (Unsigned 1 MAX_PORT)) true
 
-settled_of : (W : List Text) (h : Held) → HeldOf W h → HeldOf W (settled rules h)
-settled_of W h held = (settled_each W h.pending h.rows held.1 held.0, tt)
+abbrev the_workers : Rule
+the_workers = the_option (codes "workers") (Some (Unsigned 1 MAX_WORKERS)) false
 
-help_met : (W : List Text) (h : Held) → HeldOf W h → HeldOf W (reacted rules the_help [] h)
-help_met W h held = (settled_each W h.pending h.rows held.1 held.0, tt)
+abbrev the_rounds : Rule
+the_rounds = the_option (codes "rounds") (Some (Unsigned 1 MAX_ROUNDS)) false
 
--- ---- one word
+serve_singles : Each (IsSingle serve_shape.rules) serve_shape.rules
+serve_singles =
+    let c = serve_shape.rules in (
+      option_single c (codes "rules") None true refl,
+      (
+        option_single c (codes "data") None false refl,
+        (
+          option_single c (codes "tokens") None false refl,
+          (
+            option_single c (codes "port") (Some (Unsigned 1 MAX_PORT)) true refl,
+            (
+              option_single c (codes "workers") (Some (Unsigned 1 MAX_WORKERS)) false refl,
+              (option_single c (codes "rounds") (Some (Unsigned 1 MAX_ROUNDS)) false refl, (help_single c refl, tt)),
+            ),
+          ),
+        ),
+      ),
+    )
 
-abbrev NoWait : Outcome → Type 0
-NoWait done = ⊤
-NoWait (waits id) = ⊥
-NoWait plain = ⊤
-NoWait refused = ⊤
+-- ---- what the commands find
 
-abbrev NoOption : Waiting → Type 0
-NoOption idle = ⊤
-NoOption (option id) = ⊥
-NoOption positional = ⊤
+-- what is known of the rows of `serve`
+record AreKnown (W : List Text) (rows : List Row) : Type 0 where
+  rules : IsValue W the_rules (first_of (codes "rules") rows) (one_of (codes "rules") rows)
+  port : IsValue W the_port (first_of (codes "port") rows) (one_of (codes "port") rows)
+  workers : IsAnswer W the_workers (first_of (codes "workers") rows) (one_of (codes "workers") rows)
+  rounds : IsAnswer W the_rounds (first_of (codes "rounds") rows) (one_of (codes "rounds") rows)
 
-abbrev StepOf : Step → Type 0
-StepOf (next w) = NoOption w
-StepOf (trailing p) = ⊤
-StepOf (subcommand n) = ⊤
-StepOf value = ⊤
+-- what is known of what was found
+abbrev IsKnown : List Text → Option (Text × List Row) → Type 0
+IsKnown W None = ⊤
+IsKnown W (Some f) =
+    OnTrue (bytes_eq f.0 (codes "check")) (IsValue W the_file (first_of (codes "FILE") f.1) (one_of (codes "FILE") f.1))
+    × OnTrue (bytes_eq f.0 (codes "serve")) (AreKnown W f.1)
 
-abbrev Met : List Text → Held × Outcome → Type 0
-Met W r = HeldOf W r.0 × NoWait r.1
+given : (g : Bool) → check_kinds false false (not g || false) ≡ [] → g ≡ true
+given true h = refl
+given false h = absurd cc
 
-abbrev Stepped : List Text → Held × Step → Type 0
-Stepped W r = HeldOf W r.0 × StepOf r.1
+both_given : (g k : Bool) → check_kinds false false (not g || (not k || false)) ≡ [] → (g ≡ true) × (k ≡ true)
+both_given true k h = (refl, given k h)
+both_given false k h = absurd cc
 
-long_of_rules : (W : List Text) (name : Text) (v : Option Text) (h : Held) → HeldOf W h → Met W (long_met rules (arg_by_long rules name) v h)
-long_of_rules W name v h held = found (bytes_eq (codes "help") name || false)
-  where
-    flag : (v : Option Text) → Met W (flag_met rules the_help v h)
-    flag None = (help_met W h held, tt)
-    flag (Some x) = (held, tt)
+file_known : (W ws : List Text) → Each (In W) ws → level_fault check_shape [] nothing_held ws false [] ≡ [] → IsValue W the_file (first_of (codes "FILE") (rows_after check_shape.rules [] ws)) (one_of (codes "FILE") (rows_after check_shape.rules [] ws))
+file_known W ws each fault =
+    let rows = rows_after check_shape.rules [] ws in
+    let is = given (is_given (codes "FILE") rows) (checked_last check_shape ws fault) in
+    value_at check_shape.rules W the_file (codes "FILE") rows refl (rows_known check_shape W ws check_singles each fault) is
 
-    found : (b : Bool) → Met W (long_met rules (cond b (Some the_help) None) v h)
-    found true = flag v
-    found false = (held, tt)
-
--- one character of a bundle, where the others leave what is held so
-step_of_rules : (W : List Text) (h : Held) → HeldOf W h → (after : Text → ℕ → Outcome → Held → Held × Outcome) → ((rest : Text) (s : ℕ) (o : Outcome) (now : Held) → HeldOf W now → NoWait o → Met W (after rest s o now)) → (flags : Text) (so_far : Outcome) → NoWait so_far → (x : Option ℕ) (skip : ℕ) → Met W (bundle_step rules x flags skip so_far h after)
-step_of_rules W h held after rests flags so_far n None skip = (held, n)
-step_of_rules W h held after rests flags so_far n (Some x) zero = short (104 == x || false) (drop (length (encode_utf8 x)) flags)
-  where
-    short : (b : Bool) (rest : Text) → Met W (short_met rules (cond b (Some the_help) None) rest h (after rest 0 done))
-    short true rest = rests rest 0 done (reacted rules the_help [] h) (help_met W h held) tt
-    short false rest = (held, tt)
-step_of_rules W h held after rests flags so_far n (Some x) (suc s) = rests (drop (length (encode_utf8 x)) flags) s so_far h held n
-
-bundle_of_rules : (W : List Text) (k : ℕ) (flags : Text) (skip : ℕ) (so_far : Outcome) (h : Held) → HeldOf W h → NoWait so_far → Met W (bundle_met rules k flags skip so_far h)
-unfolding bundle_met
-bundle_of_rules W zero flags skip so_far h held n = (held, n)
-bundle_of_rules W (suc k) flags skip so_far h held n =
-    step_of_rules W h held (bundle_met rules k) (λ rest s o now of_now w. bundle_of_rules W k rest s o now of_now w) flags so_far n (slice_get (chars flags) 0) skip
-
-plain_of_rules : (W : List Text) (waiting : Waiting) (word : Text) (h : Held) → NoOption waiting → HeldOf W h → Stepped W (plain_word rules waiting word h)
-plain_of_rules W idle word h n held = (held, tt)
-plain_of_rules W (option id) word h n held = absurd n
-plain_of_rules W positional word h n held = (held, tt)
-
-after_of_rules : (W : List Text) (waiting : Waiting) (word : Text) (h : Held) (o : Outcome) → NoOption waiting → HeldOf W h → NoWait o → Stepped W (after_flag rules waiting word h o)
-after_of_rules W waiting word h done n held w = (held, tt)
-after_of_rules W waiting word h (waits id) n held w = absurd w
-after_of_rules W waiting word h plain n held w = plain_of_rules W waiting word h n held
-after_of_rules W waiting word h refused n held w = plain_of_rules W waiting word h n held
-
-other_of_rules : (W : List Text) (waiting : Waiting) (position : ℕ) (word : Text) (h : Held) → NoOption waiting → HeldOf W h → Stepped W (subcommand_or_other rules None waiting position word h)
-other_of_rules W waiting position word h n held = dashes (bytes_eq word (45 ∷ 45 ∷ []))
-  where
-    short : (f : Option Text) → Stepped W (short_or_plain rules waiting word f h)
-    short None = plain_of_rules W waiting word h n held
-    short (Some flags) =
-        let met = bundle_of_rules W (length flags) flags h.skip plain (record h { skip = 0 }) held tt in
-        after_of_rules W waiting word _ _ n met.0 met.1
-
-    long : (p : Option (Text × Option Text)) → Stepped W (long_or_other rules waiting word p h)
-    long None = short (short_of word)
-    long (Some p) =
-        let met = long_of_rules W p.0 p.1 h held in
-        after_of_rules W waiting word _ _ n met.0 met.1
-
-    dashes : (b : Bool) → Stepped W (cond b (h, trailing position) (long_or_other rules waiting word (long_of word) h))
-    dashes true = (held, tt)
-    dashes false = long (long_of word)
-
-word_of_rules : (W : List Text) (is_trailing : Bool) (waiting : Waiting) (position : ℕ) (word : Text) (h : Held) → NoOption waiting → HeldOf W h → Stepped W (word_met rules [] is_trailing waiting position word h)
-word_of_rules W true waiting position word h n held = (held, tt)
-word_of_rules W false idle position word h n held = other_of_rules W idle position word h n held
-word_of_rules W false (option id) position word h n held = absurd n
-word_of_rules W false positional position word h n held = other_of_rules W positional position word h n held
-
--- ---- the walk over the words behind `check`
-
-abbrev WalkOf : List Text → Walk → Type 0
-WalkOf W w = HeldOf W w.held × NoOption w.waiting
-
-pushed_of : (W : List Text) (id word : Text) (h : Held) → In W word → HeldOf W h → HeldOf W (pushed id word h)
-pushed_of W id word h i held = (held.0, onto h.pending held.1)
-  where
-    onto : (p : Option (Text × List Text)) → PendingOf W p → FirstIn W ((started id p).1 ++ word ∷ [])
-    onto None f = i
-    onto (Some p) f = first_append W p.1 (word ∷ []) f
-
-positional_of : (W : List Text) (b : Bool) (word : Text) (w : Walk) (h : Held) → In W word → NoOption w.waiting → HeldOf W h → WalkOf W (to_positional rules (cond b (Some the_file) None) word w h)
-positional_of W false word w h i n held = (held, n)
-positional_of W true word w h i n held = (pushed_of W the_file.id word (cond (is_pending the_file h.pending && false) h (settled rules h)) i (which (is_pending the_file h.pending)), tt)
-  where
-    which : (b : Bool) → HeldOf W (cond (b && false) h (settled rules h))
-    which true = settled_of W h held
-    which false = settled_of W h held
-
-after_step_of : (W : List Text) (word : Text) (w : Walk) (h : Held) (s : Step) → In W word → NoOption w.waiting → HeldOf W h → StepOf s → WalkOf W (after_step rules word w h s)
-after_step_of W word w h (next waiting) i n held s = (held, s)
-after_step_of W word w h (trailing p) i n held s = (held, n)
-after_step_of W word w h (subcommand name) i n held s = (held, n)
-after_step_of W word w h value i n held s = positional_of W _ word w h i n held
-
-walked_of : (W : List Text) (w : Walk) (word : Text) → In W word → WalkOf W w → WalkOf W (walked rules [] w word)
-unfolding walked
-walked_of W w word i of_w = from w.stopped
-  where
-    from : (stopped : Option (Text × List Text)) → WalkOf W (walked_from rules [] stopped w word)
-    from (Some p) = of_w
-    from None =
-        let met = word_of_rules W w.is_trailing w.waiting w.position word w.held of_w.1 of_w.0 in
-        after_step_of W word w _ _ i of_w.1 met.0 met.1
-
-walk_of : (W ws : List Text) (w : Walk) → Each (In W) ws → WalkOf W w → WalkOf W (fold (walked rules []) w ws)
-walk_of W [] w each of_w = of_w
-walk_of W (word ∷ ws) w each of_w = walk_of W ws (walked rules [] w word) each.1 (walked_of W w word each.0 of_w)
-
-rows_of_walk : (W ws : List Text) → Each (In W) ws → Each (RowOf W) (rows_after rules [] ws)
-rows_of_walk W ws each =
-    let end = fold (walked rules []) (walk_from nothing_held) ws in
-    let rows = (settled rules end.held).rows in
-    let of_end = walk_of W ws (walk_from nothing_held) each ((tt, tt), tt) in
-    let of_rows = (settled_of W end.held of_end.0).0 in
-    default_each (has_row the_help.id (with_default rows the_file)) (with_default rows the_file) (default_each (has_row the_file.id rows) rows of_rows)
-  where
-    default_each : (b : Bool) (rows : List Row) → Each (RowOf W) rows → Each (RowOf W) (cond b rows rows)
-    default_each true rows rs = rs
-    default_each false rows rs = rs
-
-first_given : (W : List Text) (id : Text) (rows : List Row) → Each (RowOf W) rows → is_given id rows ≡ true → In W (unwrap_or (first_of id rows) [])
-first_given W id [] rs g = absurd cc
-first_given W id (r ∷ rows) rs g = at (bytes_eq r.id id) (first_given W id rows rs.1) g
-  where
-    first : (vs : List Text) → FirstIn W vs → In W (unwrap_or (slice_get vs 0) [])
-    first [] f = absurd f
-    first (v ∷ vs) f = f
-
-    at : (b : Bool) → (is_given id rows ≡ true → In W (unwrap_or (first_of id rows) [])) → option_map_or (λ (r : Row). explicit_source r.source) (cond b (Some r) (find (λ (r : Row). bytes_eq r.id id) rows)) false ≡ true → In W (unwrap_or (option_and_then (λ (r : Row). slice_get r.values 0) (cond b (Some r) (find (λ (r : Row). bytes_eq r.id id) rows))) [])
-    at true later g = first r.values rs.0
-    at false later g = later g
+options_known : (W ws : List Text) → Each (In W) ws → level_fault serve_shape [] nothing_held ws false [] ≡ [] → AreKnown W (rows_after serve_shape.rules [] ws)
+options_known W ws each fault =
+    let c = serve_shape.rules in
+    let rows = rows_after c [] ws in
+    let known = rows_known serve_shape W ws serve_singles each fault in
+    let is = both_given (is_given (codes "rules") rows) (is_given (codes "port") rows) (checked_last serve_shape ws fault) in record {
+      rules = value_at c W the_rules (codes "rules") rows refl known is.0;
+      port = value_at c W the_port (codes "port") rows refl known is.1;
+      workers = answer_at c W the_workers (codes "workers") rows refl known;
+      rounds = answer_at c W the_rounds (codes "rounds") rows refl known;
+    }
 
 -- ---- the words behind the command that was met
 
@@ -276,78 +179,210 @@ stop_of_walk : (c : List Rule) (names : Names) (W ws : List Text) (w : Walk) →
 stop_of_walk c names W [] w each of_w = of_w
 stop_of_walk c names W (word ∷ ws) w each of_w = stop_of_walk c names W ws (walked c names w word) each.1 (stop_of_walked c names W w word each.0 of_w)
 
--- ---- a check that is faultless
-
-abbrev check_shape : Shape
-check_shape = built_leaf (inherited the_program.top (with_rule (new_app (codes "check")) file).top)
-
-abbrev run_shape : Shape
-run_shape = built_leaf (inherited the_program.top (new_app (codes "run")).top)
-
-abbrev help_command : Shape
-help_command = built_leaf help_shape
-
-or_else_last : (a b : Kinds) → or_else a b ≡ [] → b ≡ []
-or_else_last [] b h = h
-or_else_last (k ∷ ks) b h = absurd cc
-
-or_else_first : (a b : Kinds) → or_else a b ≡ [] → a ≡ []
-or_else_first [] b h = refl
-or_else_first (k ∷ ks) b h = h
-
-given : (g : Bool) → check_kinds false false (not g || false) ≡ [] → g ≡ true
-given true h = refl
-given false h = absurd cc
-
-file_given : (ws : List Text) → level_fault check_shape [] nothing_held ws false [] ≡ [] → is_given the_file.id (rows_after rules [] ws) ≡ true
-file_given ws h =
-    let end = (walk rules [] nothing_held ws).held in
-    let checked = or_else_last (defaults_fault (settled rules end).rows rules) _
-    (or_else_last (settle_fault rules false end) _ (or_else_last (walk_fault check_shape [] (walk_from nothing_held) ws) _ h)) in
-    given (is_given the_file.id (rows_after rules [] ws)) checked
-
-same_file : (x y : List ℕ) → checks x ≡ checks y → x ≡ y
-same_file x y e = cc
-
-no_run : (x : List ℕ) → checks x ≡ runs → ⊥
-no_run x e = cc
-
-stopped_named : (W : List Text) (name : List ℕ) (stop : Option (Text × List Text)) → StopOf W stop → entered_fault (built the_program) stop ≡ [] → checks name ≡ wanted (entered (built the_program) stop) → In W name
-stopped_named W name None s h e = absurd (no_run name e)
-stopped_named W name (Some p) s h e = by_name (answers_to p.0 (label_of check_shape)) (answers_to p.0 (label_of run_shape)) (answers_to p.0 (label_of help_command)) h e
+stopped_known : (W : List Text) (stop : Option (Text × List Text)) → StopOf W stop → entered_fault (built the_program) stop ≡ [] → IsKnown W (entered (built the_program) stop)
+stopped_known W None s h = tt
+stopped_known W (Some p) s h = by_name (answers_to p.0 (label_of check_shape)) (answers_to p.0 (label_of run_shape)) (answers_to p.0 (label_of serve_shape)) (answers_to p.0 (label_of help_command)) h
   where
-    by_name : (a b c : Bool) → option_map_or (λ (s : Shape). level_fault s [] nothing_held p.1 false []) (cond a (Some check_shape) (cond b (Some run_shape) (cond c (Some help_command) None))) [] ≡ [] → checks name ≡ wanted (option_map (λ (s : Shape). rows_at s p.1) (cond a (Some check_shape) (cond b (Some run_shape) (cond c (Some help_command) None)))) → In W name
-    by_name true b c h e =
-        let rows = rows_after rules [] p.1 in
-        subst (In W) (sym (same_file name (unwrap_or (first_of the_file.id rows) []) e)) (first_given W the_file.id rows (rows_of_walk W p.1 s) (file_given p.1 h))
-    by_name false true c h e = absurd (no_run name e)
-    by_name false false true h e = absurd (no_run name e)
-    by_name false false false h e = absurd (no_run name e)
+    by_name : (a b c d : Bool) → option_map_or (λ (s : Shape). level_fault s [] nothing_held p.1 false []) (cond a (Some check_shape) (cond b (Some run_shape) (cond c (Some serve_shape) (cond d (Some help_command) None)))) [] ≡ [] → IsKnown W (option_map (λ (s : Shape). rows_at s p.1) (cond a (Some check_shape) (cond b (Some run_shape) (cond c (Some serve_shape) (cond d (Some help_command) None)))))
+    by_name true b c d h = (file_known W p.1 s h, tt)
+    by_name false true c d h = (tt, tt)
+    by_name false false true d h = (tt, options_known W p.1 s h)
+    by_name false false false true h = (tt, tt)
+    by_name false false false false h = tt
 
-contained : (ws : List Text) (x : Text) → In ws x → Contains ws x
-contained [] x i = absurd i
-contained (w ∷ ws) x (inl is) = (0, omega arith, is)
-contained (w ∷ ws) x (inr i) = let c = contained ws x i in (suc c.0, omega arith, c.2)
-
-named_in : (W ws : List Text) (name : List ℕ) → Each (In W) ws → built_fault (built the_program) nothing_held ws ≡ [] → checks name ≡ wanted (entered (built the_program) (stop_after (built the_program).top.rules (names_of (built the_program)) ws)) → In W name
-named_in W ws name each h e =
+known_in : (W ws : List Text) → Each (In W) ws → built_fault (built the_program) nothing_held ws ≡ [] → IsKnown W (entered (built the_program) (stop_after (built the_program).top.rules (names_of (built the_program)) ws))
+known_in W ws each h =
     let a = built the_program in
     let stop = stop_after a.top.rules (names_of a) ws in
     let of_stop = stop_of_walk a.top.rules (names_of a) W ws (walk_from nothing_held) each tt in
-    stopped_named W name stop of_stop (or_else_first (entered_fault a stop) _ (or_else_last (walk_fault a.top (names_of a) (walk_from nothing_held) ws) _ h)) e
+    stopped_known W stop of_stop (or_else_first (entered_fault a stop) _ (or_else_last (walk_fault a.top (names_of a) (walk_from nothing_held) ws) _ h))
 
-in_words : (words : List Text) (name : List ℕ) → fault_of the_program words ≡ [] → checks name ≡ wanted (subcommand_of the_program words) → In (drop 1 words) name
-in_words [] name h e = named_in [] [] name tt h e
-in_words (program ∷ ws) name h e = named_in ws ws name (each_in ws ws (λ x i. i)) h e
+known : (words : List Text) → fault_of the_program words ≡ [] → IsKnown (drop 1 words) (subcommand_of the_program words)
+known [] h = known_in [] [] tt h
+known (program ∷ ws) h = known_in ws ws (each_in ws ws (λ x i. i)) h
 
+-- ---- what is wanted then is there
+
+number_in : (W : List Text) (name : Text) (most : ℕ) (needed : Bool) (text read : Option Text) → IsValue W (the_option name (Some (Unsigned 1 most)) needed) text read → IsSomeAnd read (IsNumberIn 1 most)
+number_in W name most needed text None v = let none : None ≡ Some v.first = v.read_is in absurd cc
+number_in W name most needed text (Some t) v =
+    let accepted = accepts-Accepts false (Unsigned 1 most) v.first v.passes in
+    let is : t ≡ v.first = ap (λ o. unwrap_or o t) v.read_is in
+    subst (IsNumberIn 1 most) (sym is) (accepted.0, accepted.2, accepted.3)
+
+number_if : (W : List Text) (name : Text) (most : ℕ) (text read : Option Text) → IsAnswer W (the_option name (Some (Unsigned 1 most)) false) text read → IfSome read (IsNumberIn 1 most)
+number_if W name most text None v = tt
+number_if W name most text (Some t) (inl v) = number_in W name most false text (Some t) v
+number_if W name most text (Some t) (inr none) = let wrong : Some t ≡ None = none.1 in absurd cc
+
+is_there : (o : Option Text) (t : Text) → o ≡ Some t → IsSome o
+is_there None t e = absurd cc
+is_there (Some x) t e = refl
+
+ready_of : (W : List Text) (o : Option (Text × List Row)) → IsKnown W o → IsReady o
+ready_of W None k = tt
+ready_of W (Some f) k = (file (bytes_eq f.0 (codes "check")) k.0, options (bytes_eq f.0 (codes "serve")) k.1)
+  where
+    file : (b : Bool) → OnTrue b (IsValue W the_file (first_of (codes "FILE") f.1) (one_of (codes "FILE") f.1)) → OnTrue b (IsSome (first_of (codes "FILE") f.1))
+    file true v = is_there (first_of (codes "FILE") f.1) v.first v.text_is
+    file false v = tt
+
+    options : (b : Bool) → OnTrue b (AreKnown W f.1) → OnTrue b (AreOptions f.1)
+    options true v = record {
+      rules = is_there (first_of (codes "rules") f.1) v.rules.first v.rules.text_is;
+      port = number_in W (codes "port") MAX_PORT true (first_of (codes "port") f.1) (one_of (codes "port") f.1) v.port;
+      workers = number_if W (codes "workers") MAX_WORKERS (first_of (codes "workers") f.1) (one_of (codes "workers") f.1) v.workers;
+      rounds = number_if W (codes "rounds") MAX_ROUNDS (first_of (codes "rounds") f.1) (one_of (codes "rounds") f.1) v.rounds;
+    }
+    options false v = tt
+
+-- a faultless command has what it needs
+pub ready : (words : List Text) → fault_of the_program words ≡ [] → IsReady (subcommand_of the_program words)
+ready words h = ready_of (drop 1 words) (subcommand_of the_program words) (known words h)
+
+-- ---- the laws
+
+runs_no_check : (name : List ℕ) → Some runs ≡ Some (checks name) → ⊥
+runs_no_check name e = cc
+
+runs_no_server : (options : Served) → Some runs ≡ Some (serves options) → ⊥
+runs_no_server options e = cc
+
+no_check : (o : Option Served) (name : List ℕ) → option_map serves o ≡ Some (checks name) → ⊥
+no_check None name e = cc
+no_check (Some options) name e = cc
+
+no_server : (o : Option Text) (options : Served) → option_map checks o ≡ Some (serves options) → ⊥
+no_server None options e = cc
+no_server (Some name) options e = cc
+
+same_name : (x y : List ℕ) → Some (checks x) ≡ Some (checks y) → x ≡ y
+same_name x y e = cc
+
+said_file : (W : List Text) (v : Text) → IsSaid W the_file v → Contains W v
+said_file W v (inl i) = contained W v i
+said_file W v (inr none) = absurd none
+
+checks_in : (W : List Text) (o : Option (Text × List Row)) (name : List ℕ) → IsKnown W o → wanted o ≡ Some (checks name) → Contains W name
+checks_in W None name k e = absurd (runs_no_check name e)
+checks_in W (Some f) name k e = by_name (bytes_eq f.0 (codes "check")) (bytes_eq f.0 (codes "serve")) k.0 e
+  where
+    by_name : (a b : Bool) → OnTrue a (IsValue W the_file (first_of (codes "FILE") f.1) (one_of (codes "FILE") f.1)) → cond a (option_map checks (first_of (codes "FILE") f.1)) (cond b (option_map serves (served f.1)) (Some runs)) ≡ Some (checks name) → Contains W name
+    by_name true b v e =
+        let is : v.first ≡ name = same_name v.first name (sym (ap (option_map checks) v.text_is) ∙ e) in
+        subst (Contains W) is (said_file W v.first v.said)
+    by_name false true v e = absurd (no_check (served f.1) name e)
+    by_name false false v e = absurd (runs_no_check name e)
+
+-- the file that a check wants is one of the words
 pub named : (words : List Text) (name : List ℕ) → AreOrder words (checks name) → Contains (drop 1 words) name
-named words name order = contained (drop 1 words) name (in_words words name order.faultless order.found)
+named words name order = checks_in (drop 1 words) (subcommand_of the_program words) name (known words order.faultless) order.found
 
--- ---- a check without a file
-
+-- `check` alone is no order
 pub no_order : (program : List ℕ) (order : Wanted) → AreOrder (program ∷ codes "check" ∷ []) order → ⊥
 unfolding walked walk_fault defaults_fault
 no_order program order of_words = never of_words.faultless
   where
     never : MissingRequiredArgument ∷ [] ≡ [] → ⊥
     never e = cc
+
+-- `serve` alone is no order
+pub no_server_alone : (program : List ℕ) (order : Wanted) → AreOrder (program ∷ codes "serve" ∷ []) order → ⊥
+unfolding walked walk_fault defaults_fault
+no_server_alone program order of_words = never of_words.faultless
+  where
+    never : MissingRequiredArgument ∷ [] ≡ [] → ⊥
+    never e = cc
+
+-- what is wanted with this rules file and this port
+abbrev served_from : List Row → Text → ℕ → Served
+served_from rows rules port = record {
+  rules_file = rules;
+  data_file = first_of (codes "data") rows;
+  tokens_file = first_of (codes "tokens") rows;
+  port = port;
+  workers = unwrap_or (number_at (codes "workers") rows) USUAL_WORKERS;
+  rounds = unwrap_or (number_at (codes "rounds") rows) USUAL_ROUNDS;
+}
+
+served_is : (W : List Text) (rows : List Row) (k : AreKnown W rows) → served rows ≡ Some (served_from rows k.rules.first (number_of k.port.first))
+served_is W rows k =
+    ap (option_and_then (λ rules. option_map (served_from rows rules) (number_at (codes "port") rows))) k.rules.text_is
+    ∙ ap (λ o. option_map (served_from rows k.rules.first) (option_map number_of o)) k.port.read_is
+
+-- a server is wanted with what is known of its rows
+record IsServer (W : List Text) (options : Served) : Type 0 where
+  rows : List Row
+  known_are : AreKnown W rows
+  is : served_from rows known_are.rules.first (number_of known_are.port.first) ≡ options
+
+same_server : (x y : Served) → Some (serves x) ≡ Some (serves y) → x ≡ y
+same_server x y e = cc
+
+server_in : (W : List Text) (o : Option (Text × List Row)) (options : Served) → IsKnown W o → wanted o ≡ Some (serves options) → IsServer W options
+server_in W None options k e = absurd (runs_no_server options e)
+server_in W (Some f) options k e = by_name (bytes_eq f.0 (codes "check")) (bytes_eq f.0 (codes "serve")) k.1 e
+  where
+    by_name : (a b : Bool) → OnTrue b (AreKnown W f.1) → cond a (option_map checks (first_of (codes "FILE") f.1)) (cond b (option_map serves (served f.1)) (Some runs)) ≡ Some (serves options) → IsServer W options
+    by_name true b v e = absurd (no_server (first_of (codes "FILE") f.1) options e)
+    by_name false true v e = record {
+      rows = f.1;
+      known_are = v;
+      is = same_server _ options (sym (ap (option_map serves) (served_is W f.1 v)) ∙ e);
+    }
+    by_name false false v e = absurd (runs_no_server options e)
+
+server : (words : List Text) (options : Served) → AreOrder words (serves options) → IsServer (drop 1 words) options
+server words options order = server_in (drop 1 words) (subcommand_of the_program words) options (known words order.faultless) order.found
+
+said_rules : (W : List Text) (v : Text) → IsSaid W the_rules v → IsGiven W (codes "rules") v
+said_rules W v (inl i) = inl (contained W v i)
+said_rules W v (inr i) = inr (contained W _ i)
+
+said_port : (W : List Text) (v : Text) → IsSaid W the_port v → IsGiven W (codes "port") v
+said_port W v (inl i) = inl (contained W v i)
+said_port W v (inr i) = inr (contained W _ i)
+
+-- the rules file that a server wants stands in the words
+pub rules_given : (words : List Text) (options : Served) → AreOrder words (serves options) → IsGiven (drop 1 words) (codes "rules") options.rules_file
+rules_given words options order =
+    let s = server words options order in
+    subst (λ (o : Served). IsGiven (drop 1 words) (codes "rules") o.rules_file) s.is (said_rules (drop 1 words) s.known_are.rules.first s.known_are.rules.said)
+
+-- and so does its port
+pub port_given : (words : List Text) (options : Served) → AreOrder words (serves options)
+    → (text : Text) × IsGiven (drop 1 words) (codes "port") text × IsNumberIn 1 MAX_PORT text × (options.port ≡ number_of text)
+port_given words options order =
+    let s = server words options order in
+    let v = s.known_are.port in
+    let accepted = accepts-Accepts false (Unsigned 1 MAX_PORT) v.first v.passes in
+    (v.first, said_port (drop 1 words) v.first v.said, (accepted.0, accepted.2, accepted.3), sym (ap (λ (o : Served). o.port) s.is))
+
+-- the workers of a server are as many as may be
+pub workers_fit : (words : List Text) (options : Served) → AreOrder words (serves options) → (1 ≤ options.workers) × (options.workers ≤ MAX_WORKERS)
+workers_fit words options order =
+    let s = server words options order in
+    let fits = number_if (drop 1 words) (codes "workers") MAX_WORKERS (first_of (codes "workers") s.rows) (one_of (codes "workers") s.rows) s.known_are.workers in
+    subst (λ (o : Served). (1 ≤ o.workers) × (o.workers ≤ MAX_WORKERS)) s.is (bounds_or MAX_WORKERS USUAL_WORKERS (one_of (codes "workers") s.rows) (omega arith) (omega arith) fits)
+
+-- and so are their rounds
+pub rounds_fit : (words : List Text) (options : Served) → AreOrder words (serves options) → (1 ≤ options.rounds) × (options.rounds ≤ MAX_ROUNDS)
+rounds_fit words options order =
+    let s = server words options order in
+    let fits = number_if (drop 1 words) (codes "rounds") MAX_ROUNDS (first_of (codes "rounds") s.rows) (one_of (codes "rounds") s.rows) s.known_are.rounds in
+    subst (λ (o : Served). (1 ≤ o.rounds) × (o.rounds ≤ MAX_ROUNDS)) s.is (bounds_or MAX_ROUNDS USUAL_ROUNDS (one_of (codes "rounds") s.rows) (omega arith) (omega arith) fits)
+
+wanted_of : (W : List Text) (o : Option (Text × List Row)) → IsKnown W o → (order : Wanted) × (wanted o ≡ Some order)
+wanted_of W None k = (runs, refl)
+wanted_of W (Some f) k = by_name (bytes_eq f.0 (codes "check")) (bytes_eq f.0 (codes "serve")) k.0 k.1
+  where
+    by_name : (a b : Bool) → OnTrue a (IsValue W the_file (first_of (codes "FILE") f.1) (one_of (codes "FILE") f.1)) → OnTrue b (AreKnown W f.1) → (order : Wanted) × (cond a (option_map checks (first_of (codes "FILE") f.1)) (cond b (option_map serves (served f.1)) (Some runs)) ≡ Some order)
+    by_name true b v w = (checks v.first, ap (option_map checks) v.text_is)
+    by_name false true v w = (serves (served_from f.1 w.rules.first (number_of w.port.first)), ap (option_map serves) (served_is W f.1 w))
+    by_name false false v w = (runs, refl)
+
+-- faultless words are an order
+pub some_order : (words : List Text) → fault_of the_program words ≡ [] → (order : Wanted) × AreOrder words order
+some_order words h =
+    let found = wanted_of (drop 1 words) (subcommand_of the_program words) (known words h) in
+    (found.0, record { faultless = h; found = found.1 })

@@ -1,15 +1,22 @@
 -- What a command prints, and the status that it ends with. (This project's profile.)
-use Rattle.std.specs.Prelude.{◌≡◌, ℕ, ◌⊎◌, Bool, true, List, [], length, Option, None, Result, Ok, Err, IfSome}
+use Rattle.std.specs.Prelude.{◌≡◌, ℕ, ◌+◌, ◌⊎◌, ⊤, take, Bool, true, List, [], length, Option, Some, None, Result, Ok, Err, IfSome}
 use Rattle.std.specs.Io.KnownBytes.{Appends, Consumes}
 use Rattle.rules_reader.specs.declared.fault.RulesFault.{RulesFault}
+use Rattle.rules_reader.specs.declared.limits.TheConstants.{MAX_FILE_BYTES}
 use Rattle.rules_reader.specs.Book.{Book, rules}
 use Rattle.rules_reader.specs.File.{States}
 use Rattle.rules_reader.specs.Refusal.{Refuses}
+use Rattle.scripts.specs.declared.header.HeaderFault.{HeaderFault}
+use Rattle.scripts.specs.declared.header.Opened.{Opened}
 use Rattle.scripts.specs.declared.script.ScriptEnd.{ScriptEnd}
 use Rattle.answers.specs.AnswerText.{accepted_text, rules_fault_text}
 use Rattle.scripts.specs.Ends.{SourceTells, Ends}
-use Rattle.scripts.specs.Said.{as_line}
-use Rattle.rtdb.specs.Order.{Wanted, checks, runs}
+use Rattle.scripts.specs.Said.{as_line, header_fault_text}
+use Rattle.locked_server.specs.Known.{Known}
+use Rattle.server.specs.Served.{HasServed as HasPrinted}
+use Rattle.rtdb.specs.declared.contents.TheConstants.{MOST_BYTES}
+use Rattle.rtdb.specs.Opening.{FileBytes, Begins}
+use Rattle.rtdb.specs.Order.{Wanted, Served, checks, runs, serves}
 use Rattle.rtdb.specs.Status.{done, refused, failed, no_memory, status_of}
 
 -- ---- to check a file
@@ -49,6 +56,45 @@ IsUnanswered known before after has_failed status =
 abbrev pub HasChecked : Option (List ℕ) → Option (List ℕ) → Option (List ℕ) → Bool → ℕ → Type 0
 HasChecked known before after has_failed status = IsAnswered known before after status ⊎ IsUnanswered known before after has_failed status
 
+-- ---- to serve
+
+-- of a file whose bytes are known, as many as its limit and one more
+abbrev pub IsFront : Option (List ℕ) → ℕ → List ℕ → Type 0
+IsFront known limit bytes = IfSome known (λ it. bytes ≡ take (limit + 1) it)
+
+-- the same of a file that need not be
+abbrev pub IsFrontOf : (List ℕ → Option (List ℕ)) → Option (List ℕ) → Option (List ℕ) → Type 0
+IsFrontOf known None None = ⊤
+IsFrontOf known (Some name) (Some bytes) = IsFront (known name) MOST_BYTES bytes
+IsFrontOf known None (Some bytes) = ⊥
+IsFrontOf known (Some name) None = ⊥
+
+-- these are the bytes of a server's files
+pub record AreRead (known : List ℕ → Option (List ℕ)) (options : Served) (files : FileBytes) : Type 0 where
+  pub rules : IsFront (known options.rules_file) MAX_FILE_BYTES files.rules
+  pub opening : IsFrontOf known options.data_file files.data_bytes
+  pub tokens : IsFrontOf known options.tokens_file files.tokens
+
+-- a server's files were refused, and their first fault is a line of the output
+abbrev pub IsRefused : (List ℕ → Option (List ℕ)) → Served → Option (List ℕ) → Option (List ℕ) → Type 0
+IsRefused known options before after =
+    (files : FileBytes) × (fault : HeaderFault) × AreRead known options files × Begins files (Err fault) × Appends before after (as_line (header_fault_text fault))
+
+-- a database was served, from its opening on: it was printed where it is served, and how many entries its legal history has
+abbrev pub IsServed : Opened → Option (List ℕ) → Option (List ℕ) → Type 0
+IsServed opened before after = (seat : Known) × (seat.opening ≡ opened.core) × (seat.seen ≡ []) × HasPrinted seat before after
+
+-- a server's files opened a database, which was served
+abbrev pub IsOpened : (List ℕ → Option (List ℕ)) → Served → Option (List ℕ) → Option (List ℕ) → Type 0
+IsOpened known options before after =
+    (files : FileBytes) × (opened : Opened) × AreRead known options files × Begins files (Ok opened) × IsServed opened before after
+
+-- what was to be served is refused, or was served, or there is a reason why not
+abbrev pub HasServed : (List ℕ → Option (List ℕ)) → Served → Option (List ℕ) → Option (List ℕ) → ℕ → Type 0
+HasServed known options before after status =
+    ((status ≡ refused) × IsRefused known options before after)
+    ⊎ (((status ≡ done) × IsOpened known options before after) ⊎ ((status ≡ failed) ⊎ (status ≡ no_memory)))
+
 -- ---- what is told of the streams
 
 -- the input that was left before the command, what its source tells after it, what was written before it and after it, and whether the output has failed
@@ -69,3 +115,4 @@ HasRun streams status =
 abbrev pub HasDone : (List ℕ → Option (List ℕ)) → Wanted → Streams → ℕ → Type 0
 HasDone known (checks name) streams status = HasChecked (known name) streams.before streams.after streams.has_failed status
 HasDone known runs streams status = HasRun streams status
+HasDone known (serves options) streams status = HasServed known options streams.before streams.after status

@@ -10,6 +10,8 @@ ghost use Rattle.rtdb.specs.Working.{IsTooLong};
 
 use crate::files::{Files, ReadFault};
 use crate::line::order;
+use crate::printing::Printing;
+use crate::serve::serve;
 use crate::wanted::{LineFault, Order};
 use answers::{write_accepted, write_rules_fault};
 use bumpalo::Bump;
@@ -18,18 +20,22 @@ use rules_reader::{MAX_FILE_BYTES, compile};
 use scripts::{ScriptEnd, Sink, Source, run_last_script, send_text};
 use std::alloc::Global;
 use std::io;
+use std::net::{Net, TcpListener, TcpStream};
+use std::sync::Wait;
+use std::thread::Threads;
+use std::time::Clock;
 
 // The statuses that the program ends with: all was done.
-const DONE: u8 = 0;
+pub(crate) const DONE: u8 = 0;
 
 // A file was refused.
-const REFUSED: u8 = 1;
+pub(crate) const REFUSED: u8 = 1;
 
 /// A fault of the command line.
 pub const BAD_LINE: u8 = 2;
 
 // A file could not be read, or an output not be written.
-const FAILED: u8 = 3;
+pub(crate) const FAILED: u8 = 3;
 
 // Want of memory.
 const NO_MEMORY: u8 = 4;
@@ -37,31 +43,39 @@ const NO_MEMORY: u8 = 4;
 /// Does what the words want, of which the first is the program's name, and answers the status to end
 /// with. What is wrong with the words, a file or a stream, and that memory is used up, is reported to `faults`; that
 /// this may fail changes nothing. A check holds the file in memory, and its plain text; of a file that is longer
-/// than a rules file may be it reads one byte more than that.
-pub fn command<F: Files, R: Source, W: Sink, E: io::Write>(
+/// than a rules file may be it reads one byte more than that, and so does a server, which holds its other files whole.
+pub fn command<
+    R: Net<Listener = TcpListener, Stream = TcpStream> + Threads + Wait + Clock + Sync,
+    F: Files,
+    I: Source,
+    W: Sink,
+    E: io::Write,
+>(
+    rt: &R,
     alloc: Global,
     words: &[String],
     files: &F,
-    input: &mut R,
-    output: &mut W,
+    input: &mut I,
+    output: &mut Printing<W>,
     faults: &mut E,
 ) -> u8
-    requires unread { R.reads input.old ≡ 0 }
-    requires input { R.failed input.old ≡ false }
-    requires output { W.failed output.old ≡ false }
+    requires unread { I.reads input.old ≡ 0 }
+    requires input { I.failed input.old ≡ false }
+    requires output { W.failed output.old.sink ≡ false }
     // An order is obeyed, where memory suffices to find it.
     ensures order { (wanted : Wanted) → AreOrder (map string_bytes words.now) wanted
-        → HasDone (F.bytes files.now) wanted (record { left = R.left input.old; source = record { left = R.left input.new; failed = R.failed input.new; reads = R.reads input.new }; before = W.written output.old; after = W.written output.new; has_failed = W.failed output.new }) result
-        ⊎ ((result ≡ no_memory) × Appends (W.written output.old) (W.written output.new) []) }
+        → HasDone (F.bytes files.now) wanted (record { left = I.left input.old; source = record { left = I.left input.new; failed = I.failed input.new; reads = I.reads input.new }; before = W.written output.old.sink; after = W.written output.new.sink; has_failed = W.failed output.new.sink }) result
+        ⊎ ((result ≡ no_memory) × Appends (W.written output.old.sink) (W.written output.new.sink) []) }
     // An output that failed is told.
-    ensures broken { W.failed output.new ≡ true → result ≡ failed }
+    ensures broken { W.failed output.new.sink ≡ true → result ≡ failed }
     // Words that are none are refused, and nothing is printed.
     ensures fault { fault_of the_program (map string_bytes words.now) ≢ []
-        → ((result ≡ bad_line) ⊎ (result ≡ no_memory)) × Appends (W.written output.old) (W.written output.new) [] }
+        → ((result ≡ bad_line) ⊎ (result ≡ no_memory)) × Appends (W.written output.old.sink) (W.written output.new.sink) [] }
 {
     match order(alloc, words) {
-        Ok(Order::Check(name)) => check(alloc, files, name, output, faults),
-        Ok(Order::Run) => run(alloc, input, output, faults),
+        Ok(Order::Check(name)) => check(alloc, files, name, &mut output.sink, faults),
+        Ok(Order::Run) => run(alloc, input, &mut output.sink, faults),
+        Ok(Order::Serve(options)) => serve(rt, alloc, files, &options, output, faults),
         Err(LineFault::Line(error)) => {
             let _told = write!(faults, "{error}");
             BAD_LINE
@@ -146,31 +160,31 @@ fn check<F: Files, W: Sink, E: io::Write>(
     }
 }
 
-// The line that answers a rules file, and the status that goes with it.
+// A line to be printed, and the status that goes with it.
 #[derive(Drop)]
-struct Checked {
-    line: Vec<u8>,
-    status: u8,
+pub(crate) struct Told {
+    pub(crate) line: Vec<u8>,
+    pub(crate) status: u8,
 }
 
 // The answer to a file of these bytes.
-fn answer(alloc: Global, bytes: &[u8]) -> Result<Checked, NoMemory>
+fn answer(alloc: Global, bytes: &[u8]) -> Result<Told, NoMemory>
     ensures checked { IfOk result (λ answer. IsChecked bytes.now answer.line.items answer.status) }
     ensures too_long { MAX_FILE_BYTES < length bytes.now → IfOk result (λ answer. IsTooLong answer.line.items answer.status) }
 {
     match compile(alloc, bytes) {
-        Ok(rules) => Ok(Checked {
+        Ok(rules) => Ok(Told {
             line: as_line(write_accepted(alloc, rules.count())?)?,
             status: DONE,
         }),
-        Err(fault) => Ok(Checked {
+        Err(fault) => Ok(Told {
             line: as_line(write_rules_fault(alloc, &fault)?)?,
             status: REFUSED,
         }),
     }
 }
 
-fn as_line(mut text: Vec<u8>) -> Result<Vec<u8>, NoMemory>
+pub(crate) fn as_line(mut text: Vec<u8>) -> Result<Vec<u8>, NoMemory>
     ensures { IfOk result (λ line. line.items ≡ as_line text.items) }
 {
     text.push(b'\n')?;
@@ -178,16 +192,21 @@ fn as_line(mut text: Vec<u8>) -> Result<Vec<u8>, NoMemory>
 }
 
 // Prints an answer, and says the status.
-fn print<W: Sink, E: io::Write>(answer: &Checked, output: &mut W, faults: &mut E) -> u8
+pub(crate) fn print<W: Sink, E: io::Write>(answer: &Told, output: &mut W, faults: &mut E) -> u8
     requires { W.failed output.old ≡ false }
     ensures printed { ((result ≡ answer.now.status) × Appends (W.written output.old) (W.written output.new) answer.now.line.items) ⊎ ((result ≡ failed) × (W.failed output.new ≡ true)) }
     ensures broken { W.failed output.new ≡ true → result ≡ failed }
 {
     match send_text(output, &answer.line) {
         Ok(()) => answer.status,
-        Err(_) => {
-            let _told = writeln!(faults, "rtdb: input or output failed");
-            FAILED
-        }
+        Err(_) => no_output(faults),
     }
+}
+
+// Reports that nothing can be printed, and says the status.
+pub(crate) fn no_output<E: io::Write>(faults: &mut E) -> u8
+    ensures { result ≡ failed }
+{
+    let _told = writeln!(faults, "rtdb: input or output failed");
+    FAILED
 }

@@ -1,14 +1,20 @@
-//! Commands over an output that is full, and where no memory is there.
+//! Commands over files that are at fault, an output that is full, and where no memory is there.
 ghost use Rattle.std.specs.Prelude.{None};
 
 use crate::command::command;
 use crate::files::{Files, ReadFault};
+use crate::printing::Printing;
 use scripts::{Reading, Writing};
 use std::alloc::{AllocError, Global};
 use std::io;
+use std::net::{Net, TcpListener, TcpStream};
+use std::sync::Wait;
 use std::test::Fail;
+use std::thread::Threads;
+use std::time::Clock;
 
-/// Two rules files: `good`, and `full`, for which no memory is there.
+/// Files: the rules `good`, the tree `tree` and the tokens `tokens`; `torn`, which is no JSON; `dotted`, which is
+/// neither a tree nor rules nor tokens; and `full`, for which no memory is there.
 #[derive(Clone, Copy)]
 struct Shelf;
 
@@ -18,13 +24,23 @@ impl Files for Shelf {
     ghost bytes = { λ _ _. None };
 
     fn read(&self, alloc: Global, name: &str, _limit: usize) -> Result<Vec<u8>, ReadFault> {
-        if name != "good" {
-            return Err(ReadFault::NoMemory);
-        }
-        match Vec::from_slice(alloc, GOOD) {
+        let text = text_of(name)?;
+        match Vec::from_slice(alloc, text) {
             Ok(bytes) => Ok(bytes),
             Err(_) => Err(ReadFault::NoMemory),
         }
+    }
+}
+
+fn text_of(name: &str) -> Result<&'static [u8], ReadFault> {
+    match name {
+        "good" => Ok(GOOD),
+        "tree" => Ok(b"{\"a\":1}"),
+        "tokens" => Ok(b"{\"tokens\":{}}"),
+        "torn" => Ok(b"{"),
+        "dotted" => Ok(b"{\"a.b\":1}"),
+        "full" => Err(ReadFault::NoMemory),
+        _ => Err(ReadFault::Unreadable),
     }
 }
 
@@ -78,16 +94,9 @@ const SCRIPT: &[u8] = br#"{"rules":"{\"rules\":{\".read\":true}}"}
 
 /// The words behind the program's name, the input, how much the output takes, what it then has, what
 /// is told of faults, and the status.
-type Row = (
-    &'static [&'static str],
-    &'static [u8],
-    usize,
-    &'static str,
-    &'static str,
-    u8,
-);
+type Row<'a> = (&'a [&'a str], &'a [u8], usize, &'a str, &'a str, u8);
 
-const ROWS: [Row; 3] = [
+const ROWS: [Row<'static>; 14] = [
     (
         &["run"],
         SCRIPT,
@@ -112,9 +121,119 @@ const ROWS: [Row; 3] = [
         "rtdb: out of memory\n",
         4,
     ),
+    (
+        &[
+            "serve", "--rules", "lost", "--port", "8080", "--data", "torn", "--tokens", "full",
+        ],
+        b"",
+        1000,
+        "",
+        "rtdb: can't read lost\n",
+        3,
+    ),
+    (
+        &[
+            "serve", "--rules", "dotted", "--port", "8080", "--data", "lost", "--tokens", "full",
+        ],
+        b"",
+        1000,
+        "",
+        "rtdb: can't read lost\n",
+        3,
+    ),
+    (
+        &[
+            "serve", "--rules", "torn", "--port", "8080", "--data", "torn", "--tokens", "lost",
+        ],
+        b"",
+        1000,
+        "",
+        "rtdb: can't read lost\n",
+        3,
+    ),
+    (
+        &[
+            "serve", "--rules", "torn", "--port", "8080", "--data", "torn", "--tokens", "full",
+        ],
+        b"",
+        1000,
+        "",
+        "rtdb: out of memory\n",
+        4,
+    ),
+    (
+        &[
+            "serve", "--rules", "torn", "--port", "8080", "--data", "torn", "--tokens", "torn",
+        ],
+        b"",
+        1000,
+        "{\"code\":101,\"name\":\"BadJson\",\"ok\":false}\n",
+        "",
+        1,
+    ),
+    (
+        &[
+            "serve", "--rules", "torn", "--port", "8080", "--data", "dotted", "--tokens", "torn",
+        ],
+        b"",
+        1000,
+        "{\"code\":401,\"name\":\"BadRulesJson\",\"ok\":false}\n",
+        "",
+        1,
+    ),
+    (
+        &[
+            "serve", "--rules", "dotted", "--port", "8080", "--data", "dotted", "--tokens", "torn",
+        ],
+        b"",
+        1000,
+        "{\"at\":\"/\",\"code\":402,\"name\":\"BadRulesShape\",\"ok\":false}\n",
+        "",
+        1,
+    ),
+    (
+        &[
+            "serve", "--rules", "good", "--port", "8080", "--data", "dotted", "--tokens", "torn",
+        ],
+        b"",
+        1000,
+        "{\"code\":104,\"name\":\"BadValue\",\"ok\":false}\n",
+        "",
+        1,
+    ),
+    (
+        &[
+            "serve", "--rules", "good", "--port", "8080", "--data", "tree", "--tokens", "torn",
+        ],
+        b"",
+        1000,
+        "{\"code\":208,\"name\":\"BadTokens\",\"ok\":false}\n",
+        "",
+        1,
+    ),
+    (
+        &[
+            "serve", "--rules", "good", "--port", "8080", "--tokens", "dotted",
+        ],
+        b"",
+        1000,
+        "{\"code\":208,\"name\":\"BadTokens\",\"ok\":false}\n",
+        "",
+        1,
+    ),
+    (
+        &[
+            "serve", "--rules", "good", "--port", "8080", "--data", "tree", "--tokens", "dotted",
+        ],
+        b"",
+        5,
+        "{\"cod",
+        "rtdb: input or output failed\n",
+        3,
+    ),
 ];
 
-fn words_of(alloc: Global, row: &Row) -> Result<Vec<String>, AllocError> {
+fn words_of(alloc: Global, row: &Row<'_>) -> Result<Vec<String>, AllocError> {
     let mut words = Vec::new(alloc);
     words.push(String::from_str(alloc, "rtdb")?)?;
     for word in row.0.iter() {
@@ -124,13 +243,25 @@ fn words_of(alloc: Global, row: &Row) -> Result<Vec<String>, AllocError> {
 }
 
 // What a row's words, input and output come to, where that is not as the row says.
-fn other(alloc: Global, row: &Row) -> Result<String, Fail> {
+fn other<R: Net<Listener = TcpListener, Stream = TcpStream> + Threads + Wait + Clock + Sync>(
+    rt: &R,
+    alloc: Global,
+    row: &Row<'_>,
+) -> Result<String, Fail> {
     let words = words_of(alloc, row)?;
     let mut printed = Printed::new(Vec::new(alloc), row.2);
     let mut told = Printed::new(Vec::new(alloc), usize::MAX);
     let mut input = Reading::new(Pieces { text: row.1 });
-    let mut output = Writing::new(&mut printed);
-    let status = command(alloc, &words, &Shelf, &mut input, &mut output, &mut told);
+    let mut output = Printing::new(Writing::new(&mut printed));
+    let status = command(
+        rt,
+        alloc,
+        &words,
+        &Shelf,
+        &mut input,
+        &mut output,
+        &mut told,
+    );
     let same = printed.bytes.as_slice() == row.3.as_bytes()
         && told.bytes.as_slice() == row.4.as_bytes();
     if same && status == row.5 {
@@ -141,9 +272,20 @@ fn other(alloc: Global, row: &Row) -> Result<String, Fail> {
 }
 
 #[test]
-fn a_full_output_and_want_of_memory_have_a_status_each(rt: HostRuntime) -> Result<(), Fail> {
+fn each_fault_has_its_line_and_its_status(rt: HostRuntime) -> Result<(), Fail> {
     for row in ROWS.iter() {
-        assert_eq!(rt; other(rt.alloc(), row)?.as_str(), "");
+        assert_eq!(rt; other(&rt, rt.alloc(), row)?.as_str(), "");
     }
+    Ok(())
+}
+
+#[test]
+fn a_port_that_is_taken_is_told(rt: HostRuntime) -> Result<(), Fail> {
+    let alloc = rt.alloc();
+    let listener = TcpListener::bind(&rt, "127.0.0.1:0")?;
+    let port = format!(in alloc; "{}", listener.local_addr()?.port())?;
+    let words = ["serve", "--rules", "good", "--port", port.as_str()];
+    let row: Row<'_> = (&words, b"", 1000, "", "rtdb: can't listen\n", 3);
+    assert_eq!(rt; other(&rt, alloc, &row)?.as_str(), "");
     Ok(())
 }

@@ -1,21 +1,26 @@
 //! `rtdb`: a realtime tree database under Security Rules.
 //!
 //! `rtdb run` reads a script of JSON lines, a rules file and then requests, and answers each line;
-//! `rtdb check FILE` says whether a rules file is accepted. What they print is the contract of
-//! [`command`], which for a script is that of [`run_last_script`](scripts::run_last_script): each read and write
-//! is granted exactly when the rules hold at some prefix, each denial names its rules, and what is
-//! refused changes nothing.
+//! `rtdb check FILE` says whether a rules file is accepted; `rtdb serve` serves the database that its files open over
+//! WebSockets. What they print is the contract of [`command`], which for a script is that of
+//! [`run_last_script`](scripts::run_last_script): each read and write is granted exactly when the rules hold at some
+//! prefix, each denial names its rules, and what is refused changes nothing.
 #![tactic(auto)]
 
 mod command;
 #[cfg(test)]
 mod commands;
+mod contents;
 mod files;
 mod line;
+mod opening;
+mod printing;
+mod serve;
 mod wanted;
 
 use command::{BAD_LINE, command, out_of_memory};
 use files::SystemFiles;
+use printing::Printing;
 use scripts::{Reading, Writing};
 use std::process::ExitCode;
 use std::{env, io};
@@ -23,11 +28,12 @@ use std::{env, io};
 fn main(rt: HostRuntime) -> ExitCode {
     let status = match words_of(&rt) {
         Ok(words) => command(
+            &rt,
             rt.alloc(),
             &words,
             &SystemFiles::new(&rt),
             &mut Reading::new(rt.reader()),
-            &mut Writing::new(io::writer(&rt)),
+            &mut Printing::new(Writing::new(io::writer(&rt))),
             &mut rt.stderr(),
         ),
         Err(fault) => match fault.kind() {

@@ -1,7 +1,6 @@
-use Rattle.std.proofs.Common.{◌≡◌, ◌+◌, ◌<◌, ◌∙◌, ◌⊎◌, List, ℕ, length, take, inr, inl, IfSome, sym, ap, subst, rules}
+use Rattle.std.proofs.Common.{◌<◌, List, ℕ, length, inr, sym, subst}
 use Rattle.rules_reader.specs.declared.limits.TheConstants.{MAX_FILE_BYTES}
 use Rattle.rtdb.specs.Command.{IsChecked}
-use Rattle.rtdb.specs.Working.{IsTooLong}
 use Rattle.scripts.proofs.Sending.{Appends-refl}
 use Rattle.rtdb.proofs.Prefixes.{has_checked}
 use Rattle.rtdb.proofs.command.check.Goals as goal

@@ -1,30 +1,43 @@
-use Rattle.std.proofs.Common.{◌≡◌, ◌∙◌, ap, ap₂, map, rules, string_bytes, subst, true, codes}
+use Rattle.std.proofs.Common.{◌≡◌, ◌∙◌, ap, map, string_bytes, subst, true, codes}
 use Rattle.std.proofs.lemmas.Result.{IfOk-weaker}
-use Rattle.clap.specs.Words.{App, FailsBy, app_of, rule_of, new_app, with_rule, with_subcommand, subcommand_of, is_simple, is_simple_and_free, fault_of}
+use Rattle.clap.specs.Words.{App, FailsBy, app_of, rule_of, new_app, is_simple, is_simple_and_free, subcommand_of, fault_of}
 use Rattle.clap.specs.Simple.{app_of_fields}
-use Rattle.rtdb.specs.Order.{file, the_program}
+use Rattle.rtdb.specs.Order.{file, required, run_app, serve_app, the_program}
+use Rattle.rtdb.proofs.Described.{IsDescribed, IsOwn, with_arg, with_command}
 use Rattle.rtdb.proofs.line.parse.Goals as goal
+use Rattle.rtdb.proofs.line.parse.Goals.{After-try_get_matches_from}
+
+described : (c : After-try_get_matches_from) → app_of c.in_ok-program.program ≡ the_program
+described c =
+    let versioned : App → App = λ a. record a { top = record a.top { has_version = true } } in
+    let file_is : IsOwn c.help-file.result file = record {
+      rule_is = ap rule_of c.help-file.ensures ∙ ap rule_of c.required.ensures ∙ ap required c.new.ensures.rule;
+      own = ap (λ a. a.global) c.help-file.ensures ∙ ap (λ a. a.global) c.required.ensures ∙ c.new.ensures.optional.1;
+    } in
+    let bare : IsDescribed c.about.result (new_app (codes "check")) = record {
+      app_is = ap app_of_fields c.about.ensures ∙ c.new-2.ensures.app;
+      own = ap (λ f. f.has_globals) c.about.ensures ∙ c.new-2.ensures.local;
+    } in
+    let check = with_arg _ _ _ _ _ bare file_is c.in_ok-check.ensures in
+    let run : IsDescribed c.about-run.result run_app = record {
+      app_is = ap app_of_fields c.about-run.ensures ∙ c.new-3.ensures.app;
+      own = ap (λ f. f.has_globals) c.about-run.ensures ∙ c.new-3.ensures.local;
+    } in
+    let serve : IsDescribed c.in_ok-serve.serve serve_app = record { app_is = c.in_ok-serve.ensures.app; own = c.in_ok-serve.ensures.own } in
+    let top : IsDescribed c.about-2.result (versioned (new_app (codes "rtdb"))) = record {
+      app_is = ap app_of_fields c.about-2.ensures ∙ ap app_of_fields c.version.ensures ∙ ap versioned c.new-4.ensures.app;
+      own = ap (λ f. f.has_globals) c.about-2.ensures ∙ ap (λ f. f.has_globals) c.version.ensures ∙ c.new-4.ensures.local;
+    } in
+    let with_check = with_command _ _ _ _ _ top check c.in_ok-subcommand.ensures in
+    let with_run = with_command _ _ _ _ _ with_check run c.in_ok-subcommand-2.ensures in
+    (with_command _ _ _ _ _ with_run serve c.in_ok-program.ensures).app_is
 
 pub returns-clause-found : goal.returns-clause-found
 returns-clause-found c =
-    let file_is : rule_of c.help-file.result ≡ file = search rules in
-    let check_is : app_of c.in_ok-check.check ≡ with_rule (new_app (codes "check")) file =
-    c.in_ok-check.ensures.shape (search rules) ∙ ap₂ with_rule (ap app_of_fields c.about.ensures ∙ c.new-2.ensures.app) file_is in
-    let run_is : app_of c.about-run.result ≡ new_app (codes "run") = ap app_of_fields c.about-run.ensures ∙ c.new-3.ensures.app in
-    let top_is : app_of c.about-2.result ≡ record (new_app (codes "rtdb")) { top = record (new_app (codes "rtdb")).top { has_version = true } } =
-    ap app_of_fields c.about-2.ensures ∙ ap app_of_fields c.version.ensures ∙ ap (λ (a : App). record a { top = record a.top { has_version = true } }) c.new-4.ensures.app in
-    let with_check = c.in_ok-subcommand.ensures.shape (search rules) ∙ ap₂ with_subcommand top_is (ap (λ (a : App). a.top) check_is) in
-    let program_is : app_of c.in_ok-program.program ≡ the_program = c.in_ok-program.ensures.shape (search rules) ∙ ap₂ with_subcommand with_check (ap (λ (a : App). a.top) run_is) in
-    IfOk-weaker c.try_get_matches_from.result _ _ (λ m h. (h (ap is_simple program_is)).1 ∙ ap (λ (a : App). subcommand_of a (map string_bytes c.args.words.now)) program_is) c.try_get_matches_from.ensures.matches
+    let is = described c in
+    IfOk-weaker c.try_get_matches_from.result _ _ (λ m h. (h (ap is_simple is)).1 ∙ ap (λ (a : App). subcommand_of a (map string_bytes c.args.words.now)) is) c.try_get_matches_from.ensures.matches
 
 pub returns-clause-fails : goal.returns-clause-fails
 returns-clause-fails c =
-    let file_is : rule_of c.help-file.result ≡ file = search rules in
-    let check_is : app_of c.in_ok-check.check ≡ with_rule (new_app (codes "check")) file =
-    c.in_ok-check.ensures.shape (search rules) ∙ ap₂ with_rule (ap app_of_fields c.about.ensures ∙ c.new-2.ensures.app) file_is in
-    let run_is : app_of c.about-run.result ≡ new_app (codes "run") = ap app_of_fields c.about-run.ensures ∙ c.new-3.ensures.app in
-    let top_is : app_of c.about-2.result ≡ record (new_app (codes "rtdb")) { top = record (new_app (codes "rtdb")).top { has_version = true } } =
-    ap app_of_fields c.about-2.ensures ∙ ap app_of_fields c.version.ensures ∙ ap (λ (a : App). record a { top = record a.top { has_version = true } }) c.new-4.ensures.app in
-    let with_check = c.in_ok-subcommand.ensures.shape (search rules) ∙ ap₂ with_subcommand top_is (ap (λ (a : App). a.top) check_is) in
-    let program_is : app_of c.in_ok-program.program ≡ the_program = c.in_ok-program.ensures.shape (search rules) ∙ ap₂ with_subcommand with_check (ap (λ (a : App). a.top) run_is) in
-    subst (λ (a : App). FailsBy (fault_of a (map string_bytes c.args.words.now)) c.try_get_matches_from.result) program_is (c.try_get_matches_from.ensures.kinds (ap is_simple_and_free program_is))
+    let is = described c in
+    subst (λ (a : App). FailsBy (fault_of a (map string_bytes c.args.words.now)) c.try_get_matches_from.result) is (c.try_get_matches_from.ensures.kinds (ap is_simple_and_free is))

@@ -1,0 +1,143 @@
+//! What the program does to serve.
+ghost use Rattle.std.specs.Prelude.{◌≡◌, ◌⊎◌, true, false, IfOk, OnOk, ◌++◌};
+ghost use Rattle.scripts.specs.Said.{as_line, header_fault_text};
+ghost use Rattle.rtdb.specs.Command.{HasServed, IsServed};
+ghost use Rattle.rtdb.specs.Order.{served_by};
+ghost use Rattle.rtdb.specs.Status.{done, failed, no_memory, refused};
+ghost use Rattle.rtdb.specs.Working.{IsTold};
+
+use crate::command::{DONE, FAILED, REFUSED, Told, as_line, no_output, out_of_memory, print};
+use crate::contents::read_contents;
+use crate::files::Files;
+use crate::opening::open_contents;
+use crate::printing::Printing;
+use crate::wanted::ServeOptions;
+use answers::AnswerWriter;
+use json_tree::NoMemory;
+use locked_server::Hall;
+use rtdb_core::Refusal;
+use scripts::{HeaderFault, Opened, Sink};
+use server::{OpenGate, ServerFault, Shifts, serve_on};
+use std::alloc::Global;
+use std::io;
+use std::net::{Net, SocketAddr, TcpListener, TcpStream};
+use std::sync::Wait;
+use std::thread::Threads;
+use std::time::Clock;
+
+/// Serves the database that the files open, or prints why they open none.
+pub fn serve<
+    R: Net<Listener = TcpListener, Stream = TcpStream> + Threads + Wait + Clock + Sync,
+    F: Files,
+    W: Sink,
+    E: io::Write,
+>(
+    rt: &R,
+    alloc: Global,
+    files: &F,
+    options: &ServeOptions<'_>,
+    output: &mut Printing<W>,
+    faults: &mut E,
+) -> u8
+    requires { W.failed output.old.sink ≡ false }
+    ensures served { HasServed (F.bytes files.now) (served_by options.now) (W.written output.old.sink) (W.written output.new.sink) result }
+    ensures broken { W.failed output.new.sink ≡ true → result ≡ failed }
+{
+    match read_contents(alloc, files, options, faults) {
+        Ok(contents) => match open_contents(alloc, &contents) {
+            Ok(opened) => listen(rt, alloc, opened, options, output, faults),
+            Err(fault) => refuse(alloc, &fault, &mut output.sink, faults),
+        },
+        Err(status) => status,
+    }
+}
+
+// Listens on the port, and serves.
+fn listen<
+    R: Net<Listener = TcpListener, Stream = TcpStream> + Threads + Wait + Clock + Sync,
+    W: Sink,
+    E: io::Write,
+>(
+    rt: &R,
+    alloc: Global,
+    opened: Opened,
+    options: &ServeOptions<'_>,
+    output: &mut Printing<W>,
+    faults: &mut E,
+) -> u8
+    requires { W.failed output.old.sink ≡ false }
+    ensures served { ((result ≡ done) × IsServed opened (W.written output.old.sink) (W.written output.new.sink)) ⊎ ((result ≡ failed) ⊎ (result ≡ no_memory)) }
+    ensures broken { W.failed output.new.sink ≡ true → result ≡ failed }
+{
+    let Opened { core, tokens } = opened;
+    let address = SocketAddr::from(([127, 0, 0, 1], options.port));
+    let Ok(listener) = TcpListener::bind(rt, address) else {
+        return no_listener(faults);
+    };
+    let Ok((hall, seat)) = Hall::new(alloc, core) else {
+        return out_of_memory(faults);
+    };
+    let shifts = Shifts {
+        workers: options.workers,
+        rounds: options.rounds,
+    };
+    let end = serve_on(
+        rt, alloc, &listener, hall, seat, &tokens, &OpenGate, shifts, output,
+    );
+    match end {
+        Ok(()) => DONE,
+        Err(ServerFault::Listener) => no_listener(faults),
+        Err(ServerFault::Output) => no_output(faults),
+        Err(ServerFault::NoMemory) => out_of_memory(faults),
+    }
+}
+
+// Reports that nothing listens.
+fn no_listener<E: io::Write>(faults: &mut E) -> u8
+    ensures { result ≡ failed }
+{
+    let _told = writeln!(faults, "rtdb: can't listen");
+    FAILED
+}
+
+// Prints why files open no database.
+fn refuse<W: Sink, E: io::Write>(
+    alloc: Global,
+    fault: &HeaderFault,
+    output: &mut W,
+    faults: &mut E,
+) -> u8
+    requires { W.failed output.old ≡ false }
+    ensures told { IsTold fault.now (W.written output.old) (W.written output.new) result }
+    ensures broken { W.failed output.new ≡ true → result ≡ failed }
+{
+    match refusal(alloc, fault) {
+        Ok(refusal) => print(&refusal, output, faults),
+        Err(_) => out_of_memory(faults),
+    }
+}
+
+// The line that tells a fault, and the status that goes with it.
+fn refusal(alloc: Global, fault: &HeaderFault) -> Result<Told, NoMemory>
+    ensures line { IfOk result (λ refusal. refusal.line.items ≡ as_line (header_fault_text fault.now)) }
+    ensures status { IfOk result (λ refusal. refusal.status ≡ refused) }
+{
+    let mut out = AnswerWriter::new(alloc);
+    put_fault(fault, &mut out)?;
+    Ok(Told {
+        line: as_line(out.end())?,
+        status: REFUSED,
+    })
+}
+
+fn put_fault(fault: &HeaderFault, out: &mut AnswerWriter) -> Result<(), NoMemory>
+    ensures before { out.new.before ≡ out.old.before }
+    ensures text { OnOk result (out.new.text ≡ out.old.text ++ header_fault_text fault.now) }
+{
+    match fault {
+        HeaderFault::Line(fault) | HeaderFault::Data(fault) => out.put_fault(*fault),
+        HeaderFault::Rules(fault) => out.put_rules_fault(fault),
+        HeaderFault::BadTokens => out.put_bad_tokens(),
+        HeaderFault::TreeFull => out.put_refusal(&Refusal::TreeFull),
+    }
+}
