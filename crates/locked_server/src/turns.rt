@@ -25,8 +25,9 @@ pub(crate) type Pass = Seat<Slot, View>;
 /// profile.)
 pub const MAX_ENTRIES: u64 = 1 << 62;
 
-/// Draws the next ticket, None where that is `limit` or more. A try that fails tells which ticket is the next: so does
-/// the first, of ticket 0; a later one fails only where another seat has drawn that ticket.
+/// Draws the next ticket once all that were drawn are used up, None where it is `limit` or more. Whoever drew one behind
+/// others would wait for each of them, also for one whose thread has no processor; so a seat looks until nobody has a
+/// turn, which is no step, and then tries, which fails only where another seat was first.
 pub(crate) fn take_ticket<R: Wait>(
     rt: &R,
     words: &Words,
@@ -38,16 +39,19 @@ pub(crate) fn take_ticket<R: Wait>(
     ensures hall { (pass.new.table_id ≡ pass.old.table_id) × (pass.new.me.1 ≡ pass.old.me.1) }
     ensures ticket { MatchOption result (pass.new.me.0 ≡ pass.old.me.0) (λ t. (t < limit) × (pass.new.me.0 ≡ with_ticket pass.old.me.0 t)) }
 {
-    let mut ticket = 0;
+    let mut patience = Patience::new();
     for _ in rt.forever() {
+        let ticket = words.peek(1);
         if ticket >= limit {
             return None;
         }
-        let found = words.compare_exchange::<Draw>(pass, 1, ticket, ticket + 1);
-        if found == ticket {
-            return Some(ticket);
+        if words.peek(0) >= ticket {
+            let found = words.compare_exchange::<Draw>(pass, 1, ticket, ticket + 1);
+            if found == ticket {
+                return Some(ticket);
+            }
         }
-        ticket = found;
+        patience.pause();
     }
     unreachable!()
 }
