@@ -66,7 +66,7 @@ pub fn command<
     ensures order { (wanted : Wanted) → AreOrder (map string_bytes words.now) wanted
         → HasDone (F.bytes files.now) wanted (record { left = I.left input.old; source = record { left = I.left input.new; failed = I.failed input.new; reads = I.reads input.new }; before = W.written output.old.sink; after = W.written output.new.sink; has_failed = W.failed output.new.sink }) result
         ⊎ ((result ≡ no_memory) × Appends (W.written output.old.sink) (W.written output.new.sink) []) }
-    // An output that failed is told.
+    // An output that failed is reported.
     ensures broken { W.failed output.new.sink ≡ true → result ≡ failed }
     // Words that are none are refused, and nothing is printed.
     ensures fault { fault_of the_program (map string_bytes words.now) ≢ []
@@ -77,7 +77,7 @@ pub fn command<
         Ok(Order::Run) => run(alloc, input, &mut output.sink, faults),
         Ok(Order::Serve(options)) => serve(rt, alloc, files, &options, output, faults),
         Err(LineFault::Line(error)) => {
-            let _told = write!(faults, "{error}");
+            let _reported = write!(faults, "{error}");
             BAD_LINE
         }
         Err(LineFault::NoMemory) => out_of_memory(faults),
@@ -153,7 +153,7 @@ fn check<F: Files, W: Sink, E: io::Write>(
             Err(_) => out_of_memory(faults),
         },
         Err(ReadFault::Unreadable) => {
-            let _told = writeln!(faults, "rtdb: can't read {name}");
+            let _reported = writeln!(faults, "rtdb: can't read {name}");
             FAILED
         }
         Err(ReadFault::NoMemory) => out_of_memory(faults),
@@ -207,6 +207,6 @@ pub(crate) fn print<W: Sink, E: io::Write>(answer: &Told, output: &mut W, faults
 pub(crate) fn no_output<E: io::Write>(faults: &mut E) -> u8
     ensures { result ≡ failed }
 {
-    let _told = writeln!(faults, "rtdb: input or output failed");
+    let _reported = writeln!(faults, "rtdb: input or output failed");
     FAILED
 }

@@ -60,7 +60,7 @@ impl<'a> io::Read for Pieces<'a> {
     }
 }
 
-/// What was printed, or told of faults: at most so many bytes, after which a write fails.
+/// What was printed, or reported of faults: at most so many bytes, after which a write fails.
 #[derive(Drop)]
 struct Printed {
     bytes: Vec<u8>,
@@ -93,7 +93,7 @@ const SCRIPT: &[u8] = br#"{"rules":"{\"rules\":{\".read\":true}}"}
 "#;
 
 /// The words behind the program's name, the input, how much the output takes, what it then has, what
-/// is told of faults, and the status.
+/// is reported of faults, and the status.
 type Row<'a> = (&'a [&'a str], &'a [u8], usize, &'a str, &'a str, u8);
 
 const ROWS: [Row<'static>; 14] = [

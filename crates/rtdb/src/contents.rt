@@ -17,7 +17,7 @@ use std::io;
 pub const MOST_BYTES: usize = usize::MAX;
 
 /// The bytes of a server's files, read in the order rules, opening tree, tokens; or the status where one is not
-/// read, which is told.
+/// read, which is reported.
 pub fn read_contents<F: Files, E: io::Write>(
     alloc: Global,
     files: &F,
@@ -66,7 +66,7 @@ fn read_file<F: Files, E: io::Write>(
     match files.read(alloc, name, limit) {
         Ok(bytes) => Ok(bytes),
         Err(ReadFault::Unreadable) => {
-            let _told = writeln!(faults, "rtdb: can't read {name}");
+            let _reported = writeln!(faults, "rtdb: can't read {name}");
             Err(FAILED)
         }
         Err(ReadFault::NoMemory) => Err(out_of_memory(faults)),

@@ -57,6 +57,6 @@ fn words_of(rt: &HostRuntime) -> io::Result<Vec<String>> {
 
 // Says that the words are no text. That saying so may fail changes nothing.
 fn refuse(rt: &HostRuntime) -> u8 {
-    let _told = eprintln!(rt; "rtdb: the words of the command line are no text");
+    let _reported = eprintln!(rt; "rtdb: the words of the command line are no text");
     BAD_LINE
 }

@@ -35,7 +35,7 @@ pub fn open_contents(alloc: Global, contents: &Contents) -> Result<Opened, Heade
 {
     let opening = opening_value(alloc, contents.data_bytes.as_ref())?;
     let rules = compile(alloc, &contents.rules)?;
-    // They are read before the tree is made, and their fault is told behind that of the tree.
+    // They are read before the tree is made, and their fault comes behind that of the tree.
     let tokens = opening_tokens(alloc, contents.tokens.as_ref());
     open(alloc, rules, opening, tokens)
 }

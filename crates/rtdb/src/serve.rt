@@ -96,7 +96,7 @@ fn listen<
 fn no_listener<E: io::Write>(faults: &mut E) -> u8
     ensures { result ≡ failed }
 {
-    let _told = writeln!(faults, "rtdb: can't listen");
+    let _reported = writeln!(faults, "rtdb: can't listen");
     FAILED
 }
 
