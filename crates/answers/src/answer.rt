@@ -2,6 +2,7 @@
 //! names, and no line feed.
 ghost use Rattle.std.specs.Prelude.{◌≡◌, ◌++◌, [], option_map, IfOk, OnOk};
 ghost use Rattle.serde_json.specs.View.{view};
+ghost use Rattle.rtdb_model.specs.Borrowed.{reply_of, refusal_of};
 ghost use Rattle.answers.specs.AnswerText.{text, fault_text, rules_fault_text, bad_tokens_text, unknown_token_text, line_fault_text, accepted_text, message_code, plain_data, placed_data, accepted_data, rule_data, byte_data, what_data, rule_fault_data, rules_fault_data};
 
 use crate::answer_writer::AnswerWriter;
@@ -10,7 +11,7 @@ use arena_snapshot::View;
 use json_lines::MessageFault;
 use json_tree::{NoMemory, Node};
 use requests::LineFault;
-use rtdb_model::{Refusal, Reply};
+use rtdb_model::{BorrowedRefusal, BorrowedReply, Refusal, Reply};
 use rules_reader::{RuleFault, RuleName, RulesFault};
 use serde_json::{Value, json};
 use std::alloc::Global;
@@ -72,9 +73,7 @@ impl AnswerWriter {
         self.piece(b"{\"ok\":true}")
     }
 
-    /// Writes the text of the value that stands in a tree, in one pass over it: what a reply that has this tree
-    /// says, with no copy of it.
-    pub fn put_value(&mut self, tree: Option<&Node>) -> Result<(), NoMemory>
+    fn put_value(&mut self, tree: Option<&Node>) -> Result<(), NoMemory>
         ensures before { self.new.before ≡ self.old.before }
         ensures text { OnOk result (self.new.text ≡ self.old.text ++ text (Reply.Value (option_map (λ node. node.now) tree.entry))) }
     {
@@ -83,15 +82,39 @@ impl AnswerWriter {
         self.piece(b"}")
     }
 
-    /// Writes the text of the value that a view shows, in one pass over it: what a reply that has this tree says,
-    /// with no copy of it.
-    pub fn put_selected(&mut self, view: Option<&View>) -> Result<(), NoMemory>
+    /// Writes the text of a reply that is borrowed, in one pass over what it has, with no copy of a tree.
+    pub fn put_borrowed_reply(&mut self, reply: &BorrowedReply<'_>) -> Result<(), NoMemory>
+        ensures before { self.new.before ≡ self.old.before }
+        ensures text { OnOk result (self.new.text ≡ self.old.text ++ text (reply_of reply.now)) }
+    {
+        match reply {
+            BorrowedReply::Done => self.put_done(),
+            BorrowedReply::Value(view) => self.put_view(view.as_ref()),
+            BorrowedReply::News(tidings) => self.put_tidings(tidings),
+        }
+    }
+
+    fn put_view(&mut self, view: Option<&View>) -> Result<(), NoMemory>
         ensures before { self.new.before ≡ self.old.before }
         ensures text { OnOk result (self.new.text ≡ self.old.text ++ text (Reply.Value (option_map (λ view. view.now) view.entry))) }
     {
         self.piece(b"{\"ok\":true,\"value\":")?;
         self.view(view)?;
         self.piece(b"}")
+    }
+
+    /// Writes the text of a refusal that is borrowed, in one pass over what it names, with no copy of a pattern. It
+    /// takes memory for the text of a place.
+    #[tactic(auto, unfolding(crate::specs::AnswerText::text))]
+    pub fn put_borrowed_refusal(&mut self, refusal: &BorrowedRefusal<'_>) -> Result<(), NoMemory>
+        ensures before { self.new.before ≡ self.old.before }
+        ensures text { OnOk result (self.new.text ≡ self.old.text ++ text (Reply.Refused (refusal_of refusal.now))) }
+    {
+        match refusal {
+            BorrowedRefusal::ReadDenied(names) => self.put_read_denied(names),
+            BorrowedRefusal::WriteDenied(at, names) => self.put_write_denied(at, names),
+            BorrowedRefusal::Other(refusal) => self.refusal(refusal),
+        }
     }
 
     /// Writes the text of a refusal, in one pass over what it names.

@@ -34,7 +34,7 @@ impl AnswerWriter {
 
     /// Writes the text of the reply that a poll is given with these tidings, in one pass over what they tell,
     /// with no copy of a tree.
-    pub fn put_tidings(&mut self, tidings: &Tidings) -> Result<(), NoMemory>
+    pub(crate) fn put_tidings(&mut self, tidings: &Tidings) -> Result<(), NoMemory>
         ensures before { self.new.before ≡ self.old.before }
         ensures text { OnOk result (self.new.text ≡ self.old.text ++ text (Told tidings.now)) }
     {

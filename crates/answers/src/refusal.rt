@@ -84,7 +84,7 @@ impl AnswerWriter {
 
     /// Writes the text of the reply to a read that is denied with these names, with no copy of a pattern.
     #[tactic(auto, unfolding(crate::specs::AnswerText::text))]
-    pub fn put_read_denied(&mut self, names: &BorrowedNames<'_>) -> Result<(), NoMemory>
+    pub(crate) fn put_read_denied(&mut self, names: &BorrowedNames<'_>) -> Result<(), NoMemory>
         ensures before { self.new.before ≡ self.old.before }
         ensures text { OnOk result (self.new.text ≡ self.old.text ++ text (Reply.Refused (Refusal.ReadDenied names.now))) }
     {
@@ -96,7 +96,11 @@ impl AnswerWriter {
     /// Writes the text of the reply to a write at this location that is denied with these names, with no copy of a
     /// pattern. It takes memory for the text of the location.
     #[tactic(auto, unfolding(crate::specs::AnswerText::text))]
-    pub fn put_write_denied(&mut self, at: &Path, names: &BorrowedNames<'_>) -> Result<(), NoMemory>
+    pub(crate) fn put_write_denied(
+        &mut self,
+        at: &Path,
+        names: &BorrowedNames<'_>,
+    ) -> Result<(), NoMemory>
         ensures before { self.new.before ≡ self.old.before }
         ensures text { OnOk result (self.new.text ≡ self.old.text ++ text (Reply.Refused (Refusal.WriteDenied at.now names.now))) }
     {

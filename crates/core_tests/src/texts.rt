@@ -5,7 +5,7 @@ use evaluator::{Claims, Identity};
 use json_tree::{NoMemory, Node, ValueFault, from_json, to_json};
 use listeners::{ListenerId, Query, QueryFault};
 use path_capture::{Path, Write};
-use rtdb_core::{Event, Writes};
+use rtdb_core::{Event, Removal, Writes};
 use serde_json::Value;
 use std::alloc::Global;
 use std::test::Fail;
@@ -56,7 +56,7 @@ pub(crate) fn event_of(alloc: Global, ask: Ask<'_>) -> Result<Event, Fail> {
         Ask::SignOut => Ok(Event::SignOut),
         Ask::Get(read) => get_of(alloc, read),
         Ask::Set(put) => Ok(Event::Set(write_of(alloc, put)?)),
-        Ask::Remove(path) => Ok(Event::Remove(Path::parse(alloc, path)?)),
+        Ask::Remove(path) => Ok(Event::Remove(Removal::of(Path::parse(alloc, path)?))),
         Ask::Update(text) => update_of(alloc, text),
         Ask::Listen(id, read) => listen_of(alloc, id, read),
         Ask::Unlisten(id) => Ok(Event::Unlisten(id_of(id)?)),

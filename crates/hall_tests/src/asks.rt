@@ -4,7 +4,7 @@ use evaluator::{Claims, Identity};
 use json_tree::{Leaf, Node, Number};
 use listeners::{ListenerId, Query};
 use path_capture::{Path, Write};
-use rtdb_core::{Event, Writes};
+use rtdb_core::{Event, Removal, Writes};
 use serde_json::Value;
 use std::alloc::Global;
 use tree_model::MAX_TEXT_BYTES;
@@ -58,7 +58,7 @@ fn event_at(alloc: Global, number: u64, ask: Ask<'_>) -> Option<Event> {
             Event::Get(path_of(alloc, number, path)?, Some(query_of(alloc, query)?))
         }
         Ask::Set(path, value) => Event::Set(write_of(alloc, number, path, value)?),
-        Ask::Remove(path) => Event::Remove(path_of(alloc, number, path)?),
+        Ask::Remove(path) => Event::Remove(Removal::of(path_of(alloc, number, path)?)),
         Ask::Update(paths) => Event::Update(writes_of(alloc, number, paths)?),
         Ask::Listen(id, path) => {
             Event::Listen(ListenerId::new(id)?, path_of(alloc, number, path)?, None)

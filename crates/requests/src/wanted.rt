@@ -9,10 +9,12 @@ ghost use Rattle.json_lines.specs.MemberName.{name_text};
 ghost use Rattle.json_lines.specs.Outline.{object_data, source_data, message_data};
 
 use crate::message::{Text, Verb, Wanted};
-use json_lines::{MemberName, Message, MessageFault, Object, Part, Source, path_of, write_at};
+use json_lines::{
+    MemberName, MemberValue, Message, MessageFault, Object, Source, path_of, write_at,
+};
 use listeners::{ListenerId, Query, QueryFault};
 use path_capture::Path;
-use rtdb_model::{Event, Writes};
+use rtdb_model::{Event, Removal, Writes};
 use serde_json::Value;
 use std::alloc::Global;
 
@@ -37,7 +39,7 @@ pub(crate) fn wanted_by(
         Verb::Set => set_of(alloc, message),
         Verb::Remove => {
             let path = path_in(alloc, source)?;
-            Ok(Wanted::Step(Event::Remove(path)))
+            Ok(Wanted::Step(Event::Remove(Removal::of(path))))
         }
         Verb::Update => update_of(alloc, message),
         Verb::Listen => listen_of(alloc, source),
@@ -171,7 +173,7 @@ fn update_of(alloc: Global, message: &mut Message<'_>) -> Result<Wanted, Message
     };
     if source
         .get(MemberName::Values)
-        .and_then(Part::object)
+        .and_then(MemberValue::object)
         .is_none()
     {
         return Err(MessageFault::BadRequest);

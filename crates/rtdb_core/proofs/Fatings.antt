@@ -1,19 +1,18 @@
 -- What is decided of listeners and then made is what judging them again makes.
-use Rattle.std.proofs.Common.{◌≡◌, ℕ, zero, suc, ◌+◌, ◌^◌, ◌<◌, ◌≤◌, Bool, true, false, not, ◌&&◌, ◌||◌, cond, eqb, List, [], ◌∷◌, ◌++◌, map, length, take, drop, Option, Some, None, sym, ap, subst, ◌∙◌, refl, arith, append_assoc, length-append, append-nil}
-use Rattle.std.proofs.lemmas.Bool.{eq-eqb, eqb-true, ltb-false}
+use Rattle.std.proofs.Common.{◌≡◌, ℕ, zero, suc, ◌+◌, ◌^◌, ◌<◌, ◌≤◌, Bool, true, false, not, ◌&&◌, cond, eqb, List, [], ◌∷◌, ◌++◌, map, length, take, drop, Option, Some, None, sym, ap, subst, ◌∙◌, refl, arith, append_assoc, length-append, append-nil}
+use Rattle.std.proofs.lemmas.Bool.{eq-eqb, eqb-true}
 use Rattle.std.proofs.lemmas.List.{length-map}
-use Rattle.std.specs.Prelude.{nat_lt, slice_get, slice_set, IfSome}
-use Rattle.std.specs.List.{cons_option, list_any}
+use Rattle.std.specs.Prelude.{slice_get, slice_set, IfSome}
+use Rattle.std.specs.List.{cons_option}
 use Rattle.std.specs.FinMap as map_of
 use Rattle.evaluator.specs.Identity.{Identity}
 use Rattle.tree_model.specs.Path.{Path}
 use Rattle.tree_model.specs.Tree.{Tree}
-use Rattle.rules_reader.specs.Book.{Book}
 use Rattle.listeners.specs.Query.{Query}
 use Rattle.listeners.specs.Table.{Listener}
 use Rattle.rtdb_model.specs.State.{State, Session, scene_for}
 use Rattle.rtdb_model.specs.Rejudged.{hears, moves, judged, judged_again, rejudged, all_rejudged}
-use Rattle.rtdb_core.specs.Working.Fates.{fate_by, fated_live, fated, fate_of, sparse, front, behind, next_place, settled, left_of, with_listeners, settled_all, fates_of, all_sessions, listens, with_settled}
+use Rattle.rtdb_core.specs.Working.Fates.{fate_by, fated_live, fated, fate_of, sparse, front, behind, next_place, settled, left_of, with_listeners, settled_all, fates_of, all_sessions, with_settled}
 use Rattle.rtdb_model.specs.Step.{told, news_of}
 use Rattle.rtdb_model.specs.declared.news.Notice.{Notice}
 use Rattle.rtdb_core.specs.declared.fates.Fate.{Fate}
@@ -122,30 +121,6 @@ module _ (old : Tree) (new : State) (now : ℕ) where
   state_made ds is lt =
       ap (λ (es : List (ℕ × Session)). record { tree = new.tree; rules = new.rules; sessions = map_of.from_entries es })
       (ap (λ (d : List Decision). settled_all 0 d (map_of.entries new.sessions)) is ∙ all_made 0 (map_of.entries new.sessions) (omega (arith, lt)))
-
--- where nobody listens, nothing is decided
-none_of : {A : Type 0} (xs : List A) → nat_lt 0 (length xs) ≡ false → xs ≡ []
-none_of [] h = refl
-none_of (x ∷ xs) h = absurd (some (ltb-false 0 (length (x ∷ xs)) h))
-  where
-    some : length (x ∷ xs) ≤ 0 → ⊥
-    some le = omega arith
-
-pub nobody_listens : (old : Tree) (rules : Book) (new : Tree) (now : ℕ) (ss : List Session) → list_any listens ss ≡ false → fates_of old rules new now ss ≡ []
-nobody_listens old rules new now [] h = refl
-nobody_listens old rules new now (one ∷ others) h =
-    (λ i. map (fate_of old rules new now one.identity) (none_of one.listeners (first_no (listens one) (list_any listens others) h) i) ++ nobody_listens old rules new now others (second_no (listens one) (list_any listens others) h) i)
-  where
-    first_no : (a b : Bool) → (a || b) ≡ false → a ≡ false
-    first_no true b h = h
-    first_no false b h = refl
-
-    second_no : (a b : Bool) → (a || b) ≡ false → b ≡ false
-    second_no true b h = absurd (true_no h)
-      where
-        true_no : true ≡ false → ⊥
-        true_no e = cc
-    second_no false b h = h
 
 -- ---- a walk along a table
 

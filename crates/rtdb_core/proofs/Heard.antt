@@ -1,11 +1,10 @@
 -- Each step leaves no live listener whose read was not granted.
 use Rattle.std.proofs.Common.{◌≡◌, ℕ, Bool, true, false, not, cond, eqb, leb, List, [], ◌∷◌, ◌++◌, length, get_or, Option, Some, None, inl, inr, sym, ap, subst, ◌∙◌, refl}
 use Rattle.std.proofs.lemmas.List.Elements.{All-nil, All-push, All-map, All-filter}
-use Rattle.std.specs.Prelude.{◌==◌, ⊤, Result, Ok, Err, OnOk, OnErr, filter, bytes_eq}
+use Rattle.std.specs.Prelude.{◌==◌, filter, bytes_eq}
 use Rattle.std.specs.Cmp.{second_so}
 use Rattle.std.specs.FinMap as map_of
 use Rattle.std.specs.Ordering.{nat_cmp}
-use Rattle.json_tree.specs.declared.memory.NoMemory.{NoMemory}
 use Rattle.tree_model.specs.Path.{Path}
 use Rattle.tree_model.specs.Tree.{Tree}
 use Rattle.tree_model.specs.Write.{Write, overlaps}
@@ -30,7 +29,7 @@ use Rattle.rtdb_model.specs.declared.reply.Refusal.TheVariants.{SessionOpen, Too
 use Rattle.rtdb_model.specs.declared.reply.Reply.{Reply}
 use Rattle.rtdb_model.specs.State.{State, opening, is_open, identity_of, listeners_in, listeners_of, is_admin, scene_at}
 use Rattle.rtdb_model.specs.Rejudged.{asked_for, hears, moves, judged, judged_again, all_rejudged}
-use Rattle.rtdb_model.specs.Step.{Outcome, refused, unless_refused, denial, read_refusal, write_refusal, closed, with_session, own_again, signs, tree_with, makes, polls, sets, removal, listens, outcome, Step}
+use Rattle.rtdb_model.specs.Step.{Outcome, refused, unless_refused, denial, read_refusal, write_refusal, closed, with_session, own_again, signs, tree_with, makes, sets, removal, listens, outcome, Step}
 use Rattle.rtdb_core.specs.Working.Fates.{scene_by}
 use Rattle.rtdb_core.specs.Working.Heard.{IsHeard, AreHeard, AllHeard}
 use Rattle.rtdb_model.proofs.Slots.{listeners-with, identity-with, listeners-without, identity-without, listeners-again, identity-again}
@@ -132,7 +131,7 @@ module _ (old : State) (now n : ℕ) (heard : AllHeard old) where
       (All-push (IsHeard old.rules old.tree (identity_of old n)) (listeners_of old n) (begun id path query) (heard n)
       (λ _. (now, granted_where_not_refused old now n path query none)))))))
 
-  outcome_heard : (event : Event) → AllHeard (outcome old now n event).after
+  pub outcome_heard : (event : Event) → AllHeard (outcome old now n event).after
   outcome_heard Open =
       test_heard (is_open old n) SessionOpen _
       (test_heard (leb MAX_SESSIONS (map_of.len old.sessions)) TooManySessions _
@@ -170,15 +169,6 @@ pub step_heard : (old : State) (now session : ℕ) (event : Event) (reply : Repl
 unfolding Step
 step_heard old now session event reply new heard (inl h) = subst (λ (o : Outcome). AllHeard o.after) h (outcome_heard old now session heard event)
 step_heard old now session event reply new heard (inr h) = subst AllHeard (sym h.1) heard
-
--- the end of a poll, or nothing
-pub poll_heard : (old new : State) (now session : ℕ) (result : Result ⊤ NoMemory) → AllHeard old → OnOk result (new ≡ (polls old now session).after) → OnErr result (new ≡ old) → AllHeard new
-poll_heard old new now session (Ok x) heard done kept = subst AllHeard (sym done) (outcome_heard old now session heard Poll)
-poll_heard old new now session (Err e) heard done kept = subst AllHeard (sym kept) heard
-
-pub made_heard : (old new : State) (now session : ℕ) (write : Write) (result : Result ⊤ NoMemory) → AllHeard old → OnOk result (new ≡ (sets old now session write).after) → OnErr result (new ≡ old) → AllHeard new
-made_heard old new now session write (Ok x) heard done kept = subst AllHeard (sym done) (outcome_heard old now session heard (Set write))
-made_heard old new now session write (Err e) heard done kept = subst AllHeard (sym kept) heard
 
 pub opening_heard : (rules : Book) (tree : Tree) → AllHeard (opening rules tree)
 opening_heard rules tree n = subst (AreHeard rules tree (identity_of (opening rules tree) n)) (sym (ap listeners_in (map_of.get-empty nat_cmp n))) (All-nil (IsHeard rules tree (identity_of (opening rules tree) n)))

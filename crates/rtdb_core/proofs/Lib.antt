@@ -16,3 +16,5 @@ pub mod Ending
 pub mod Deciding
 pub mod Finding
 pub mod Selecting
+pub mod Copying
+pub mod Committing

@@ -1,9 +1,9 @@
 -- Why reads and writes are refused, from their verdicts.
-use Rattle.std.proofs.Common.{◌≡◌, ◌∷◌, [], ℕ, Bool, List, map, true, false, not, cond, Some, None, Option, inl, inr, option_map, sym, ap, subst, refl, ◌∙◌}
+use Rattle.std.proofs.Common.{◌≡◌, ◌≤◌, ◌∷◌, [], ℕ, Bool, List, map, true, false, not, cond, Some, None, Option, inl, inr, option_map, sym, ap, subst, refl, ◌∙◌}
 use Rattle.std.specs.Prelude.{MatchOption}
 use Rattle.std.specs.Borrow.{Bor}
 use Rattle.tree_model.specs.Path.{Path}
-use Rattle.tree_model.specs.Tree.{Tree, non_null}
+use Rattle.tree_model.specs.Tree.{Tree, non_null, count}
 use Rattle.tree_model.specs.Write.{Write, location, proposed}
 use Rattle.path_capture.specs.Write.{tree_or_null}
 use Rattle.arena_snapshot.specs.View.{node_or_null}
@@ -19,14 +19,20 @@ use Rattle.judge.specs.declared.verdict.Verdict.TheVariants as verdicts
 use Rattle.judge.proofs.Coming.{is_proposed}
 use Rattle.judge.proofs.Verdicts.{reads_decided, one_verdict}
 use Rattle.listeners.specs.Query.{Query}
-use Rattle.rtdb_model.specs.declared.event.Event.TheVariants.{Set}
+use Rattle.rtdb_model.specs.declared.borrowed.BorrowedRefusal.{BorrowedRefusal}
+use Rattle.rtdb_model.specs.declared.limits.TheConstants.{MAX_LOCATIONS}
 use Rattle.rtdb_model.specs.declared.reply.Refusal.{Refusal}
-use Rattle.rtdb_model.specs.declared.reply.Refusal.TheVariants.{NoSession, NoMemory, ReadDenied, WriteDenied}
+use Rattle.rtdb_model.specs.declared.reply.Refusal.TheVariants.{NoSession, ReadDenied, WriteDenied}
+use Rattle.rtdb_model.specs.declared.reply.Reply.{Reply}
 use Rattle.rtdb_model.specs.declared.reply.Reply.TheVariants.{Done, Refused}
+use Rattle.rtdb_model.specs.Borrowed.{reply_of, refusal_of}
 use Rattle.rtdb_model.specs.State.{State, is_open, identity_of, scene_for}
 use Rattle.rtdb_model.specs.Rejudged.{asked_for}
-use Rattle.rtdb_model.specs.Step.{refused, unless_refused, denial, full, or_full, tree_with, written_to, read_refusal, write_refusal, value_at, gets, sets, makes, Step}
-use Rattle.rtdb_core.specs.Working.Fates.{read_refusal_for, verdict_for, write_refusal_for}
+use Rattle.rtdb_model.specs.Step.{Outcome, refused, unless_refused, denial, full, or_full, tree_with, written_to, read_refusal, write_refusal, value_at, gets, sets, makes}
+use Rattle.rtdb_core.specs.declared.plan.Found.{Found}
+use Rattle.rtdb_core.specs.Working.Fates.{with_settled, with_tree, read_refusal_for, verdict_for, write_refusal_for}
+use Rattle.rtdb_core.specs.Working.Plans.{Comes, Refuses, IsGranted, AreGranted, IsRefused, CanBeMade}
+use Rattle.rtdb_core.proofs.Room.{has_room}
 
 -- ---- reads
 
@@ -50,11 +56,15 @@ module _ (old : State) (now session : ℕ) (who : Option Identity) (path : Path)
   gets_as : gets old now session path query ≡ unless_refused old (read_refusal_for old now who path query) (value_at old path query)
   gets_as = λ i. cond (not (sym opened i)) (refused old NoSession) (unless_refused old (sym (reads_as old now session who path query is) i) (value_at old path query))
 
-  pub get_refused : (refusal : Refusal) → read_refusal_for old now who path query ≡ Some refusal → gets old now session path query ≡ refused old refusal
-  get_refused refusal h = gets_as ∙ ap (λ (o : Option Refusal). unless_refused old o (value_at old path query)) h
+  pub get_refuses : (refusal : BorrowedRefusal) → IsRefused (read_refusal_for old now who path query) refusal → Refuses old (gets old now session path query) (not (is_open old session)) (refusal_of refusal)
+  get_refuses refusal (inl h) = inl (gets_as ∙ ap (λ (o : Option Refusal). unless_refused old o (value_at old path query)) h)
+  get_refuses refusal (inr h) = inr (ap Refused h, refl, ap not (sym opened))
 
-  pub get_granted : read_refusal_for old now who path query ≡ None → gets old now session path query ≡ value_at old path query
-  get_granted h = gets_as ∙ ap (λ (o : Option Refusal). unless_refused old o (value_at old path query)) h
+  pub get_comes : (found : Found) → IsGranted old now who path query found → Comes (gets old now session path query) found old
+  get_comes found g =
+      gets_as
+      ∙ ap (λ (o : Option Refusal). unless_refused old o (value_at old path query)) g.granted
+      ∙ ap (λ (r : Reply). let o : Outcome = record { reply = r; after = old } in o) (sym g.value)
 
 -- ---- writes
 
@@ -82,40 +92,36 @@ module _ (old : State) (now session : ℕ) (who : Option Identity) (ws : List Wr
   unfolding write_refusal write_refusal_for
   writes_as = ap (λ (w : Option Identity). or_full (denial (verdict_for old now w ws)) (tree_with old ws)) is
 
-  pub refused_write : (refusal : Refusal) → write_refusal_for old now who ws ≡ Some refusal → makes old now session ws ≡ refused old refusal
-  refused_write refusal h = ap (λ (o : Option Refusal). unless_refused old o (record { reply = Done; after = written_to old now ws })) (sym writes_as ∙ h)
+  abbrev done_with : Option Refusal → Outcome
+  done_with o = unless_refused old o (record { reply = Done; after = written_to old now ws })
 
-  pub granted_write : (new : State) → write_refusal_for old now who ws ≡ None → new ≡ written_to old now ws → makes old now session ws ≡ record { reply = Done; after = new }
-  granted_write new h made =
-      ap (λ (o : Option Refusal). unless_refused old o (record { reply = Done; after = written_to old now ws })) (sym writes_as ∙ h)
-      ∙ ap (λ (s : State). record { reply = Done; after = s }) (sym made)
+  pub writes_refuse : (takes : Bool) → takes ≡ false → (refusal : BorrowedRefusal) → IsRefused (write_refusal_for old now who ws) refusal → Refuses old (makes old now session ws) takes (refusal_of refusal)
+  writes_refuse takes t refusal (inl h) = inl (ap done_with (sym writes_as ∙ h))
+  writes_refuse takes t refusal (inr h) = inr (ap Refused h, refl, t)
 
-  module _ (opened : true ≡ is_open old session) where
-    sets_as : (write : Write) → sets old now session write ≡ makes old now session (write ∷ [])
-    sets_as write = ap (λ (b : Bool). cond (not b) (refused old NoSession) (makes old now session (write ∷ []))) (sym opened)
+  pub writes_come : (found : Found) → AreGranted old now who ws found → Comes (makes old now session ws) found (with_settled (with_tree old ws) found.decisions.made.items)
+  writes_come found g =
+      ap done_with (sym writes_as ∙ g.granted)
+      ∙ (λ i. let o : Outcome = record { reply = reply_of (sym g.done i); after = sym g.decided i } in o)
 
-    pub set_refused : (write : Write) → ws ≡ write ∷ [] → (refusal : Refusal) → write_refusal_for old now who ws ≡ Some refusal → sets old now session write ≡ refused old refusal
-    set_refused write one refusal h = sets_as write ∙ ap (makes old now session) (sym one) ∙ refused_write refusal h
+-- one write of an open session
+module _ (old : State) (now session : ℕ) (who : Option Identity) (ws : List Write) (write : Write) (is : who ≡ identity_of old session) (opened : true ≡ is_open old session) (one : ws ≡ write ∷ []) where
+  sets_as : sets old now session write ≡ makes old now session ws
+  sets_as =
+      ap (λ (b : Bool). cond (not b) (refused old NoSession) (makes old now session (write ∷ []))) (sym opened)
+      ∙ ap (makes old now session) (sym one)
 
-    pub set_granted : (write : Write) → ws ≡ write ∷ [] → (new : State) → write_refusal_for old now who ws ≡ None → new ≡ written_to old now ws → sets old now session write ≡ record { reply = Done; after = new }
-    set_granted write one new h made = sets_as write ∙ ap (makes old now session) (sym one) ∙ granted_write new h made
+  pub set_refuses : (refusal : BorrowedRefusal) → IsRefused (write_refusal_for old now who ws) refusal → Refuses old (sets old now session write) (not (is_open old session)) (refusal_of refusal)
+  set_refuses refusal h = subst (λ (o : Outcome). Refuses old o (not (is_open old session)) (refusal_of refusal)) (sym sets_as) (writes_refuse old now session who ws is (not (is_open old session)) (ap not (sym opened)) refusal h)
 
--- a write that is done: no rule refuses it, and this is the state after it
-pub set_done : (old : State) (now session : ℕ) (write : Write) → (sets old now session write).reply ≡ Done → (write_refusal old now session (write ∷ []) ≡ None) × ((sets old now session write).after ≡ written_to old now (write ∷ []))
-set_done old now session write done =
-    opened (is_open old session) done
-  where
-    judged : (o : Option Refusal) → (unless_refused old o (record { reply = Done; after = written_to old now (write ∷ []) })).reply ≡ Done → (o ≡ None) × ((unless_refused old o (record { reply = Done; after = written_to old now (write ∷ []) })).after ≡ written_to old now (write ∷ []))
-    judged None h = (refl, refl)
-    judged (Some refusal) h = cc
+  pub set_comes : (found : Found) → AreGranted old now who ws found → Comes (sets old now session write) found (with_settled (with_tree old (write ∷ [])) found.decisions.made.items)
+  set_comes found g =
+      sets_as
+      ∙ writes_come old now session who ws is found g
+      ∙ (λ i. let o : Outcome = record { reply = reply_of found.reply; after = with_settled (with_tree old (one i)) found.decisions.made.items } in o)
 
-    opened : (b : Bool) → (cond (not b) (refused old NoSession) (makes old now session (write ∷ []))).reply ≡ Done → (write_refusal old now session (write ∷ []) ≡ None) × ((cond (not b) (refused old NoSession) (makes old now session (write ∷ []))).after ≡ written_to old now (write ∷ []))
-    opened true h = judged (write_refusal old now session (write ∷ [])) h
-    opened false h = cc
-
--- the same for who is signed in on the session
-pub not_refused : (old : State) (now session : ℕ) (write : Write) → write_refusal old now session (write ∷ []) ≡ None → write_refusal_for old now (identity_of old session) (write ∷ []) ≡ None
-not_refused old now session write h = writes_as old now session (identity_of old session) (write ∷ []) refl ∙ h
+  pub set_can_be_made : (found : Found) → AreGranted old now who ws found → CanBeMade old session (write ∷ [])
+  set_can_be_made found g = record { opened = sym opened; apart = refl; room = subst (λ (xs : List Write). count (tree_with old xs) ≤ MAX_LOCATIONS) one (has_room old now who ws g.granted) }
 
 -- ---- one write, whose denial is borrowed
 
@@ -140,20 +146,3 @@ module _ (old : State) (now : ℕ) (who : Option Identity) (scene : Scene) (t : 
       ∙ alone_denied scene t (location write ∷ []) (verdicts.WriteDenied (location write) names) (WriteDenied (location write) names) one
       (subst (λ p. MatchOption p N (λ all. IsWriteVerdict scene t (location write ∷ []) (verdicts.WriteDenied (location write) all))) some h) refl
       ∙ set_judged
-
--- ---- a write that is judged and made in two calls
-
-set_open : (old : State) (now session : ℕ) (write : Write) → (sets old now session write).reply ≡ Done → is_open old session ≡ true
-set_open old now session write done = opened (is_open old session) done
-  where
-    opened : (b : Bool) → (cond (not b) (refused old NoSession) (makes old now session (write ∷ []))).reply ≡ Done → b ≡ true
-    opened true h = refl
-    opened false h = cc
-
-pub set_made : (old new : State) (now session : ℕ) (write : Write) → (sets old now session write).reply ≡ Done → new ≡ (sets old now session write).after → Step old now session (Set write) Done new
-unfolding Step
-set_made old new now session write done after = inl (λ i. record { reply = done i; after = sym after i })
-
-pub set_wanting : (old new : State) (now session : ℕ) (write : Write) → (sets old now session write).reply ≡ Done → new ≡ old → Step old now session (Set write) (Refused NoMemory) new
-unfolding Step
-set_wanting old new now session write done same = inr (refl, same, ap not (set_open old now session write done))

@@ -4,11 +4,7 @@ use Rattle.std.specs.Prelude.{nat_le, flat_map}
 use Rattle.std.specs.FinMap as map_of
 use Rattle.std.specs.FinSet as set_of
 use Rattle.std.proofs.lemmas.Bool.{leb-true}
-use Rattle.std.specs.List.{list_all}
-use Rattle.std.specs.Cmp.{second_so}
-use Rattle.tree_model.specs.declared.limits.TheConstants.{MAX_DEPTH}
-use Rattle.tree_model.specs.Key.{is_key}
-use Rattle.tree_model.specs.Path.{Path, path_cmp, is_path, prefixes}
+use Rattle.tree_model.specs.Path.{Path, path_cmp, prefixes}
 use Rattle.tree_model.specs.Primitive.{Primitive}
 use Rattle.tree_model.specs.Tree.{Tree, null, count, existing}
 use Rattle.tree_model.specs.Write.{Write}
@@ -30,11 +26,6 @@ count_null = ap (λ (es : List (Path × Primitive)). set_of.len (set_of.from_lis
   where
     no_entries : map_of.entries {X = Primitive} {R = path_cmp} map_of.empty ≡ []
     no_entries = nil (map_of.entries map_of.empty) (sym (map_of.len-entries map_of.empty) ∙ map_of.len-empty path_cmp Primitive)
-
--- a path has no more keys than it may
-pub short_path : (p : Path) → is_path p ≡ true → length p ≤ MAX_DEPTH
-unfolding is_path
-short_path p h = leb-true (length p) MAX_DEPTH (second_so (list_all is_key p) _ h)
 
 -- writes that are not refused propose a tree that has room
 room_of : (o : Option Refusal) (tree : Tree) → or_full o tree ≡ None → count tree ≤ MAX_LOCATIONS

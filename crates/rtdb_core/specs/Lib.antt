@@ -2,9 +2,11 @@ pub use Rattle.rtdb_model.specs.State
 pub use Rattle.rtdb_model.specs.Rejudged
 pub use Rattle.rtdb_model.specs.News
 pub use Rattle.rtdb_model.specs.Tidings
+pub use Rattle.rtdb_model.specs.Event
 pub use Rattle.rtdb_model.specs.Borrowed
 pub use Rattle.rtdb_model.specs.Step
 pub use Rattle.rtdb_model.specs.Headline
 pub use Rattle.rtdb_model.specs.Marks
 pub use Rattle.rtdb_model.specs.Ends
+pub mod Planned
 pub mod Working

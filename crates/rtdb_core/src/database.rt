@@ -1,22 +1,21 @@
 //! The database, of which each live listener was granted what it listens to.
-ghost use Rattle.std.specs.Prelude.{ℕ, ◌≡◌, ◌↔◌, ◌≤◌, ◌<◌, true, Option, None, IsErr, IfOk, IfErr, OnOk, OnErr, option_map};
+ghost use Rattle.std.specs.Prelude.{◌≡◌, ◌↔◌, ◌≤◌, ◌<◌, true, IsErr, IfOk, IfErr, OnOk, OnErr, option_map};
 ghost use Rattle.std.specs.FinMap as map_of;
 ghost use Rattle.tree_model.specs.Tree.{non_null, count};
 ghost use Rattle.path_capture.specs.Write.{tree_or_null};
 ghost use Rattle.rules_reader.specs.Place.{HasOneCapture};
-ghost use Rattle.rtdb_model.specs.State.{opening, is_open};
-ghost use Rattle.rtdb_model.specs.Rejudged.{selected_at};
-ghost use Rattle.rtdb_model.specs.Borrowed.{refusal_of_read, refusal_of_write};
-ghost use Rattle.rtdb_model.specs.Step.{polls, outcome, Step};
+ghost use Rattle.rtdb_model.specs.State.{opening};
+ghost use Rattle.rtdb_model.specs.Borrowed.{reply_of, refusal_of, is_copied};
+ghost use Rattle.rtdb_model.specs.Step.{outcome, Step};
+ghost use Rattle.rtdb_core.specs.Planned.{IsPlanFor, after_of};
+ghost use Rattle.rtdb_core.specs.Working.Plans.{IsRefusedBy};
 
 use crate::machine::Machine;
-use arena_snapshot::View;
+use crate::plan::{Granted, Plan};
 use bumpalo::Bump;
 use evaluator::MAX_MOMENT;
 use json_tree::{NoMemory, Node};
-use listeners::Query;
-use path_capture::{Path, Write};
-use rtdb_model::{Event, MAX_LOCATIONS, ReadRefusal, Refusal, Reply, Tidings, WriteRefusal};
+use rtdb_model::{BorrowedRefusal, Event, MAX_LOCATIONS, Refusal, Reply};
 use rules_reader::Rules;
 use std::alloc::Global;
 use std::marker::Model;
@@ -60,148 +59,88 @@ impl Core {
         Ok(Core { machine })
     }
 
-    /// Answers one event of a session, at a moment in milliseconds since 1970. A read costs one step
-    /// for each key of its path, log w of w children each, the rules on the way, and the answer, or with a
-    /// query what `select` looks at, and a listen the same; a write the same for each of its locations, and what
-    /// is written; where a child is new or goes, those behind it are moved, 16 bytes each. Nothing else grows
-    /// with what is stored beside them. Opening, closing and unlistening cost a look-up among the
-    /// sessions, a deployment what the rules that were in force take to be dropped. A step that judges
-    /// listeners again costs a look at the rules of each that is live; these are evaluated only where the
-    /// step signs in or out, deploys, or has changed what they look at, or where they look at the moment or
-    /// at other places; and what a query selects is looked at only where the step has written at, above or
-    /// below the listener's path, and has changed something there. The
-    /// arena is for what one event needs: it is reset before anything is placed in it, once no refusal
-    /// is left but those of the rules, of room and of memory; closing and unlistening leave it as it is.
+    /// Judges an event of a session at a moment in milliseconds since 1970, and changes nothing: it is refused, or it
+    /// may be done, and this is its answer and the plan by which [`Core::commit`] does it. All that is answered is
+    /// borrowed, from the database, the event and the arena, so that no tree and no name is copied. A read costs one
+    /// step for each key of its path, log w of w children each, the rules on the way, and with a query what `select`
+    /// looks at, and a listen the same; a write the same for each of its locations, and what is written. Nothing else
+    /// grows with what is stored beside them. Opening, closing and unlistening cost a look-up among the sessions. An
+    /// event that judges listeners again costs a look at the rules of each that is live; these are evaluated only where
+    /// the event signs in or out, deploys, or changes what they look at, or where they look at the moment or at other
+    /// places; and what a query selects is looked at only where the event writes at, above or below the listener's
+    /// path, and changes something there. The arena is for what one event needs: it is reset before anything is placed
+    /// in it, once no refusal is left but those of the rules, of room and of memory; closing and unlistening leave it
+    /// as it is.
+    #[tactic(auto, unfolding(rtdb_model::specs::Step::Step))]
+    pub fn judge<'r, 'a: 'r>(
+        &'r self,
+        arena: &'a mut Bump,
+        now: u64,
+        session: u64,
+        event: &'r Event,
+    ) -> Result<Granted<'r, 'a>, BorrowedRefusal<'r>>
+        requires { now ≤ MAX_MOMENT }
+        ensures granted { IfOk result (λ granted. IsPlanFor self.now now session event.now granted.reply granted.plan) }
+        ensures refused { IfErr result (λ refusal. Step self.now now session event.now (Reply.Refused (refusal_of refusal)) self.now) }
+    {
+        let found = self.machine.judge(arena, now, session, event)?;
+        let plan = Plan::of(&self.machine, now, session, event, found.decisions);
+        Ok(Granted {
+            reply: found.reply,
+            plan,
+        })
+    }
+
+    /// Does an event by the plan that [`Core::judge`] made for it in this state: the two are the step of the event.
+    /// Where it wants memory, nothing has changed, and that is the refusal. A write costs one step for each key of each
+    /// location, log w of w children each; where a child is new or goes, those behind it are moved, 16 bytes each; a
+    /// deployment what the rules that were in force take to be dropped. All others cost no more than what was decided.
+    pub fn commit(&mut self, plan: Plan<'_>, event: Event) -> Result<(), NoMemory>
+        requires state { plan.before ≡ self.old }
+        requires event { plan.event ≡ event }
+        ensures done { OnOk result (self.new ≡ after_of plan.entry) }
+        ensures refused { OnErr result (Step self.old plan.entry.moment plan.entry.session event (Reply.Refused Refusal.NoMemory) self.new) }
+        ensures unchanged { OnErr result (self.new ≡ self.old) }
+    {
+        self.machine.commit(plan.session(), event, plan.decisions())
+    }
+
+    /// Answers one event of a session at a moment: [`Core::judge`] and [`Core::commit`], one after the other, and the
+    /// answer owned, at the cost of the trees and names that it has.
     pub fn step(&mut self, arena: &mut Bump, now: u64, session: u64, event: Event) -> Reply
         requires { now ≤ MAX_MOMENT }
         ensures { Step self.old now session event result self.new }
     {
-        self.machine.step(arena, now, session, event)
+        match self.judge_owned(arena, now, session, &event) {
+            Ok((reply, plan)) => match self.commit(plan, event) {
+                Ok(()) => reply,
+                Err(_) => Reply::Refused(Refusal::NoMemory),
+            },
+            Err(reply) => reply,
+        }
     }
 
-    /// Answers a read as [`Core::step`] does, by the tree that stands there, which is borrowed: so a read
-    /// costs one step for each key of its path, log w of w children each, and the rules on the way, and
-    /// nothing grows with what it answers.
-    pub fn read<'a>(
-        &'a self,
+    // Judges an event as `judge` does, with a reply that is owned: what is refused has it alone.
+    fn judge_owned<'a>(
+        &self,
         arena: &'a mut Bump,
         now: u64,
         session: u64,
-        path: &'a Path,
-    ) -> Result<Option<&'a Node>, ReadRefusal<'a>>
+        event: &Event,
+    ) -> Result<(Reply, Plan<'a>), Reply>
         requires { now ≤ MAX_MOMENT }
-        ensures found { IfOk result (λ found. Step self.now now session (Event.Get path.now None) (Reply.Value (option_map (λ node. node.now) found)) self.now) }
-        ensures refused { IfErr result (λ refusal. Step self.now now session (Event.Get path.now None) (Reply.Refused (refusal_of_read refusal)) self.now) }
+        ensures reply { IfOk result (λ r. (outcome self.now now session event.now).reply ≡ r.0) }
+        ensures plan { IfOk result (λ r. r.1 ≡ record { before = self.now; moment = now; session = session; event = event.now }) }
+        ensures refused { IfErr result (λ reply. Step self.now now session event.now reply self.now) }
     {
-        self.machine.read(arena, now, session, path)
-    }
-
-    /// Judges a read as [`Core::step`] does, and does all that a step does before it answers. Where the read is
-    /// granted, [`Core::selected`] lends the answer over the same arena, and where that wants memory, the read is
-    /// refused for want of memory. It costs one step for each key of its path, log w of w children each, and the rules on the way.
-    pub fn grant<'a>(
-        &'a self,
-        arena: &'a mut Bump,
-        now: u64,
-        session: u64,
-        path: &'a Path,
-        query: Option<&'a Query>,
-    ) -> Result<(), ReadRefusal<'a>>
-        requires { now ≤ MAX_MOMENT }
-        ensures granted { OnOk result (Step self.now now session (Event.Get path.now (option_map (λ query. query.now) query.entry)) (Reply.Value (non_null (selected_at self.now.tree path.now (option_map (λ query. query.now) query.entry)))) self.now) }
-        ensures for_want_of_memory { OnOk result (Step self.now now session (Event.Get path.now (option_map (λ query. query.now) query.entry)) (Reply.Refused Refusal.NoMemory) self.now) }
-        ensures refused { IfErr result (λ refusal. Step self.now now session (Event.Get path.now (option_map (λ query. query.now) query.entry)) (Reply.Refused (refusal_of_read refusal)) self.now) }
-    {
-        self.machine.grant(arena, now, session, path, query)
-    }
-
-    /// Judges a write of one location as [`Core::step`] does, and does all that a step does before it changes
-    /// anything: the names of a denial for write are borrowed. Where it is allowed, [`Core::make`] makes it. It costs
-    /// one step for each key of its location, log w of w children each, the rules on the way, and what is written.
-    pub fn allow<'a>(
-        &'a self,
-        arena: &'a mut Bump,
-        now: u64,
-        session: u64,
-        write: &'a Write,
-    ) -> Result<(), WriteRefusal<'a>>
-        requires { now ≤ MAX_MOMENT }
-        ensures allowed { OnOk result ((outcome self.now now session (Event.Set write.now)).reply ≡ Reply.Done) }
-        ensures refused { IfErr result (λ refusal. Step self.now now session (Event.Set write.now) (Reply.Refused (refusal_of_write refusal)) self.now) }
-    {
-        self.machine.allow(arena, now, session, write)
-    }
-
-    /// Makes a write that [`Core::allow`] has allowed, at the same moment and in the same session: together they are
-    /// the step of the write. Where it wants memory, nothing has changed, and that is the refusal. It costs one step
-    /// for each key of its location, and a look at the listeners, for which the arena is made free, as a step does;
-    /// where anybody listens, the write is laid over the tree once more.
-    pub fn make(
-        &mut self,
-        arena: &mut Bump,
-        now: u64,
-        session: u64,
-        write: Write,
-    ) -> Result<(), NoMemory>
-        requires moment { now ≤ MAX_MOMENT }
-        requires allowed { (outcome self.old now session (Event.Set write)).reply ≡ Reply.Done }
-        ensures ok { OnOk result (Step self.old now session (Event.Set write) Reply.Done self.new) }
-        ensures err { OnErr result (Step self.old now session (Event.Set write) (Reply.Refused Refusal.NoMemory) self.new) }
-        ensures unchanged { OnErr result (self.new ≡ self.old) }
-    {
-        self.machine.make_allowed(arena, now, session, write)
-    }
-
-    /// What a query selects of what stands at a path, without a query all of it, borrowed from the stored tree
-    /// and from the arena. It asks no rule: [`Core::grant`] does. The cost is that of `select`, which lists in the
-    /// arena what it looks at; no tree is copied.
-    pub fn selected<'a>(
-        &'a self,
-        arena: &'a Bump,
-        path: &Path,
-        query: Option<&Query>,
-    ) -> Result<Option<View<'a>>, NoMemory>
-        ensures { IfOk result (λ found. found ≡ non_null (selected_at self.now.tree path.now (option_map (λ query. query.now) query.entry))) }
-    {
-        self.machine.selected(arena, path, query)
-    }
-
-    /// Begins a poll as [`Core::step`] does, up to a look at what the session listens to. Then [`Core::news`] lends
-    /// over the same arena what is told, and [`Core::end_poll`] makes what a poll changes: together they are the step
-    /// of a poll. Where one of the two wants memory, nothing has changed, and that is the refusal.
-    pub fn begin_poll(&self, arena: &mut Bump, session: u64) -> Result<(), Refusal>
-        ensures open { OnOk result (is_open self.now session ≡ true) }
-        ensures refused { IfErr result (λ refusal. (now : ℕ) → Step self.now now session Event.Poll (Reply.Refused refusal) self.now) }
-    {
-        self.machine.begin_poll(arena, session)
-    }
-
-    /// What a poll of a session tells at this moment, borrowed from the stored tree and from what is listened to: no
-    /// tree is copied. It costs a look at each listener of the session, and for one that has news that of a read of
-    /// its path by its query; what is looked at is listed in the arena.
-    pub fn news<'a>(
-        &'a self,
-        arena: &'a Bump,
-        now: u64,
-        session: u64,
-    ) -> Result<Tidings<'a>, Refusal>
-        requires { now ≤ MAX_MOMENT }
-        ensures told { IfOk result (λ tidings. (polls self.now now session).reply ≡ Reply.News tidings) }
-        ensures refused { IfErr result (λ refusal. Step self.now now session Event.Poll (Reply.Refused refusal) self.now) }
-    {
-        self.machine.news(arena, now, session)
-    }
-
-    /// Makes what a poll of a session changes at this moment, once its news is told: listeners that are cancelled
-    /// go, and no other has news any longer; of a session that is not open nothing. It costs a look at each listener
-    /// of the session, for which the arena is made free.
-    pub fn end_poll(&mut self, arena: &mut Bump, now: u64, session: u64) -> Result<(), NoMemory>
-        requires { now ≤ MAX_MOMENT }
-        ensures ok { OnOk result (self.new ≡ (polls self.old now session).after) }
-        ensures err { OnErr result (self.new ≡ self.old) }
-        ensures later { OnErr result (is_open self.old session ≡ true) }
-    {
-        self.machine.end_poll(arena, now, session)
+        let alloc = self.machine.alloc();
+        match self.judge(arena, now, session, event) {
+            Ok(granted) => match owned(alloc, granted) {
+                Ok(owned) => Ok(owned),
+                Err(_) => Err(Reply::Refused(Refusal::NoMemory)),
+            },
+            Err(refusal) => Err(refused(alloc, refusal)),
+        }
     }
 
     /// The tree that is stored, None for null.
@@ -225,5 +164,26 @@ impl Core {
         ensures { result ≡ map_of.len self.now.sessions }
     {
         self.machine.sessions()
+    }
+}
+
+// What was granted, with a reply of its own.
+fn owned<'a>(alloc: Global, granted: Granted<'_, 'a>) -> Result<(Reply, Plan<'a>), NoMemory>
+    ensures reply { IfOk result (λ r. r.0 ≡ reply_of granted.entry.reply) }
+    ensures plan { IfOk result (λ r. r.1 ≡ granted.entry.plan) }
+    ensures later { OnErr result (is_copied (reply_of granted.entry.reply) ≡ true) }
+{
+    let Granted { reply, plan } = granted;
+    let reply = reply.copy(alloc)?;
+    Ok((reply, plan))
+}
+
+// A refusal as a reply of its own.
+fn refused(alloc: Global, refusal: BorrowedRefusal<'_>) -> Reply
+    ensures { IsRefusedBy (refusal_of refusal.entry) result }
+{
+    match refusal.into_owned(alloc) {
+        Ok(refusal) => Reply::Refused(refusal),
+        Err(_) => Reply::Refused(Refusal::NoMemory),
     }
 }

@@ -1,8 +1,6 @@
-//! The state machine: one event in, one reply out.
-ghost use Rattle.std.specs.Prelude.{◌≡◌, true, ◌↔◌, ◌^◌, map, ℕ, ◌≤◌, ◌<◌, ◌∷◌, [], length, None, Some, Option, false, IsErr, IfOk, IfErr, IfSome, OnOk, OnErr, is_some, option_map};
+//! The state machine: an event is judged, and what is granted is done.
+ghost use Rattle.std.specs.Prelude.{◌≡◌, true, ◌↔◌, map, ◌≤◌, ◌<◌, ◌^◌, ◌∷◌, ◌++◌, [], length, Some, None, Option, false, not, IsErr, IfOk, IfErr, IfSome, OnOk, OnErr, is_some, option_map};
 ghost use Rattle.std.specs.FinMap as map_of;
-ghost use Rattle.std.specs.List.{list_any};
-ghost use Rattle.tree_model.specs.PathMap.{sub};
 ghost use Rattle.tree_model.specs.Tree.{non_null, count};
 ghost use Rattle.tree_model.specs.Write.{overlaps};
 ghost use Rattle.path_capture.specs.Write.{tree_or_null};
@@ -15,35 +13,34 @@ ghost use Rattle.evaluator.specs.Identity.{Identity};
 ghost use Rattle.listeners.specs.Table.{has_id, without_id, taken};
 ghost use Rattle.rtdb_model.specs.State.{opening, is_open, identity_of, listeners_of, is_admin, scene_for};
 ghost use Rattle.rtdb_model.specs.Rejudged.{selected_at};
-ghost use Rattle.rtdb_model.specs.Step.{opened, closed, closes, with_session, signs, tree_with, listening, unlistens, polls, news_of, ticks, deployed, deploys, written_to, denial, or_full, outcome, takes_no_memory, Step};
-ghost use Rattle.rtdb_core.specs.Working.Fates.{sparse, settled, fate_of, fates_of, all_sessions, listens, with_settled, with_tree, with_rules, read_refusal_for, write_refusal_for, IsJudgedWrite};
-ghost use Rattle.rtdb_model.specs.Borrowed.{refusal_of_read, refusal_of_write};
+ghost use Rattle.rtdb_model.specs.Borrowed.{refusal_of};
+ghost use Rattle.rtdb_model.specs.Step.{outcome, opened, closed, opens, closes, with_session, signs, gets, sets, updates, listens, unlistens, polls, ticks, deploys, tree_with, listening, news_of, deployed, written_to, denial, or_full, takes_no_memory, Step};
+ghost use Rattle.rtdb_model.specs.declared.borrowed.BorrowedRefusal.TheVariants as refusals;
 ghost use Rattle.rtdb_model.specs.declared.reply.Refusal.TheVariants.{ReadDenied};
+ghost use Rattle.rtdb_core.specs.Working.Fates.{sparse, settled, fate_of, fates_of, all_sessions, with_settled, with_tree, with_rules, read_refusal_for, write_refusal_for};
 ghost use Rattle.rtdb_core.specs.Working.Heard.{AreHeard, AllHeardIn, AllHeard};
 ghost use Rattle.rtdb_core.specs.Working.Passages.{IsPassage, tree_before, tree_after, who_of};
+ghost use Rattle.rtdb_core.specs.Working.Plans.{committed, MayBeDone, CanBeMade, Comes, Refuses, IsFound, IsGranted, AreGranted, IsRefused};
 
 use crate::database::TooLarge;
 use crate::fates::{Decision, Decisions, Docket};
-use crate::judged::Judged;
 use crate::passage::{Passage, shared};
-use crate::refusals::{denial, full, listen_refusal, reset};
-use crate::rejudging::{decide_all, decide_own, settle_all, somebody_listens};
-use crate::selected::{asked_for, selected_in, view_in};
+use crate::plan::Found;
+use crate::refusals::{denial, full, listen_refusal, other, reset};
+use crate::rejudging::{decide_all, decide_own, settle_all};
+use crate::selected::{asked_for, view_in};
 use crate::session::Session;
 use crate::telling::tidings_of;
-use crate::trees::{count_in, count_of, node_at, removal, sort};
+use crate::trees::{count_in, count_of};
 use arena_snapshot::{View, overlaps, overlay};
 use bumpalo::Bump;
 use evaluator::{Identity, MAX_MOMENT, Moment};
-use json_tree::{Key, NoMemory, Node};
-use judge::{
-    BorrowedNames, Scene, judge_granted, judge_read, judge_write, read_denial, write_denial,
-};
+use json_tree::{NoMemory, Node};
+use judge::{BorrowedNames, Scene, judge_granted, judge_write, read_denial, write_denial};
 use listeners::{ListenerId, Query};
 use path_capture::{Path, Write, make_all};
 use rtdb_model::{
-    Event, MAX_LOCATIONS, MAX_SESSIONS, News, ReadRefusal, Refusal, Reply, Tidings, WriteRefusal,
-    Writes,
+    BorrowedRefusal, BorrowedReply, Event, MAX_LOCATIONS, MAX_SESSIONS, Refusal, Tidings, Writes,
 };
 use rules_reader::Rules;
 use std::alloc::Global;
@@ -97,213 +94,72 @@ impl Machine {
         })
     }
 
-    /// Answers an event as [`Core::step`](crate::Core::step) does.
-    #[tactic(auto, unfolding(rtdb_model::specs::Step::Step))]
-    pub(crate) fn step(&mut self, arena: &mut Bump, now: u64, session: u64, event: Event) -> Reply
-        requires moment { now ≤ MAX_MOMENT }
-        requires heard { AllHeard self.old }
-        ensures { Step self.old now session event result self.new }
-    {
-        match self.answer(arena, now, session, event) {
-            Ok(reply) => reply,
-            Err(_) => Reply::Refused(Refusal::NoMemory),
-        }
-    }
-
-    /// Answers a read as [`Core::read`](crate::Core::read) does.
-    #[tactic(auto, unfolding(rtdb_model::specs::Step::Step, listeners::specs::Selection::selection))]
-    pub(crate) fn read<'a>(
-        &'a self,
+    /// Judges an event as [`Core::judge`](crate::Core::judge) does.
+    pub(crate) fn judge<'r, 'a: 'r>(
+        &'r self,
         arena: &'a mut Bump,
         now: u64,
         session: u64,
-        path: &'a Path,
-    ) -> Result<Option<&'a Node>, ReadRefusal<'a>>
-        requires { now ≤ MAX_MOMENT }
-        ensures found { IfOk result (λ found. Step self.now now session (Event.Get path.now None) (Reply.Value (option_map (λ node. node.now) found)) self.now) }
-        ensures refused { IfErr result (λ refusal. Step self.now now session (Event.Get path.now None) (Reply.Refused (refusal_of_read refusal)) self.now) }
-    {
-        self.grant(arena, now, session, path, None)?;
-        Ok(self.value_at(path.keys()))
-    }
-
-    /// Judges a read as [`Core::grant`](crate::Core::grant) does.
-    #[tactic(auto, unfolding(rtdb_model::specs::Step::Step))]
-    pub(crate) fn grant<'a>(
-        &'a self,
-        arena: &'a mut Bump,
-        now: u64,
-        session: u64,
-        path: &'a Path,
-        query: Option<&'a Query>,
-    ) -> Result<(), ReadRefusal<'a>>
-        requires { now ≤ MAX_MOMENT }
-        ensures granted { OnOk result (Step self.now now session (Event.Get path.now (option_map (λ query. query.now) query.entry)) (Reply.Value (non_null (selected_at self.now.tree path.now (option_map (λ query. query.now) query.entry)))) self.now) }
-        ensures for_want_of_memory { OnOk result (Step self.now now session (Event.Get path.now (option_map (λ query. query.now) query.entry)) (Reply.Refused Refusal.NoMemory) self.now) }
-        ensures refused { IfErr result (λ refusal. Step self.now now session (Event.Get path.now (option_map (λ query. query.now) query.entry)) (Reply.Refused (refusal_of_read refusal)) self.now) }
-    {
-        let Some(open) = self.open_session(session) else {
-            return Err(ReadRefusal::Other(Refusal::NoSession));
-        };
-        reset(arena)?;
-        match self.read_denial(arena, now, open.identity(), path, query)? {
-            Some(names) => Err(ReadRefusal::Denied(names)),
-            None => Ok(()),
-        }
-    }
-
-    /// Judges a write as [`Core::allow`](crate::Core::allow) does.
-    #[tactic(auto, unfolding(rtdb_model::specs::Step::Step))]
-    pub(crate) fn allow<'a>(
-        &'a self,
-        arena: &'a mut Bump,
-        now: u64,
-        session: u64,
-        write: &'a Write,
-    ) -> Result<(), WriteRefusal<'a>>
-        requires { now ≤ MAX_MOMENT }
-        ensures allowed { OnOk result ((outcome self.now now session (Event.Set write.now)).reply ≡ Reply.Done) }
-        ensures refused { IfErr result (λ refusal. Step self.now now session (Event.Set write.now) (Reply.Refused (refusal_of_write refusal)) self.now) }
-    {
-        let Some(open) = self.open_session(session) else {
-            return Err(WriteRefusal::Other(Refusal::NoSession));
-        };
-        reset(arena)?;
-        match self.set_refusal(arena, now, open.identity(), write)? {
-            Some(refusal) => Err(refusal),
-            None => Ok(()),
-        }
-    }
-
-    /// Makes a write as [`Core::make`](crate::Core::make) does.
-    #[tactic(auto, unfolding(rtdb_model::specs::Step::Step))]
-    pub(crate) fn make_allowed(
-        &mut self,
-        arena: &mut Bump,
-        now: u64,
-        session: u64,
-        write: Write,
-    ) -> Result<(), NoMemory>
-        requires moment { now ≤ MAX_MOMENT }
-        requires heard { AllHeard self.old }
-        requires allowed { (outcome self.old now session (Event.Set write)).reply ≡ Reply.Done }
-        ensures ok { OnOk result (self.new ≡ (outcome self.old now session (Event.Set write)).after) }
-        ensures err { OnErr result (self.new ≡ self.old) }
-    {
-        let _session = session;
-        reset(arena)?;
-        let decisions = self.decide_written(&*arena, now, slice::from_ref(&write))?;
-        self.make(write)?;
-        self.settle_all(&decisions.made);
-        Ok(())
-    }
-
-    /// What a query selects, as [`Core::selected`](crate::Core::selected) lends it.
-    pub(crate) fn selected<'a>(
-        &'a self,
-        arena: &'a Bump,
-        path: &Path,
-        query: Option<&Query>,
-    ) -> Result<Option<View<'a>>, NoMemory>
-        ensures { IfOk result (λ found. found ≡ non_null (selected_at self.now.tree path.now (option_map (λ query. query.now) query.entry))) }
-    {
-        view_in(arena, self.tree.as_ref(), path.keys(), query)
-    }
-
-    /// Begins a poll as [`Core::begin_poll`](crate::Core::begin_poll) does.
-    #[tactic(auto, unfolding(rtdb_model::specs::Step::Step))]
-    pub(crate) fn begin_poll(&self, arena: &mut Bump, session: u64) -> Result<(), Refusal>
-        ensures open { OnOk result (is_open self.now session ≡ true) }
-        ensures refused { IfErr result (λ refusal. (now : ℕ) → Step self.now now session Event.Poll (Reply.Refused refusal) self.now) }
-    {
-        self.demand_open(session)?;
-        reset(arena)?;
-        Ok(())
-    }
-
-    /// What a poll tells, as [`Core::news`](crate::Core::news) lends it.
-    #[tactic(auto, unfolding(rtdb_model::specs::Step::Step))]
-    pub(crate) fn news<'a>(
-        &'a self,
-        arena: &'a Bump,
-        now: u64,
-        session: u64,
-    ) -> Result<Tidings<'a>, Refusal>
+        event: &'r Event,
+    ) -> Result<Found<'r, 'a>, BorrowedRefusal<'r>>
         requires moment { now ≤ MAX_MOMENT }
         requires heard { AllHeard self.now }
-        ensures told { IfOk result (λ tidings. (polls self.now now session).reply ≡ Reply.News tidings) }
-        ensures refused { IfErr result (λ refusal. Step self.now now session Event.Poll (Reply.Refused refusal) self.now) }
+        ensures found { IfOk result (IsFound self.now now session event.now) }
+        ensures refused { IfErr result (λ refusal. Refuses self.now (outcome self.now now session event.now) (takes_no_memory self.now session event.now) (refusal_of refusal)) }
     {
-        let open = self.demand_open(session)?;
-        let decisions = self.decide_own(arena, now, open, open.identity(), true)?;
-        let tidings = self.tidings_of(arena, open, &decisions.made)?;
-        Ok(tidings)
-    }
-
-    // The session of this number, or a refusal where it is not open.
-    fn demand_open(&self, session: u64) -> Result<&Session, Refusal>
-        ensures open { OnOk result (is_open self.now session ≡ true) }
-        ensures identity { IfOk result (λ one. one.now.identity ≡ identity_of self.now session) }
-        ensures listeners { IfOk result (λ one. one.now.listeners ≡ listeners_of self.now session) }
-        ensures refused { IfErr result (λ refusal. (refusal ≡ Refusal.NoSession) × (is_open self.now session ≡ false)) }
-    {
-        match self.open_session(session) {
-            Some(open) => Ok(open),
-            None => Err(Refusal::NoSession),
+        match event {
+            Event::Open => self.judge_open(arena, session),
+            Event::Close => self.judge_close(arena, session),
+            Event::SignIn(who) => self.judge_sign(arena, now, session, Some(who)),
+            Event::SignOut => self.judge_sign(arena, now, session, None),
+            Event::Get(path, query) => self.judge_get(arena, now, session, path, query.as_ref()),
+            Event::Set(write) => self.judge_set(arena, now, session, write),
+            Event::Remove(removal) => self.judge_set(arena, now, session, removal.write()),
+            Event::Update(writes) => self.judge_update(arena, now, session, writes),
+            Event::Listen(id, path, query) => {
+                self.judge_listen(arena, now, session, id, path, query.as_ref())
+            }
+            Event::Unlisten(id) => self.judge_unlisten(arena, session, id),
+            Event::Poll => self.judge_poll(arena, now, session),
+            Event::Tick => self.judge_tick(arena, now),
+            Event::Deploy(rules) => self.judge_deploy(arena, now, session, rules),
         }
     }
 
-    /// Ends a poll as [`Core::end_poll`](crate::Core::end_poll) does.
-    pub(crate) fn end_poll(
+    /// Does an event of a session that may be done, by what was decided of listeners. Only a session that opens, a
+    /// write and a listen take memory.
+    pub(crate) fn commit(
         &mut self,
-        arena: &mut Bump,
-        now: u64,
-        session: u64,
-    ) -> Result<(), NoMemory>
-        requires moment { now ≤ MAX_MOMENT }
-        requires heard { AllHeard self.old }
-        ensures ok { OnOk result (self.new ≡ (polls self.old now session).after) }
-        ensures err { OnErr result (self.new ≡ self.old) }
-        ensures later { OnErr result (is_open self.old session ≡ true) }
-    {
-        let Some(open) = self.open_session(session) else {
-            return Ok(());
-        };
-        reset(arena)?;
-        let decisions = self.decide_own(&*arena, now, open, open.identity(), true)?;
-        self.hand_out(session, &decisions.made);
-        Ok(())
-    }
-
-    // What becomes of an event.
-    fn answer(
-        &mut self,
-        arena: &mut Bump,
-        now: u64,
         session: u64,
         event: Event,
-    ) -> Result<Reply, NoMemory>
-        requires moment { now ≤ MAX_MOMENT }
-        requires heard { AllHeard self.old }
-        ensures ok { IfOk result (λ reply. outcome self.old now session event ≡ record { reply = reply; after = self.new }) }
-        ensures err { OnErr result (self.new ≡ self.old) }
+        decisions: &[Decision],
+    ) -> Result<(), NoMemory>
+        requires { MayBeDone self.old session event }
+        ensures done { OnOk result (self.new ≡ committed self.old session event decisions.now) }
+        ensures unchanged { OnErr result (self.new ≡ self.old) }
         ensures later { OnErr result (takes_no_memory self.old session event ≡ false) }
     {
         match event {
-            Event::Open => self.open(arena, now, session),
-            Event::Close => Ok(self.close(session)),
-            Event::SignIn(who) => self.sign(arena, now, session, Some(who)),
-            Event::SignOut => self.sign(arena, now, session, None),
-            Event::Get(path, query) => self.get(arena, now, session, &path, query.as_ref()),
-            Event::Set(write) => self.set(arena, now, session, write),
-            Event::Remove(path) => self.set(arena, now, session, removal(path)),
-            Event::Update(writes) => self.update(arena, now, session, writes),
-            Event::Listen(id, path, query) => self.listen(arena, now, session, id, path, query),
-            Event::Unlisten(id) => Ok(self.unlisten(session, &id)),
-            Event::Poll => self.poll(arena, now, session),
-            Event::Tick => self.tick(arena, now),
-            Event::Deploy(rules) => self.deploy(arena, now, session, rules),
+            Event::Open => return self.add(session),
+            Event::Close => drop(self.forget(session)),
+            Event::SignIn(who) => self.put_identity(session, Some(who), decisions),
+            Event::SignOut => self.put_identity(session, None, decisions),
+            Event::Get(_path, _query) => {}
+            Event::Set(write) => return self.make(write, decisions),
+            Event::Remove(removal) => return self.make(removal.into_write(), decisions),
+            Event::Update(writes) => return self.make_update(writes, decisions),
+            Event::Listen(id, path, query) => return self.begin(session, id, path, query),
+            Event::Unlisten(id) => drop(self.end(session, &id)),
+            Event::Poll => self.hand_out(session, decisions),
+            Event::Tick => self.settle_all(decisions),
+            Event::Deploy(rules) => self.put_rules(rules, decisions),
         }
+        Ok(())
+    }
+
+    /// The allocator that it keeps.
+    pub(crate) fn alloc(&self) -> Global {
+        self.alloc
     }
 
     /// The tree that is stored, None for null.
@@ -351,381 +207,367 @@ impl Machine {
         self.sessions.get(&session)
     }
 
-    fn open(&mut self, arena: &mut Bump, now: u64, session: u64) -> Result<Reply, NoMemory>
-        ensures ok { IfOk result (λ reply. outcome self.old now session Event.Open ≡ record { reply = reply; after = self.new }) }
-        ensures err { OnErr result (self.new ≡ self.old) }
-        ensures later { OnErr result (takes_no_memory self.old session Event.Open ≡ false) }
+    // The session of this number, or a refusal where it is not open.
+    fn demand_open<'r>(&'r self, session: u64) -> Result<&'r Session, BorrowedRefusal<'r>>
+        ensures open { OnOk result (is_open self.now session ≡ true) }
+        ensures identity { IfOk result (λ one. one.now.identity ≡ identity_of self.now session) }
+        ensures listeners { IfOk result (λ one. one.now.listeners ≡ listeners_of self.now session) }
+        ensures refused { IfErr result (λ refusal. (refusal ≡ refusals.Other Refusal.NoSession) × (is_open self.now session ≡ false)) }
     {
-        let _now = now;
+        match self.open_session(session) {
+            Some(open) => Ok(open),
+            None => Err(BorrowedRefusal::Other(Refusal::NoSession)),
+        }
+    }
+
+    // ---- what each event comes to
+
+    fn judge_open<'r, 'a: 'r>(
+        &'r self,
+        arena: &'a mut Bump,
+        session: u64,
+    ) -> Result<Found<'r, 'a>, BorrowedRefusal<'r>>
+        ensures found { IfOk result (λ found. Comes (opens self.now session) found (opened self.now session) × (takes_no_memory self.now session Event.Open ≡ false)) }
+        ensures refused { IfErr result (λ refusal. Refuses self.now (opens self.now session) (takes_no_memory self.now session Event.Open) (refusal_of refusal)) }
+    {
         if self.is_open(session) {
-            return Ok(Reply::Refused(Refusal::SessionOpen));
+            return Err(BorrowedRefusal::Other(Refusal::SessionOpen));
         }
         if self.sessions() >= MAX_SESSIONS {
-            return Ok(Reply::Refused(Refusal::TooManySessions));
+            return Err(BorrowedRefusal::Other(Refusal::TooManySessions));
         }
         reset(arena)?;
-        self.add(session)?;
-        Ok(Reply::Done)
+        Ok(Found::done(arena))
     }
 
-    #[tactic(auto, using(crate::proofs::Sessions::none_gone))]
-    fn close(&mut self, session: u64) -> Reply
-        ensures { closes self.old session ≡ record { reply = result; after = self.new } }
+    fn judge_close<'r, 'a: 'r>(
+        &'r self,
+        arena: &'a mut Bump,
+        session: u64,
+    ) -> Result<Found<'r, 'a>, BorrowedRefusal<'r>>
+        ensures found { IfOk result (λ found. Comes (closes self.now session) found (closed self.now session)) }
+        ensures refused { IfErr result (λ refusal. Refuses self.now (closes self.now session) true (refusal_of refusal)) }
     {
-        if self.forget(session) {
-            Reply::Done
-        } else {
-            Reply::Refused(Refusal::NoSession)
-        }
+        self.demand_open(session)?;
+        Ok(Found::done(arena))
     }
 
-    // Takes a session from those that are open, where it is one of them.
-    fn forget(&mut self, session: u64) -> bool
-        ensures was { result ≡ is_open self.old session }
-        ensures gone { self.new ≡ closed self.old session }
-    {
-        self.sessions.remove(&session).is_some()
-    }
-
-    fn sign(
-        &mut self,
-        arena: &mut Bump,
+    fn judge_sign<'r, 'a: 'r>(
+        &'r self,
+        arena: &'a mut Bump,
         now: u64,
         session: u64,
-        who: Option<Identity>,
-    ) -> Result<Reply, NoMemory>
+        who: Option<&'r Identity>,
+    ) -> Result<Found<'r, 'a>, BorrowedRefusal<'r>>
         requires { now ≤ MAX_MOMENT }
-        ensures ok { IfOk result (λ reply. signs self.old now session who ≡ record { reply = reply; after = self.new }) }
-        ensures err { OnErr result (self.new ≡ self.old) }
-        ensures later { OnErr result (is_open self.old session ≡ true) }
+        ensures found { IfOk result (λ found. Comes (signs self.now now session (who_of who.entry)) found (with_session self.now session (who_of who.entry) (settled 0 found.decisions.made.items (listeners_of self.now session))) × (is_open self.now session ≡ true)) }
+        ensures refused { IfErr result (λ refusal. Refuses self.now (signs self.now now session (who_of who.entry)) (not (is_open self.now session)) (refusal_of refusal)) }
     {
-        let Some(open) = self.open_session(session) else {
-            return Ok(Reply::Refused(Refusal::NoSession));
-        };
+        let open = self.demand_open(session)?;
         reset(arena)?;
-        let decisions = self.decide_own(&*arena, now, open, who.as_ref(), false)?;
-        self.put_identity(session, who, &decisions.made);
-        Ok(Reply::Done)
+        let decisions = self.decide_own(arena, now, open, who, false)?;
+        Ok(Found::decided(decisions))
     }
 
-    // What becomes of what an open session listens to, where this is who is signed in on it, and whether
-    // that is who was granted it.
-    fn decide_own<'a>(
-        &self,
-        arena: &'a Bump,
-        now: u64,
-        session: &Session,
-        who: Option<&Identity>,
-        was_heard: bool,
-    ) -> Result<Decisions<'a>, NoMemory>
-        requires moment { now ≤ MAX_MOMENT }
-        requires heard { was_heard ≡ true → AreHeard self.now.rules self.now.tree (who_of who) session.now.listeners }
-        ensures made { IfOk result (λ decisions. decisions.made.items ≡ sparse 0 (map (fate_of self.now.tree self.now.rules self.now.tree now (who_of who.entry)) session.now.listeners)) }
-        ensures fits { IfOk result (λ decisions. length session.now.listeners < 2 ^ 64) }
-    {
-        let passage = Passage::staying(&self.rules, self.tree.as_ref(), now, was_heard);
-        decide_own(self.alloc, arena, &passage, who, session.listeners())
-    }
-
-    // Signs in whoever this is on an open session, or signs out, and makes what was decided.
-    fn put_identity(&mut self, session: u64, who: Option<Identity>, decisions: &[Decision])
-        requires { is_open self.old session ≡ true }
-        ensures { self.new ≡ with_session self.old session who (settled 0 decisions.now (listeners_of self.old session)) }
-    {
-        let Some(open) = self.sessions.get_mut(&session) else {
-            unreachable!()
-        };
-        open.sign(who);
-        open.settle(Docket::new(decisions));
-    }
-
-    fn listen(
-        &mut self,
-        arena: &mut Bump,
+    fn judge_get<'r, 'a: 'r>(
+        &'r self,
+        arena: &'a mut Bump,
         now: u64,
         session: u64,
-        id: ListenerId,
-        path: Path,
-        query: Option<Query>,
-    ) -> Result<Reply, NoMemory>
+        path: &'r Path,
+        query: Option<&'r Query>,
+    ) -> Result<Found<'r, 'a>, BorrowedRefusal<'r>>
         requires { now ≤ MAX_MOMENT }
-        ensures ok { IfOk result (λ reply. outcome self.old now session (Event.Listen id path query) ≡ record { reply = reply; after = self.new }) }
-        ensures err { OnErr result (self.new ≡ self.old) }
-        ensures later { OnErr result (takes_no_memory self.old session (Event.Listen id path query) ≡ false) }
+        ensures found { IfOk result (λ found. Comes (gets self.now now session path.now (option_map (λ query. query.now) query.entry)) found self.now) }
+        ensures refused { IfErr result (λ refusal. Refuses self.now (gets self.now now session path.now (option_map (λ query. query.now) query.entry)) (not (is_open self.now session)) (refusal_of refusal)) }
     {
-        let Some(open) = self.open_session(session) else {
-            return Ok(Reply::Refused(Refusal::NoSession));
-        };
-        if let Some(refusal) = listen_refusal(open, &id) {
-            return Ok(Reply::Refused(refusal));
-        }
-        reset(arena)?;
-        let who = open.identity();
-        if let Some(refusal) = self.read_refusal(arena, now, who, &path, query.as_ref())? {
-            return Ok(Reply::Refused(refusal));
-        }
-        let tree = self.selected_at(arena, path.keys(), query.as_ref())?;
-        self.begin(session, id, path, query)?;
-        Ok(Reply::Value(tree))
+        let open = self.demand_open(session)?;
+        self.judge_read(arena, now, open.identity(), path, query)
     }
 
-    // Lets an open session listen to one thing more.
-    fn begin(
-        &mut self,
+    fn judge_set<'r, 'a: 'r>(
+        &'r self,
+        arena: &'a mut Bump,
+        now: u64,
         session: u64,
-        id: ListenerId,
-        path: Path,
-        query: Option<Query>,
-    ) -> Result<(), NoMemory>
-        requires { is_open self.old session ≡ true }
-        ensures ok { OnOk result (self.new ≡ listening self.old session id path query) }
-        ensures err { OnErr result (self.new ≡ self.old) }
-    {
-        let Some(open) = self.sessions.get_mut(&session) else {
-            unreachable!()
-        };
-        open.listen(id, path, query)
-    }
-
-    fn unlisten(&mut self, session: u64, id: &ListenerId) -> Reply
-        ensures { unlistens self.old session id.now ≡ record { reply = result; after = self.new } }
-    {
-        if !self.is_open(session) {
-            return Reply::Refused(Refusal::NoSession);
-        }
-        if self.end(session, id) {
-            Reply::Done
-        } else {
-            Reply::Refused(Refusal::NoListener)
-        }
-    }
-
-    // Lets an open session listen no longer under this id, and says whether it did.
-    fn end(&mut self, session: u64, id: &ListenerId) -> bool
-        requires { is_open self.old session ≡ true }
-        ensures had { result ≡ has_id id.now (listeners_of self.old session) }
-        ensures gone { self.new ≡ with_session self.old session (identity_of self.old session) (without_id id.now (listeners_of self.old session)) }
-    {
-        let Some(open) = self.sessions.get_mut(&session) else {
-            unreachable!()
-        };
-        open.unlisten(id)
-    }
-
-    fn poll(&mut self, arena: &mut Bump, now: u64, session: u64) -> Result<Reply, NoMemory>
+        write: &'r Write,
+    ) -> Result<Found<'r, 'a>, BorrowedRefusal<'r>>
         requires moment { now ≤ MAX_MOMENT }
-        requires heard { AllHeard self.old }
-        ensures ok { IfOk result (λ reply. polls self.old now session ≡ record { reply = reply; after = self.new }) }
-        ensures err { OnErr result (self.new ≡ self.old) }
-        ensures later { OnErr result (is_open self.old session ≡ true) }
+        requires heard { AllHeard self.now }
+        ensures found { IfOk result (λ found. Comes (sets self.now now session write.now) found (with_settled (with_tree self.now (write.now ∷ [])) found.decisions.made.items) × CanBeMade self.now session (write.now ∷ [])) }
+        ensures refused { IfErr result (λ refusal. Refuses self.now (sets self.now now session write.now) (not (is_open self.now session)) (refusal_of refusal)) }
     {
-        let Some(open) = self.open_session(session) else {
-            return Ok(Reply::Refused(Refusal::NoSession));
-        };
+        let open = self.demand_open(session)?;
+        self.judge_writes(arena, now, open.identity(), slice::from_ref(write))
+    }
+
+    fn judge_update<'r, 'a: 'r>(
+        &'r self,
+        arena: &'a mut Bump,
+        now: u64,
+        session: u64,
+        writes: &'r Writes,
+    ) -> Result<Found<'r, 'a>, BorrowedRefusal<'r>>
+        requires moment { now ≤ MAX_MOMENT }
+        requires heard { AllHeard self.now }
+        ensures found { IfOk result (λ found. Comes (updates self.now now session writes.now) found (with_settled (with_tree self.now writes.now) found.decisions.made.items) × CanBeMade self.now session writes.now × (takes_no_memory self.now session (Event.Update writes.now) ≡ false)) }
+        ensures refused { IfErr result (λ refusal. Refuses self.now (updates self.now now session writes.now) (takes_no_memory self.now session (Event.Update writes.now)) (refusal_of refusal)) }
+    {
+        let open = self.demand_open(session)?;
+        self.rules();
+        let writes = writes.in_order();
+        if writes.is_empty() {
+            return Err(BorrowedRefusal::Other(Refusal::EmptyUpdate));
+        }
+        if overlaps(writes) {
+            return Err(BorrowedRefusal::Other(Refusal::Overlap));
+        }
+        self.judge_writes(arena, now, open.identity(), writes)
+    }
+
+    fn judge_listen<'r, 'a: 'r>(
+        &'r self,
+        arena: &'a mut Bump,
+        now: u64,
+        session: u64,
+        id: &'r ListenerId,
+        path: &'r Path,
+        query: Option<&'r Query>,
+    ) -> Result<Found<'r, 'a>, BorrowedRefusal<'r>>
+        requires { now ≤ MAX_MOMENT }
+        ensures found { IfOk result (λ found. Comes (listens self.now now session id.now path.now (option_map (λ query. query.now) query.entry)) found (listening self.now session id.now path.now (option_map (λ query. query.now) query.entry)) × (is_open self.now session ≡ true) × (takes_no_memory self.now session (Event.Listen id.now path.now (option_map (λ query. query.now) query.entry)) ≡ false)) }
+        ensures refused { IfErr result (λ refusal. Refuses self.now (listens self.now now session id.now path.now (option_map (λ query. query.now) query.entry)) (takes_no_memory self.now session (Event.Listen id.now path.now (option_map (λ query. query.now) query.entry))) (refusal_of refusal)) }
+    {
+        let open = self.demand_open(session)?;
+        if let Some(refusal) = listen_refusal(open, id) {
+            return Err(BorrowedRefusal::Other(refusal));
+        }
+        self.judge_read(arena, now, open.identity(), path, query)
+    }
+
+    fn judge_unlisten<'r, 'a: 'r>(
+        &'r self,
+        arena: &'a mut Bump,
+        session: u64,
+        id: &'r ListenerId,
+    ) -> Result<Found<'r, 'a>, BorrowedRefusal<'r>>
+        ensures found { IfOk result (λ found. Comes (unlistens self.now session id.now) found (with_session self.now session (identity_of self.now session) (without_id id.now (listeners_of self.now session))) × (is_open self.now session ≡ true)) }
+        ensures refused { IfErr result (λ refusal. Refuses self.now (unlistens self.now session id.now) true (refusal_of refusal)) }
+    {
+        let open = self.demand_open(session)?;
+        if !open.listeners().has(id) {
+            return Err(BorrowedRefusal::Other(Refusal::NoListener));
+        }
+        Ok(Found::done(arena))
+    }
+
+    fn judge_poll<'r, 'a: 'r>(
+        &'r self,
+        arena: &'a mut Bump,
+        now: u64,
+        session: u64,
+    ) -> Result<Found<'r, 'a>, BorrowedRefusal<'r>>
+        requires moment { now ≤ MAX_MOMENT }
+        requires heard { AllHeard self.now }
+        ensures found { IfOk result (λ found. Comes (polls self.now now session) found (with_session self.now session (identity_of self.now session) (taken (settled 0 found.decisions.made.items (listeners_of self.now session)))) × (is_open self.now session ≡ true)) }
+        ensures refused { IfErr result (λ refusal. Refuses self.now (polls self.now now session) (not (is_open self.now session)) (refusal_of refusal)) }
+    {
+        let open = self.demand_open(session)?;
         reset(arena)?;
-        let decisions = self.decide_own(&*arena, now, open, open.identity(), true)?;
-        let news = self.news_of(arena, open, &decisions.made)?;
-        self.hand_out(session, &decisions.made);
-        Ok(Reply::News(news))
+        let arena: &'a Bump = arena;
+        let decisions = self.decide_own(arena, now, open, open.identity(), true)?;
+        let tidings = self.tidings_of(arena, open, &decisions.made)?;
+        Ok(Found {
+            reply: BorrowedReply::News(tidings),
+            decisions,
+        })
     }
 
-    // The news of an open session, once this is made that was decided.
-    fn news_of(
-        &self,
-        arena: &Bump,
-        session: &Session,
-        decisions: &[Decision],
-    ) -> Result<News, NoMemory>
-        ensures { IfOk result (λ news. news ≡ news_of self.now.tree (settled 0 decisions.now session.now.listeners)) }
+    fn judge_tick<'r, 'a: 'r>(
+        &'r self,
+        arena: &'a mut Bump,
+        now: u64,
+    ) -> Result<Found<'r, 'a>, BorrowedRefusal<'r>>
+        requires moment { now ≤ MAX_MOMENT }
+        requires heard { AllHeard self.now }
+        ensures found { IfOk result (λ found. Comes (ticks self.now now) found (with_settled self.now found.decisions.made.items)) }
+        ensures refused { IfErr result (λ refusal. Refuses self.now (ticks self.now now) false (refusal_of refusal)) }
     {
-        self.tidings_of(arena, session, decisions)?.copy(self.alloc)
+        reset(arena)?;
+        let decisions = self.decide_by(arena, &self.rules, now, true)?;
+        Ok(Found::decided(decisions))
     }
 
-    // The same, borrowed.
-    fn tidings_of<'a>(
+    fn judge_deploy<'r, 'a: 'r>(
+        &'r self,
+        arena: &'a mut Bump,
+        now: u64,
+        session: u64,
+        rules: &'r Rules,
+    ) -> Result<Found<'r, 'a>, BorrowedRefusal<'r>>
+        requires { now ≤ MAX_MOMENT }
+        ensures found { IfOk result (λ found. Comes (deploys self.now now session rules.now) found (with_settled (with_rules self.now rules.now) found.decisions.made.items)) }
+        ensures refused { IfErr result (λ refusal. Refuses self.now (deploys self.now now session rules.now) (takes_no_memory self.now session (Event.Deploy rules.now)) (refusal_of refusal)) }
+    {
+        let open = self.demand_open(session)?;
+        if !open.is_admin() {
+            return Err(BorrowedRefusal::Other(Refusal::NotAdmin));
+        }
+        reset(arena)?;
+        let decisions = self.decide_by(arena, rules, now, false)?;
+        Ok(Found::decided(decisions))
+    }
+
+    // ---- reads and writes, judged
+
+    // What a read comes to, for whoever is signed in.
+    fn judge_read<'r, 'a: 'r>(
+        &'r self,
+        arena: &'a mut Bump,
+        now: u64,
+        who: Option<&'r Identity>,
+        path: &'r Path,
+        query: Option<&'r Query>,
+    ) -> Result<Found<'r, 'a>, BorrowedRefusal<'r>>
+        requires { now ≤ MAX_MOMENT }
+        ensures granted { IfOk result (IsGranted self.now now (who_of who.entry) path.now (option_map (λ query. query.now) query.entry)) }
+        ensures refused { IfErr result (IsRefused (read_refusal_for self.now now (who_of who.entry) path.now (option_map (λ query. query.now) query.entry))) }
+    {
+        reset(arena)?;
+        let arena: &'a Bump = arena;
+        if let Some(names) = self.read_denial(arena, now, who, path, query)? {
+            return Err(BorrowedRefusal::ReadDenied(names));
+        }
+        let found = view_in(arena, self.tree.as_ref(), path.keys(), query)?;
+        Ok(Found {
+            reply: BorrowedReply::Value(found),
+            decisions: Decisions::new(arena),
+        })
+    }
+
+    // What writes come to that don't overlap, for whoever is signed in.
+    fn judge_writes<'r, 'a: 'r>(
+        &'r self,
+        arena: &'a mut Bump,
+        now: u64,
+        who: Option<&'r Identity>,
+        writes: &'r [Write],
+    ) -> Result<Found<'r, 'a>, BorrowedRefusal<'r>>
+        requires moment { now ≤ MAX_MOMENT }
+        requires heard { AllHeard self.now }
+        requires apart { overlaps writes.now ≡ false }
+        ensures granted { IfOk result (AreGranted self.now now (who_of who.entry) writes.now) }
+        ensures refused { IfErr result (IsRefused (write_refusal_for self.now now (who_of who.entry) writes.now)) }
+    {
+        reset(arena)?;
+        let arena: &'a Bump = arena;
+        let lent: &'r Bump = arena;
+        let coming = overlay(lent, self.tree.as_ref(), writes)?;
+        if let Some(refusal) = self.write_refusal(lent, now, who, writes, &coming)? {
+            return Err(refusal);
+        }
+        let decisions = self.decide_proposed(arena, now, writes, coming)?;
+        Ok(Found::decided(decisions))
+    }
+
+    // Why writes that propose this tree are refused, if they are.
+    fn write_refusal<'r>(
+        &'r self,
+        arena: &'r Bump,
+        now: u64,
+        who: Option<&'r Identity>,
+        writes: &'r [Write],
+        coming: &Option<View<'r>>,
+    ) -> Result<Option<BorrowedRefusal<'r>>, NoMemory>
+        requires moment { now ≤ MAX_MOMENT }
+        requires apart { overlaps writes.now ≡ false }
+        requires proposes { tree_or_null coming.now ≡ tree_with self.now writes.now }
+        ensures { IfOk result (λ refusal. option_map refusal_of refusal ≡ write_refusal_for self.now now (who_of who.entry) writes.now) }
+    {
+        match writes {
+            [write] => self.set_refusal(arena, now, who, write, coming),
+            _ => self.update_refusal(arena, now, who, writes, coming),
+        }
+    }
+
+    // The same of one write, where a denial for write is borrowed.
+    fn set_refusal<'r>(
+        &'r self,
+        arena: &'r Bump,
+        now: u64,
+        who: Option<&'r Identity>,
+        write: &'r Write,
+        coming: &Option<View<'r>>,
+    ) -> Result<Option<BorrowedRefusal<'r>>, NoMemory>
+        requires moment { now ≤ MAX_MOMENT }
+        requires proposes { tree_or_null coming.now ≡ tree_with self.now (write.now ∷ []) }
+        ensures { IfOk result (λ refusal. option_map refusal_of refusal ≡ write_refusal_for self.now now (who_of who.entry) (write.now ∷ [])) }
+    {
+        self.rules();
+        let scene = arena.try_alloc(self.scene(now, who))?;
+        if let Some(names) = write_denial(arena, scene, coming, write)? {
+            return Ok(Some(BorrowedRefusal::WriteDenied(write.at(), names)));
+        }
+        Ok(other(self.granted_refusal(arena, scene, coming, write)?))
+    }
+
+    // The same of several writes.
+    fn update_refusal<'r>(
+        &'r self,
+        arena: &'r Bump,
+        now: u64,
+        who: Option<&'r Identity>,
+        writes: &'r [Write],
+        coming: &Option<View<'r>>,
+    ) -> Result<Option<BorrowedRefusal<'r>>, NoMemory>
+        requires moment { now ≤ MAX_MOMENT }
+        requires proposes { tree_or_null coming.now ≡ tree_with self.now writes.now }
+        ensures { IfOk result (λ refusal. option_map refusal_of refusal ≡ write_refusal_for self.now now (who_of who.entry) writes.now) }
+    {
+        self.rules();
+        let count = count_in(coming);
+        let scene = arena.try_alloc(self.scene(now, who))?;
+        let verdict = judge_write(self.alloc, arena, scene, shared(coming), writes)?;
+        match denial(verdict) {
+            Some(denial) => Ok(other(Some(denial))),
+            None => Ok(other(full(count))),
+        }
+    }
+
+    // Why a read is denied for whoever is signed in, if it is.
+    fn read_denial<'a>(
         &'a self,
         arena: &'a Bump,
-        session: &'a Session,
-        decisions: &[Decision],
-    ) -> Result<Tidings<'a>, NoMemory>
-        ensures { IfOk result (λ tidings. tidings ≡ news_of self.now.tree (settled 0 decisions.now session.now.listeners)) }
-    {
-        tidings_of(
-            self.alloc,
-            arena,
-            self.tree.as_ref(),
-            session.listeners(),
-            decisions,
-        )
-    }
-
-    // Makes what was decided of an open session's listeners, whose news was told.
-    fn hand_out(&mut self, session: u64, decisions: &[Decision])
-        requires { is_open self.old session ≡ true }
-        ensures { self.new ≡ with_session self.old session (identity_of self.old session) (taken (settled 0 decisions.now (listeners_of self.old session))) }
-    {
-        let Some(open) = self.sessions.get_mut(&session) else {
-            unreachable!()
-        };
-        open.settle(Docket::new(decisions));
-        open.take_marked();
-    }
-
-    fn tick(&mut self, arena: &mut Bump, now: u64) -> Result<Reply, NoMemory>
-        requires moment { now ≤ MAX_MOMENT }
-        requires heard { AllHeard self.old }
-        ensures ok { IfOk result (λ reply. ticks self.old now ≡ record { reply = reply; after = self.new }) }
-        ensures err { OnErr result (self.new ≡ self.old) }
-    {
-        reset(arena)?;
-        let decisions = self.decide_by(&*arena, &self.rules, now, true)?;
-        self.settle_all(&decisions.made);
-        Ok(Reply::Done)
-    }
-
-    fn deploy(
-        &mut self,
-        arena: &mut Bump,
         now: u64,
-        session: u64,
-        rules: Rules,
-    ) -> Result<Reply, NoMemory>
+        who: Option<&'a Identity>,
+        path: &'a Path,
+        query: Option<&'a Query>,
+    ) -> Result<Option<BorrowedNames<'a>>, NoMemory>
         requires { now ≤ MAX_MOMENT }
-        ensures ok { IfOk result (λ reply. deploys self.old now session rules ≡ record { reply = reply; after = self.new }) }
-        ensures err { OnErr result (self.new ≡ self.old) }
-        ensures later { OnErr result ((is_open self.old session ≡ true) × (is_admin (identity_of self.old session) ≡ true)) }
+        ensures { IfOk result (λ denial. option_map ReadDenied denial ≡ read_refusal_for self.now now (who_of who.entry) path.now (option_map (λ query. query.now) query.entry)) }
     {
-        let Some(open) = self.open_session(session) else {
-            return Ok(Reply::Refused(Refusal::NoSession));
-        };
-        if !open.is_admin() {
-            return Ok(Reply::Refused(Refusal::NotAdmin));
-        }
-        reset(arena)?;
-        let decisions = self.decide_by(&*arena, &rules, now, false)?;
-        self.put_rules(rules, &decisions.made);
-        Ok(Reply::Done)
+        let asked = arena.try_alloc(asked_for(query))?;
+        let scene = arena.try_alloc(self.scene(now, who))?;
+        read_denial(arena, scene, path, asked)
     }
 
-    // What becomes of all listeners by these rules, where the tree stays, and whether these are the rules
-    // that granted them.
-    fn decide_by<'a>(
+    // Why a write is refused that is not denied for write, if it is.
+    fn granted_refusal<'x>(
         &self,
-        arena: &'a Bump,
-        rules: &Rules,
-        now: u64,
-        was_heard: bool,
-    ) -> Result<Decisions<'a>, NoMemory>
-        requires moment { now ≤ MAX_MOMENT }
-        requires heard { was_heard ≡ true → AllHeardIn rules.now self.now.tree self.now.sessions }
-        ensures { IfOk result (λ decisions. with_settled (with_rules self.now rules.now) decisions.made.items ≡ deployed self.now now rules.now) }
+        arena: &'x Bump,
+        scene: &'x Scene<'x>,
+        coming: &'x Option<View<'x>>,
+        write: &'x Write,
+    ) -> Result<Option<Refusal>, NoMemory>
+        requires one { HasOneCapture (scene_of scene.now).book }
+        requires granted { MayWriteAll (scene_of scene.now) (tree_or_null coming.now) (location write.now ∷ []) }
+        ensures { IfOk result (λ refusal. refusal ≡ or_full (denial (write_verdict (scene_of scene.now) (tree_or_null coming.now) (location write.now ∷ []))) (tree_or_null coming.now)) }
     {
-        let passage = Passage::staying(rules, self.tree.as_ref(), now, was_heard);
-        self.decide_all(arena, &passage)
-    }
-
-    // Puts rules in force, and makes what was decided of all listeners.
-    fn put_rules(&mut self, rules: Rules, decisions: &[Decision])
-        ensures { self.new ≡ with_settled (with_rules self.old rules) decisions.now }
-    {
-        self.rules = rules;
-        self.settle_all(decisions);
-    }
-
-    // Adds a session to those that are open.
-    fn add(&mut self, session: u64) -> Result<(), NoMemory>
-        ensures ok { OnOk result (self.new ≡ opened self.old session) }
-        ensures err { OnErr result (self.new ≡ self.old) }
-    {
-        let Ok(_) = self.sessions.insert(session, Session::new(self.alloc)) else {
-            return Err(NoMemory);
-        };
-        Ok(())
-    }
-
-    fn get(
-        &self,
-        arena: &mut Bump,
-        now: u64,
-        session: u64,
-        path: &Path,
-        query: Option<&Query>,
-    ) -> Result<Reply, NoMemory>
-        requires { now ≤ MAX_MOMENT }
-        ensures ok { IfOk result (λ reply. outcome self.now now session (Event.Get path.now (option_map (λ query. query.now) query.entry)) ≡ record { reply = reply; after = self.now }) }
-        ensures later { OnErr result (takes_no_memory self.now session (Event.Get path.now (option_map (λ query. query.now) query.entry)) ≡ false) }
-    {
-        let Some(open) = self.open_session(session) else {
-            return Ok(Reply::Refused(Refusal::NoSession));
-        };
-        reset(arena)?;
-        if let Some(refusal) = self.read_refusal(arena, now, open.identity(), path, query)? {
-            return Ok(Reply::Refused(refusal));
-        }
-        let tree = self.selected_at(arena, path.keys(), query)?;
-        Ok(Reply::Value(tree))
-    }
-
-    fn set(
-        &mut self,
-        arena: &mut Bump,
-        now: u64,
-        session: u64,
-        write: Write,
-    ) -> Result<Reply, NoMemory>
-        requires moment { now ≤ MAX_MOMENT }
-        requires heard { AllHeard self.old }
-        ensures ok { IfOk result (λ reply. outcome self.old now session (Event.Set write) ≡ record { reply = reply; after = self.new }) }
-        ensures err { OnErr result (self.new ≡ self.old) }
-        ensures later { OnErr result (takes_no_memory self.old session (Event.Set write) ≡ false) }
-    {
-        let Some(open) = self.open_session(session) else {
-            return Ok(Reply::Refused(Refusal::NoSession));
-        };
-        reset(arena)?;
-        match self.judge_write(&*arena, now, open.identity(), slice::from_ref(&write))? {
-            Judged::Refused(refusal) => Ok(Reply::Refused(refusal)),
-            Judged::Granted(decisions) => {
-                self.make(write)?;
-                self.settle_all(&decisions.made);
-                Ok(Reply::Done)
-            }
-        }
-    }
-
-    fn update(
-        &mut self,
-        arena: &mut Bump,
-        now: u64,
-        session: u64,
-        writes: Writes,
-    ) -> Result<Reply, NoMemory>
-        requires moment { now ≤ MAX_MOMENT }
-        requires heard { AllHeard self.old }
-        ensures ok { IfOk result (λ reply. outcome self.old now session (Event.Update writes) ≡ record { reply = reply; after = self.new }) }
-        ensures err { OnErr result (self.new ≡ self.old) }
-        ensures later { OnErr result (takes_no_memory self.old session (Event.Update writes) ≡ false) }
-    {
-        let Some(open) = self.open_session(session) else {
-            return Ok(Reply::Refused(Refusal::NoSession));
-        };
-        self.rules();
-        let mut writes = writes.into_vec();
-        if writes.is_empty() {
-            return Ok(Reply::Refused(Refusal::EmptyUpdate));
-        }
-        sort(&mut writes);
-        if overlaps(&writes) {
-            return Ok(Reply::Refused(Refusal::Overlap));
-        }
-        reset(arena)?;
-        match self.judge_write(&*arena, now, open.identity(), &writes)? {
-            Judged::Refused(refusal) => Ok(Reply::Refused(refusal)),
-            Judged::Granted(decisions) => {
-                self.make_all(writes)?;
-                self.settle_all(&decisions.made);
-                Ok(Reply::Done)
-            }
+        let locations = count_in(coming);
+        let verdict = judge_granted(self.alloc, arena, scene, coming, write)?;
+        match denial(verdict) {
+            Some(denial) => Ok(Some(denial)),
+            None => Ok(full(locations)),
         }
     }
 
@@ -746,105 +588,59 @@ impl Machine {
         }
     }
 
-    // Why a read is refused for whoever is signed in, if it is.
-    fn read_refusal(
+    // ---- what becomes of listeners
+
+    // What becomes of what an open session listens to, where this is who is signed in on it, and whether
+    // that is who was granted it.
+    fn decide_own<'a>(
         &self,
-        arena: &Bump,
+        arena: &'a Bump,
         now: u64,
+        session: &Session,
         who: Option<&Identity>,
-        path: &Path,
-        query: Option<&Query>,
-    ) -> Result<Option<Refusal>, NoMemory>
-        requires { now ≤ MAX_MOMENT }
-        ensures { IfOk result (λ refusal. refusal ≡ read_refusal_for self.now now (who_of who.entry) path.now (option_map (λ query. query.now) query.entry)) }
-    {
-        let asked = asked_for(query);
-        let scene = self.scene(now, who);
-        let verdict = judge_read(self.alloc, arena, &scene, path, &asked)?;
-        Ok(denial(verdict))
-    }
-
-    // The same, where a denial is borrowed from the rules and the arena.
-    fn read_denial<'a>(
-        &'a self,
-        arena: &'a Bump,
-        now: u64,
-        who: Option<&'a Identity>,
-        path: &'a Path,
-        query: Option<&'a Query>,
-    ) -> Result<Option<BorrowedNames<'a>>, NoMemory>
-        requires { now ≤ MAX_MOMENT }
-        ensures { IfOk result (λ denial. option_map ReadDenied denial ≡ read_refusal_for self.now now (who_of who.entry) path.now (option_map (λ query. query.now) query.entry)) }
-    {
-        let asked = arena.try_alloc(asked_for(query))?;
-        let scene = arena.try_alloc(self.scene(now, who))?;
-        read_denial(arena, scene, path, asked)
-    }
-
-    // Why a write is refused for whoever is signed in, if it is, where a denial for write is borrowed.
-    fn set_refusal<'a>(
-        &'a self,
-        arena: &'a Bump,
-        now: u64,
-        who: Option<&'a Identity>,
-        write: &'a Write,
-    ) -> Result<Option<WriteRefusal<'a>>, NoMemory>
-        requires { now ≤ MAX_MOMENT }
-        ensures { IfOk result (λ refusal. option_map refusal_of_write refusal ≡ write_refusal_for self.now now (who_of who.entry) (write.now ∷ [])) }
-    {
-        self.rules();
-        let coming = overlay(arena, self.tree.as_ref(), slice::from_ref(write))?;
-        let scene = arena.try_alloc(self.scene(now, who))?;
-        if let Some(names) = write_denial(arena, scene, &coming, write)? {
-            return Ok(Some(WriteRefusal::Denied(write.at(), names)));
-        }
-        match self.granted_refusal(arena, scene, &coming, write)? {
-            Some(refusal) => Ok(Some(WriteRefusal::Other(refusal))),
-            None => Ok(None),
-        }
-    }
-
-    // Why a write is refused that is not denied for write, if it is.
-    fn granted_refusal<'a>(
-        &self,
-        arena: &'a Bump,
-        scene: &'a Scene<'a>,
-        coming: &'a Option<View<'a>>,
-        write: &'a Write,
-    ) -> Result<Option<Refusal>, NoMemory>
-        requires one { HasOneCapture (scene_of scene.now).book }
-        requires granted { MayWriteAll (scene_of scene.now) (tree_or_null coming.now) (location write.now ∷ []) }
-        ensures { IfOk result (λ refusal. refusal ≡ or_full (denial (write_verdict (scene_of scene.now) (tree_or_null coming.now) (location write.now ∷ []))) (tree_or_null coming.now)) }
-    {
-        let locations = count_in(coming);
-        let verdict = judge_granted(self.alloc, arena, scene, coming, write)?;
-        match denial(verdict) {
-            Some(denial) => Ok(Some(denial)),
-            None => Ok(full(locations)),
-        }
-    }
-
-    // What becomes of all listeners where these writes are made, which the rules grant.
-    fn decide_written<'a>(
-        &self,
-        arena: &'a Bump,
-        now: u64,
-        writes: &[Write],
+        was_heard: bool,
     ) -> Result<Decisions<'a>, NoMemory>
         requires moment { now ≤ MAX_MOMENT }
-        requires heard { AllHeard self.now }
-        requires apart { overlaps writes.now ≡ false }
-        ensures { IfOk result (λ decisions. with_settled (with_tree self.now writes.now) decisions.made.items ≡ written_to self.now now writes.now) }
+        requires heard { was_heard ≡ true → AreHeard self.now.rules self.now.tree (who_of who) session.now.listeners }
+        ensures made { IfOk result (λ decisions. decisions.made.items ≡ sparse 0 (map (fate_of self.now.tree self.now.rules self.now.tree now (who_of who.entry)) session.now.listeners)) }
+        ensures fits { IfOk result (λ decisions. length session.now.listeners < 2 ^ 64) }
     {
-        if !self.has_listeners() {
-            return Ok(Decisions::new(arena));
-        }
-        let coming = overlay(arena, self.tree.as_ref(), writes)?;
-        let decided = self.decide_proposed(arena, now, writes, coming)?;
-        Ok(decided)
+        let passage = Passage::staying(&self.rules, self.tree.as_ref(), now, was_heard);
+        decide_own(self.alloc, arena, &passage, who, session.listeners())
     }
 
-    // The same, where this is the tree that they propose.
+    // What becomes of all listeners by these rules, where the tree stays, and whether these are the rules
+    // that granted them.
+    fn decide_by<'a>(
+        &self,
+        arena: &'a Bump,
+        rules: &Rules,
+        now: u64,
+        was_heard: bool,
+    ) -> Result<Decisions<'a>, NoMemory>
+        requires moment { now ≤ MAX_MOMENT }
+        requires heard { was_heard ≡ true → AllHeardIn rules.now self.now.tree self.now.sessions }
+        ensures { IfOk result (λ decisions. with_settled (with_rules self.now rules.now) decisions.made.items ≡ deployed self.now now rules.now) }
+    {
+        let passage = Passage::staying(rules, self.tree.as_ref(), now, was_heard);
+        self.decide_all(arena, &passage)
+    }
+
+    // What becomes of all listeners in a step.
+    fn decide_all<'a>(
+        &self,
+        arena: &'a Bump,
+        passage: &Passage<'_>,
+    ) -> Result<Decisions<'a>, NoMemory>
+        requires passage { IsPassage passage.now }
+        requires heard { passage.now.was_heard ≡ true → AllHeardIn passage.now.rules.now (tree_before passage.now) self.now.sessions }
+        ensures made { IfOk result (λ decisions. decisions.made.items ≡ sparse 0 (fates_of (tree_before passage.now) passage.now.rules.now (tree_after passage.now) passage.now.moment (all_sessions self.now.sessions))) }
+        ensures fits { IfOk result (λ decisions. length (fates_of (tree_before passage.now) passage.now.rules.now (tree_after passage.now) passage.now.moment (all_sessions self.now.sessions)) < 2 ^ 64) }
+    {
+        decide_all(self.alloc, arena, passage, &self.sessions)
+    }
+
+    // What becomes of all listeners where these writes are made, which propose this tree.
     fn decide_proposed<'a>(
         &self,
         arena: &'a Bump,
@@ -869,60 +665,132 @@ impl Machine {
         self.decide_all(arena, &passage)
     }
 
-    // Whether somebody listens to something.
-    fn has_listeners(&self) -> bool
-        ensures { result ≡ list_any listens (all_sessions self.now.sessions) }
-    {
-        somebody_listens(&self.sessions)
-    }
-
-    // Why writes are refused for whoever is signed in, or what becomes of all listeners where they are made.
-    fn judge_write<'a>(
-        &self,
+    // The news of an open session, once this is made that was decided.
+    fn tidings_of<'a>(
+        &'a self,
         arena: &'a Bump,
-        now: u64,
-        who: Option<&Identity>,
-        writes: &[Write],
-    ) -> Result<Judged<'a>, NoMemory>
-        requires moment { now ≤ MAX_MOMENT }
-        requires heard { AllHeard self.now }
-        requires apart { overlaps writes.now ≡ false }
-        ensures { IfOk result (IsJudgedWrite self.now now (who_of who.entry) writes.now) }
+        session: &'a Session,
+        decisions: &[Decision],
+    ) -> Result<Tidings<'a>, NoMemory>
+        ensures { IfOk result (λ tidings. tidings ≡ news_of self.now.tree (settled 0 decisions.now session.now.listeners)) }
     {
-        let coming = overlay(arena, self.tree.as_ref(), writes)?;
-        if let Some(refusal) = self.write_refusal(arena, now, who, writes, &coming)? {
-            return Ok(Judged::Refused(refusal));
-        }
-        let decisions = self.decide_proposed(arena, now, writes, coming)?;
-        Ok(Judged::Granted(decisions))
+        tidings_of(
+            self.alloc,
+            arena,
+            self.tree.as_ref(),
+            session.listeners(),
+            decisions,
+        )
     }
 
-    // Why writes that propose this tree are refused, if they are.
-    fn write_refusal(
-        &self,
-        arena: &Bump,
-        now: u64,
-        who: Option<&Identity>,
-        writes: &[Write],
-        coming: &Option<View<'_>>,
-    ) -> Result<Option<Refusal>, NoMemory>
-        requires moment { now ≤ MAX_MOMENT }
-        requires apart { overlaps writes.now ≡ false }
-        requires proposes { tree_or_null coming.now ≡ tree_with self.now writes.now }
-        ensures { IfOk result (λ refusal. refusal ≡ write_refusal_for self.now now (who_of who.entry) writes.now) }
+    // ---- what is done
+
+    // Adds a session to those that are open.
+    fn add(&mut self, session: u64) -> Result<(), NoMemory>
+        ensures ok { OnOk result (self.new ≡ opened self.old session) }
+        ensures err { OnErr result (self.new ≡ self.old) }
     {
-        self.rules();
-        let count = count_in(coming);
-        let scene = self.scene(now, who);
-        let verdict = judge_write(self.alloc, arena, &scene, shared(coming), writes)?;
-        let Some(denial) = denial(verdict) else {
-            return Ok(full(count));
+        let Ok(_) = self.sessions.insert(session, Session::new(self.alloc)) else {
+            return Err(NoMemory);
         };
-        Ok(Some(denial))
+        Ok(())
+    }
+
+    // Takes a session from those that are open, where it is one of them.
+    fn forget(&mut self, session: u64) -> bool
+        ensures was { result ≡ is_open self.old session }
+        ensures gone { self.new ≡ closed self.old session }
+    {
+        self.sessions.remove(&session).is_some()
+    }
+
+    // Signs in whoever this is on an open session, or signs out, and makes what was decided.
+    fn put_identity(&mut self, session: u64, who: Option<Identity>, decisions: &[Decision])
+        requires { is_open self.old session ≡ true }
+        ensures { self.new ≡ with_session self.old session who (settled 0 decisions.now (listeners_of self.old session)) }
+    {
+        let Some(open) = self.sessions.get_mut(&session) else {
+            unreachable!()
+        };
+        open.sign(who);
+        open.settle(Docket::new(decisions));
+    }
+
+    // Lets an open session listen to one thing more.
+    fn begin(
+        &mut self,
+        session: u64,
+        id: ListenerId,
+        path: Path,
+        query: Option<Query>,
+    ) -> Result<(), NoMemory>
+        requires { is_open self.old session ≡ true }
+        ensures ok { OnOk result (self.new ≡ listening self.old session id path query) }
+        ensures err { OnErr result (self.new ≡ self.old) }
+    {
+        let Some(open) = self.sessions.get_mut(&session) else {
+            unreachable!()
+        };
+        open.listen(id, path, query)
+    }
+
+    // Lets an open session listen no longer under this id, and says whether it did.
+    fn end(&mut self, session: u64, id: &ListenerId) -> bool
+        requires { is_open self.old session ≡ true }
+        ensures had { result ≡ has_id id.now (listeners_of self.old session) }
+        ensures gone { self.new ≡ with_session self.old session (identity_of self.old session) (without_id id.now (listeners_of self.old session)) }
+    {
+        let Some(open) = self.sessions.get_mut(&session) else {
+            unreachable!()
+        };
+        open.unlisten(id)
+    }
+
+    // Makes what was decided of an open session's listeners, whose news was told.
+    fn hand_out(&mut self, session: u64, decisions: &[Decision])
+        requires { is_open self.old session ≡ true }
+        ensures { self.new ≡ with_session self.old session (identity_of self.old session) (taken (settled 0 decisions.now (listeners_of self.old session))) }
+    {
+        let Some(open) = self.sessions.get_mut(&session) else {
+            unreachable!()
+        };
+        open.settle(Docket::new(decisions));
+        open.take_marked();
+    }
+
+    // Puts rules in force, and makes what was decided of all listeners.
+    fn put_rules(&mut self, rules: Rules, decisions: &[Decision])
+        ensures { self.new ≡ with_settled (with_rules self.old rules) decisions.now }
+    {
+        self.rules = rules;
+        self.settle_all(decisions);
+    }
+
+    // Makes a write in the tree, and what was decided.
+    fn make(&mut self, write: Write, decisions: &[Decision]) -> Result<(), NoMemory>
+        requires { count (tree_with self.old (write ∷ [])) ≤ MAX_LOCATIONS }
+        ensures ok { OnOk result (self.new ≡ with_settled (with_tree self.old (write ∷ [])) decisions.now) }
+        ensures err { OnErr result (self.new ≡ self.old) }
+    {
+        self.put(write)?;
+        self.settle_all(decisions);
+        Ok(())
+    }
+
+    // Makes the writes of an update in the tree, all of them or none, and then what was decided.
+    fn make_update(&mut self, writes: Writes, decisions: &[Decision]) -> Result<(), NoMemory>
+        requires apart { overlaps writes ≡ false }
+        requires room { count (tree_with self.old writes) ≤ MAX_LOCATIONS }
+        ensures ok { OnOk result (self.new ≡ with_settled (with_tree self.old writes) decisions.now) }
+        ensures err { OnErr result (self.new ≡ self.old) }
+    {
+        self.put_all(writes.into_vec())?;
+        self.settle_all(decisions);
+        Ok(())
     }
 
     // Makes a write in the tree.
-    fn make(&mut self, write: Write) -> Result<(), NoMemory>
+    fn put(&mut self, write: Write) -> Result<(), NoMemory>
         requires { count (tree_with self.old (write ∷ [])) ≤ MAX_LOCATIONS }
         ensures ok { OnOk result (self.new ≡ with_tree self.old (write ∷ [])) }
         ensures err { OnErr result (self.new ≡ self.old) }
@@ -931,27 +799,13 @@ impl Machine {
     }
 
     // Makes all of these writes in the tree, or none.
-    fn make_all(&mut self, writes: Vec<Write>) -> Result<(), NoMemory>
+    fn put_all(&mut self, writes: Vec<Write>) -> Result<(), NoMemory>
         requires apart { overlaps writes.items ≡ false }
         requires room { count (tree_with self.old writes.items) ≤ MAX_LOCATIONS }
         ensures ok { OnOk result (self.new ≡ with_tree self.old writes.items) }
         ensures err { OnErr result (self.new ≡ self.old) }
     {
         make_all(self.alloc, &mut self.tree, writes)
-    }
-
-    // What becomes of all listeners in a step.
-    fn decide_all<'a>(
-        &self,
-        arena: &'a Bump,
-        passage: &Passage<'_>,
-    ) -> Result<Decisions<'a>, NoMemory>
-        requires passage { IsPassage passage.now }
-        requires heard { passage.now.was_heard ≡ true → AllHeardIn passage.now.rules.now (tree_before passage.now) self.now.sessions }
-        ensures made { IfOk result (λ decisions. decisions.made.items ≡ sparse 0 (fates_of (tree_before passage.now) passage.now.rules.now (tree_after passage.now) passage.now.moment (all_sessions self.now.sessions))) }
-        ensures fits { IfOk result (λ decisions. length (fates_of (tree_before passage.now) passage.now.rules.now (tree_after passage.now) passage.now.moment (all_sessions self.now.sessions)) < 2 ^ 64) }
-    {
-        decide_all(self.alloc, arena, passage, &self.sessions)
     }
 
     // Makes what was decided of all listeners.
@@ -961,27 +815,5 @@ impl Machine {
         if !decisions.is_empty() {
             settle_all(&mut self.sessions, decisions);
         }
-    }
-
-    // What stands at a path, None where nothing exists.
-    fn value_at(&self, path: &[Key]) -> Option<&Node>
-        ensures { option_map (λ node. node.now) result ≡ non_null (sub self.now.tree path.now) }
-    {
-        match self.tree() {
-            Some(root) => node_at(root, path),
-            None => None,
-        }
-    }
-
-    // What a query selects of it, copied.
-    fn selected_at(
-        &self,
-        arena: &Bump,
-        path: &[Key],
-        query: Option<&Query>,
-    ) -> Result<Option<Node>, NoMemory>
-        ensures { IfOk result (λ tree. tree ≡ non_null (selected_at self.now.tree path.now (option_map (λ query. query.now) query.entry))) }
-    {
-        selected_in(self.alloc, arena, self.tree.as_ref(), path, query)
     }
 }

@@ -1,6 +1,7 @@
 //! Why an event is refused: what its judging comes to.
-ghost use Rattle.std.specs.Prelude.{◌≡◌, min};
+ghost use Rattle.std.specs.Prelude.{◌≡◌, min, option_map};
 ghost use Rattle.tree_model.specs.Tree.{Tree, count};
+ghost use Rattle.rtdb_model.specs.Borrowed.{refusal_of};
 ghost use Rattle.rtdb_model.specs.Step.{denial, full};
 ghost use Rattle.rtdb_core.specs.Working.Fates.{listen_refusal};
 
@@ -9,7 +10,7 @@ use bumpalo::Bump;
 use json_tree::NoMemory;
 use judge::Verdict;
 use listeners::{ListenerId, MAX_LISTENERS};
-use rtdb_model::{MAX_LOCATIONS, Refusal};
+use rtdb_model::{BorrowedRefusal, MAX_LOCATIONS, Refusal};
 
 /// The denial of a verdict, if it is one.
 pub(crate) fn denial(verdict: Verdict) -> Option<Refusal>
@@ -22,6 +23,16 @@ pub(crate) fn denial(verdict: Verdict) -> Option<Refusal>
         Verdict::ValidateDenied(at, pattern, why) => {
             Some(Refusal::ValidateDenied(at, pattern, why))
         }
+    }
+}
+
+/// A refusal that borrows nothing, if there is one.
+pub(crate) fn other<'r>(refusal: Option<Refusal>) -> Option<BorrowedRefusal<'r>>
+    ensures { option_map refusal_of result ≡ refusal }
+{
+    match refusal {
+        Some(refusal) => Some(BorrowedRefusal::Other(refusal)),
+        None => None,
     }
 }
 

@@ -2,10 +2,9 @@
 //! then all of it is made, which can't.
 ghost use Rattle.std.specs.Prelude.{◌≡◌, ◌+◌, ◌<◌, ◌^◌, ◌++◌, length, map, true, IfOk, OnOk};
 ghost use Rattle.std.specs.FinMap as map_of;
-ghost use Rattle.std.specs.List.{list_any};
 ghost use Rattle.std.specs.Ordering.{nat_cmp};
 ghost use Rattle.std.specs.BTreeMap.{IsOrdered};
-ghost use Rattle.rtdb_core.specs.Working.Fates.{fate_of, fates_of, listens, sparse, settled_all};
+ghost use Rattle.rtdb_core.specs.Working.Fates.{fate_of, fates_of, sparse, settled_all};
 ghost use Rattle.rtdb_core.specs.Working.Heard.{AreHeard, AllHeardIn};
 ghost use Rattle.rtdb_core.specs.Working.Passages.{IsPassage, tree_before, tree_after, who_of};
 
@@ -49,19 +48,6 @@ pub(crate) fn decide_all<'a, 'p>(
     }
     decisions.law();
     Ok(decisions)
-}
-
-/// Whether somebody listens to something, by a look at each session up to the first on which somebody does.
-pub(crate) fn somebody_listens(sessions: &BTreeMap<u64, Session>) -> bool
-    ensures listens { result ≡ list_any listens (map (λ e. e.1) sessions.now.entries) }
-    ensures ordered { IsOrdered nat_cmp sessions.now }
-{
-    for one in sessions.values() {
-        if one.listeners().len() > 0 {
-            return true;
-        }
-    }
-    false
 }
 
 /// What becomes of the listeners of whoever is signed in.

@@ -11,8 +11,6 @@ use bumpalo::Bump;
 use evaluator::Asked;
 use json_tree::{Key, NoMemory, Node};
 use listeners::{Query, select};
-use rtdb_model::copied;
-use std::alloc::Global;
 
 // What a rule sees of a query, if there is one.
 pub(crate) fn asked_for(query: Option<&Query>) -> Asked<'_>
@@ -34,20 +32,6 @@ pub(crate) fn view_in<'a>(
     ensures { IfOk result (λ found. found ≡ non_null (selected_at (node_or_null tree.entry) path.now (option_map (λ query. query.now) query.entry))) }
 {
     select(arena, stored(node_in(tree, path)), query)
-}
-
-/// The same, copied.
-pub(crate) fn selected_in(
-    alloc: Global,
-    arena: &Bump,
-    tree: Option<&Node>,
-    path: &[Key],
-    query: Option<&Query>,
-) -> Result<Option<Node>, NoMemory>
-    ensures { IfOk result (λ found. found ≡ non_null (selected_at (node_or_null tree.entry) path.now (option_map (λ query. query.now) query.entry))) }
-{
-    let found = view_in(arena, tree, path, query)?;
-    copied(alloc, &found)
 }
 
 pub(crate) fn stored(node: Option<&Node>) -> Option<View<'_>>

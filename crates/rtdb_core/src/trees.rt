@@ -1,15 +1,12 @@
-//! What is looked up and counted in trees, and the writes of an event.
+//! What is looked up and counted in trees.
 ghost use Rattle.std.specs.Prelude.{◌≡◌, min, option_map};
-ghost use Rattle.std.specs.List.Sorted.{IsPermutation};
 ghost use Rattle.tree_model.specs.PathMap.{sub};
 ghost use Rattle.tree_model.specs.Tree.{non_null, count};
 ghost use Rattle.path_capture.specs.Write.{tree_or_null};
 ghost use Rattle.arena_snapshot.specs.View.{node_or_null};
-ghost use Rattle.rtdb_model.specs.Step.{removal};
 
 use arena_snapshot::View;
 use json_tree::{Key, Node};
-use path_capture::{Path, Write};
 
 /// How many locations exist in a stored tree.
 #[tactic(auto, using(crate::proofs::Room::count_null))]
@@ -56,23 +53,4 @@ pub(crate) fn node_in<'a>(tree: Option<&'a Node>, path: &[Key]) -> Option<&'a No
         Some(root) => node_at(root, path),
         None => None,
     }
-}
-
-/// The write that removes what is at this location.
-pub(crate) fn removal(path: Path) -> Write
-    ensures { result ≡ removal path }
-{
-    // It has at most 32 keys.
-    path.keys();
-    let Ok(write) = Write::new(path, None) else {
-        unreachable!()
-    };
-    write
-}
-
-/// Puts writes in the order of their locations, in place and without taking memory.
-pub(crate) fn sort(writes: &mut Vec<Write>)
-    ensures { IsPermutation writes.old.items writes.new.items }
-{
-    writes.sort_unstable_by(|a, b| a.at().compare(b.at()));
 }

@@ -3,3 +3,4 @@ pub mod Sameness
 pub mod Histories
 pub mod Outcomes
 pub mod Answers
+pub mod Paths

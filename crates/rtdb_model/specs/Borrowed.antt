@@ -1,17 +1,49 @@
--- Which refusals those are of which a denial is borrowed.
+-- Which replies those are that are borrowed.
+use Rattle.std.specs.Prelude.{Bool, true, false}
+use Rattle.rtdb_model.specs.declared.reply.Reply.{Reply}
+use Rattle.rtdb_model.specs.declared.reply.Reply.TheVariants as replies
 use Rattle.rtdb_model.specs.declared.reply.Refusal.{Refusal}
-use Rattle.rtdb_model.specs.declared.reply.Refusal.TheVariants.{ReadDenied, WriteDenied}
-use Rattle.rtdb_model.specs.declared.reply.ReadRefusal.{ReadRefusal}
-use Rattle.rtdb_model.specs.declared.reply.ReadRefusal.TheVariants as reads
-use Rattle.rtdb_model.specs.declared.reply.WriteRefusal.{WriteRefusal}
-use Rattle.rtdb_model.specs.declared.reply.WriteRefusal.TheVariants as writes
+use Rattle.rtdb_model.specs.declared.reply.Refusal.TheVariants as refusals
+use Rattle.rtdb_model.specs.declared.borrowed.BorrowedReply.{BorrowedReply}
+use Rattle.rtdb_model.specs.declared.borrowed.BorrowedReply.TheVariants.{Done, Value, News}
+use Rattle.rtdb_model.specs.declared.borrowed.BorrowedRefusal.{BorrowedRefusal}
+use Rattle.rtdb_model.specs.declared.borrowed.BorrowedRefusal.TheVariants.{ReadDenied, WriteDenied, Other}
 
--- the refusal of a read: a denial has the names that are borrowed
-abbrev pub refusal_of_read : ReadRefusal → Refusal
-refusal_of_read (reads.Denied names) = ReadDenied names
-refusal_of_read (reads.Other refusal) = refusal
+-- the reply of an event that is not refused
+abbrev pub reply_of : BorrowedReply → Reply
+reply_of Done = replies.Done
+reply_of (Value view) = replies.Value view
+reply_of (News tidings) = replies.News tidings
 
--- the refusal of a write: a denial has the location and the names that are borrowed
-abbrev pub refusal_of_write : WriteRefusal → Refusal
-refusal_of_write (writes.Denied at names) = WriteDenied at.now names
-refusal_of_write (writes.Other refusal) = refusal
+-- the refusal: a denial has the names that are borrowed, that of a write its location too
+abbrev pub refusal_of : BorrowedRefusal → Refusal
+refusal_of (ReadDenied names) = refusals.ReadDenied names
+refusal_of (WriteDenied at names) = refusals.WriteDenied at.now names
+refusal_of (Other refusal) = refusal
+
+-- ---- what a copy takes memory for
+
+-- the refusal names rules
+abbrev pub names_rules : Refusal → Bool
+names_rules refusals.SessionOpen = false
+names_rules refusals.TooManySessions = false
+names_rules refusals.NoSession = false
+names_rules refusals.NotAdmin = false
+names_rules refusals.EmptyUpdate = false
+names_rules refusals.Overlap = false
+names_rules refusals.DuplicateId = false
+names_rules refusals.TooManyListeners = false
+names_rules refusals.NoListener = false
+names_rules (refusals.ReadDenied named) = true
+names_rules (refusals.WriteDenied at named) = true
+names_rules (refusals.ValidateDenied at pattern why) = false
+names_rules refusals.TreeFull = false
+names_rules refusals.NoMemory = false
+names_rules refusals.Spent = false
+
+-- the reply has a tree, news, or names of rules
+abbrev pub is_copied : Reply → Bool
+is_copied replies.Done = false
+is_copied (replies.Value tree) = true
+is_copied (replies.News notices) = true
+is_copied (replies.Refused refusal) = names_rules refusal

@@ -2,6 +2,7 @@ pub mod State
 pub mod Rejudged
 pub mod News
 pub mod Tidings
+pub mod Event
 pub mod Borrowed
 pub mod Step
 pub mod Headline

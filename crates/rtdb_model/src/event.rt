@@ -1,11 +1,11 @@
 //! What a session can ask of the database.
-ghost use Rattle.std.specs.Prelude.{◌≡◌};
 
+use crate::removal::Removal;
+use crate::writes::Writes;
 use evaluator::Identity;
 use listeners::{ListenerId, Query};
 use path_capture::{Path, Write};
 use rules_reader::Rules;
-use std::marker::Model;
 
 /// An event: what one session asks, in one step.
 #[derive(Debug, Drop)]
@@ -23,7 +23,7 @@ pub enum Event {
     /// Makes a write.
     Set(Write),
     /// Removes what is at a location.
-    Remove(Path),
+    Remove(Removal),
     /// Makes several writes, all of them or none.
     Update(Writes),
     /// Listens, under an id, to a path, or to what a query selects of it.
@@ -36,39 +36,4 @@ pub enum Event {
     Tick,
     /// Puts rules in force.
     Deploy(Rules),
-}
-
-/// The writes of an update. Contracts see them as a list.
-#[derive(Debug, Drop)]
-pub struct Writes {
-    held: Vec<Write>,
-}
-
-impl Model for Writes {
-    ghost use Rattle.std.specs.Prelude.{List};
-    ghost use Rattle.std.specs.Coded.{coded×, coded_list, coded_ℕ};
-    ghost use Rattle.tree_model.specs.Tree.{tree_code};
-    ghost use Rattle.tree_model.specs.Write.{Write};
-
-    ghost Value = { List Write };
-
-    ghost coded = { coded_list (coded× (coded_list (coded_list coded_ℕ)) tree_code) };
-
-    ghost view = { λ writes. writes.held.items };
-}
-
-impl Writes {
-    /// The writes of a vector, without taking memory.
-    pub fn of_vec(held: Vec<Write>) -> Writes
-        ensures { result ≡ held.items }
-    {
-        Writes { held }
-    }
-
-    /// The vector of these writes, without taking memory.
-    pub fn into_vec(self) -> Vec<Write>
-        ensures { result.items ≡ self }
-    {
-        self.held
-    }
 }

@@ -5,16 +5,22 @@
 //! that read messages and write answers need no more of the database than this.
 #![tactic(auto)]
 
+mod borrowed;
 mod event;
 mod limits;
 mod news;
+mod removal;
 mod reply;
 mod tidings;
+mod writes;
 
+pub use borrowed::{BorrowedRefusal, BorrowedReply};
 pub use evaluator::MAX_MOMENT;
-pub use event::{Event, Writes};
+pub use event::Event;
 pub use judge::{BorrowedName, BorrowedNames, Named, NamedRules, Why};
 pub use limits::{MAX_LOCATIONS, MAX_SESSIONS, the_limits};
 pub use news::{News, Notice, What};
-pub use reply::{ReadRefusal, Refusal, Reply, WriteRefusal};
+pub use removal::Removal;
+pub use reply::{Refusal, Reply};
 pub use tidings::{Sight, Tiding, Tidings, copied};
+pub use writes::Writes;

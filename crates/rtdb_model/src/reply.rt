@@ -1,12 +1,10 @@
 //! What an event is answered.
 ghost use Rattle.std.specs.Prelude.{◌≡◌};
 ghost use Rattle.rtdb_model.specs.declared.reply.Refusal.TheVariants.{NoMemory as no_memory};
-ghost use Rattle.rtdb_model.specs.declared.reply.ReadRefusal.TheVariants.{Other as other};
-ghost use Rattle.rtdb_model.specs.declared.reply.WriteRefusal.TheVariants.{Other as other_write};
 
 use crate::news::News;
 use json_tree::{NoMemory, Node};
-use judge::{BorrowedNames, NamedRules, Why};
+use judge::{NamedRules, Why};
 use path_capture::{Path, Pattern};
 
 /// What an event is answered.
@@ -58,41 +56,6 @@ pub enum Refusal {
     /// As many events were answered as may be, and this one was not asked. No step answers it: it comes of those who
     /// ask for many threads.
     Spent,
-}
-
-/// Why a read is refused, of which a denial is borrowed from the rules and the arena.
-#[derive(Drop)]
-pub enum ReadRefusal<'a> {
-    /// No `.read` at the path or above it holds; these are all of them.
-    Denied(BorrowedNames<'a>),
-    /// Any other refusal.
-    Other(Refusal),
-}
-
-impl<'a> From<NoMemory> for ReadRefusal<'a> {
-    ghost from_gives = { λ _ refusal. refusal ≡ other no_memory };
-
-    fn from(_refused: NoMemory) -> ReadRefusal<'a> {
-        ReadRefusal::Other(Refusal::NoMemory)
-    }
-}
-
-/// Why a write of one location is refused, of which a denial for write is borrowed from the write, the rules and the
-/// arena.
-#[derive(Drop)]
-pub enum WriteRefusal<'a> {
-    /// No `.write` at this location, which is that of the write, or above it holds; these are all of them.
-    Denied(&'a Path, BorrowedNames<'a>),
-    /// Any other refusal.
-    Other(Refusal),
-}
-
-impl<'a> From<NoMemory> for WriteRefusal<'a> {
-    ghost from_gives = { λ _ refusal. refusal ≡ other_write no_memory };
-
-    fn from(_refused: NoMemory) -> WriteRefusal<'a> {
-        WriteRefusal::Other(Refusal::NoMemory)
-    }
 }
 
 impl From<NoMemory> for Refusal {

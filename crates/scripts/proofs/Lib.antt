@@ -4,7 +4,7 @@ pub mod Keeping
 pub mod Fixed
 pub mod Standing
 pub mod Answering
-pub mod Polling
+pub mod Planning
 pub mod Feeding
 pub mod Going
 pub mod Ending

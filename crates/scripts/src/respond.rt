@@ -3,8 +3,7 @@ ghost use Rattle.std.specs.Prelude.{◌≡◌, ◌≢◌, ◌≤◌, ℕ, List, 
 ghost use Rattle.answers.specs.AnswerText.{text, fault_text, rules_fault_text, line_fault_text};
 ghost use Rattle.scripts.specs.Said.{unopened, refused, running, as_line, IsAnsweredBy, header_fault_text};
 ghost use Rattle.scripts.specs.Working.Follow.{phase_of, bytes_of, rest_of, AnswersAt};
-ghost use Rattle.rtdb_model.specs.Borrowed.{refusal_of_read, refusal_of_write};
-ghost use Rattle.rtdb_model.specs.Step.{outcome};
+ghost use Rattle.rtdb_model.specs.Borrowed.{reply_of, refusal_of};
 ghost use Rattle.rtdb_model.specs.declared.reply.Reply.TheVariants as replies;
 ghost use Rattle.rtdb_model.specs.declared.reply.Refusal.TheVariants as refusals;
 ghost use Rattle.rules_reader.specs.declared.fault.RulesFault.TheVariants as rules_faults;
@@ -15,10 +14,8 @@ use answers::AnswerWriter;
 use bumpalo::Bump;
 use json_lines::MessageFault;
 use json_tree::NoMemory;
-use listeners::Query;
-use path_capture::{Path, Write};
-use requests::{Asked, Form, LineFault, MessageReader, Stamp};
-use rtdb_core::{Core, Event, MAX_MOMENT, ReadRefusal, Refusal, Reply, WriteRefusal};
+use requests::{Asked, Form, LineFault, MessageReader};
+use rtdb_core::{BorrowedRefusal, BorrowedReply, Core, Granted, MAX_MOMENT, Plan, Refusal};
 use rules_reader::RulesFault;
 use std::alloc::Global;
 
@@ -103,7 +100,7 @@ fn answer_request(
     }
 }
 
-// Answers what is asked by a step.
+// Answers what is asked: it is judged, what it is answered is written from where it stands, and then it is done.
 fn answer_asked(
     core: &mut Core,
     arena: &mut Bump,
@@ -115,161 +112,36 @@ fn answer_asked(
     ensures before { out.new.before ≡ out.old.before }
     ensures answered { IfOk result (λ answer. (said : List ℕ) × IsAnsweredBy core.old (Ok asked) said core.new × (bytes_of answer out.new.text ≡ as_line said)) }
 {
-    let stamp = asked.stamp;
-    match asked.event {
-        Event::Get(path, query) => answer_read(core, arena, stamp, &path, query.as_ref(), out),
-        Event::Set(write) => answer_set(core, arena, stamp, write, out),
-        Event::Poll => answer_poll(core, arena, stamp, out),
-        event => {
-            let reply = core.step(arena, stamp.now, stamp.session, event);
-            say(&reply, out)
-        }
-    }
-}
-
-// Answers a read: what it is answered by is written from where it stands.
-fn answer_read(
-    core: &Core,
-    arena: &mut Bump,
-    stamp: Stamp,
-    path: &Path,
-    query: Option<&Query>,
-    out: &mut AnswerWriter,
-) -> Result<Answer, NoMemory>
-    requires moment { stamp.now ≤ MAX_MOMENT }
-    requires none { out.old.text ≡ [] }
-    ensures before { out.new.before ≡ out.old.before }
-    ensures answered { IfOk result (λ answer. (said : List ℕ) × IsAnsweredBy core.now (Ok (record { stamp = stamp; event = Event.Get path.now (option_map (λ query. query.now) query.entry) })) said core.now × (bytes_of answer out.new.text ≡ as_line said)) }
-{
-    match query {
-        None => answer_plain_read(core, arena, stamp, path, out),
-        Some(query) => answer_query(core, arena, stamp, path, query, out),
-    }
-}
-
-// Answers a read without a query.
-fn answer_plain_read(
-    core: &Core,
-    arena: &mut Bump,
-    stamp: Stamp,
-    path: &Path,
-    out: &mut AnswerWriter,
-) -> Result<Answer, NoMemory>
-    requires moment { stamp.now ≤ MAX_MOMENT }
-    requires none { out.old.text ≡ [] }
-    ensures before { out.new.before ≡ out.old.before }
-    ensures answered { IfOk result (λ answer. (said : List ℕ) × IsAnsweredBy core.now (Ok (record { stamp = stamp; event = Event.Get path.now None })) said core.now × (bytes_of answer out.new.text ≡ as_line said)) }
-{
-    match core.read(arena, stamp.now, stamp.session, path) {
-        Ok(found) => {
-            out.put_value(found)?;
-            Ok(Answer::Written)
-        }
-        Err(refusal) => say_read_refusal(&refusal, out),
-    }
-}
-
-// Answers a read by a query.
-fn answer_query(
-    core: &Core,
-    arena: &mut Bump,
-    stamp: Stamp,
-    path: &Path,
-    query: &Query,
-    out: &mut AnswerWriter,
-) -> Result<Answer, NoMemory>
-    requires moment { stamp.now ≤ MAX_MOMENT }
-    requires none { out.old.text ≡ [] }
-    ensures before { out.new.before ≡ out.old.before }
-    ensures answered { IfOk result (λ answer. (said : List ℕ) × IsAnsweredBy core.now (Ok (record { stamp = stamp; event = Event.Get path.now (Some query.now) })) said core.now × (bytes_of answer out.new.text ≡ as_line said)) }
-{
-    if let Err(refusal) = core.grant(arena, stamp.now, stamp.session, path, Some(query)) {
-        return say_read_refusal(&refusal, out);
-    }
-    match core.selected(arena, path, Some(query)) {
-        Ok(found) => {
-            out.put_selected(found.as_ref())?;
-            Ok(Answer::Written)
-        }
-        Err(_) => say_refusal(&Refusal::NoMemory, out),
-    }
-}
-
-// Answers a write of one location, of which the rules are asked before it is made: the names of a denial are written
-// from where they stand.
-fn answer_set(
-    core: &mut Core,
-    arena: &mut Bump,
-    stamp: Stamp,
-    write: Write,
-    out: &mut AnswerWriter,
-) -> Result<Answer, NoMemory>
-    requires moment { stamp.now ≤ MAX_MOMENT }
-    requires none { out.old.text ≡ [] }
-    ensures before { out.new.before ≡ out.old.before }
-    ensures answered { IfOk result (λ answer. (said : List ℕ) × IsAnsweredBy core.old (Ok (record { stamp = stamp; event = Event.Set write })) said core.new × (bytes_of answer out.new.text ≡ as_line said)) }
-{
-    if let Err(refusal) = core.allow(arena, stamp.now, stamp.session, &write) {
-        return say_write_refusal(&refusal, out);
-    }
-    make_set(core, arena, stamp, write)
-}
-
-// Makes a write that is allowed.
-fn make_set(
-    core: &mut Core,
-    arena: &mut Bump,
-    stamp: Stamp,
-    write: Write,
-) -> Result<Answer, NoMemory>
-    requires moment { stamp.now ≤ MAX_MOMENT }
-    requires allowed { (outcome core.old stamp.now stamp.session (Event.Set write)).reply ≡ Reply.Done }
-    ensures answered { IfOk result (λ answer. (text : List ℕ) → (said : List ℕ) × IsAnsweredBy core.old (Ok (record { stamp = stamp; event = Event.Set write })) said core.new × (bytes_of answer text ≡ as_line said)) }
-{
-    match core.make(arena, stamp.now, stamp.session, write) {
-        Ok(()) => Ok(Answer::Done),
+    let Asked { stamp, event } = asked;
+    let (answer, plan) = match core.judge(arena, stamp.now, stamp.session, &event) {
+        Ok(granted) => say_granted(granted, out)?,
+        Err(refusal) => return say_borrowed_refusal(&refusal, out),
+    };
+    match core.commit(plan, event) {
+        Ok(()) => Ok(answer),
         Err(_) => Ok(Answer::NoMemory),
     }
 }
 
-// Answers a poll: what it tells is written from where it stands, before it counts as told.
-fn answer_poll(
-    core: &mut Core,
-    arena: &mut Bump,
-    stamp: Stamp,
+// Says what an event that may be done is answered, and hands on the plan for it.
+fn say_granted<'a>(
+    granted: Granted<'_, 'a>,
     out: &mut AnswerWriter,
-) -> Result<Answer, NoMemory>
-    requires moment { stamp.now ≤ MAX_MOMENT }
+) -> Result<(Answer, Plan<'a>), NoMemory>
     requires none { out.old.text ≡ [] }
     ensures before { out.new.before ≡ out.old.before }
-    ensures answered { IfOk result (λ answer. (said : List ℕ) × IsAnsweredBy core.old (Ok (record { stamp = stamp; event = Event.Poll })) said core.new × (bytes_of answer out.new.text ≡ as_line said)) }
+    ensures line { IfOk result (λ r. bytes_of r.0 out.new.text ≡ as_line (text (reply_of granted.entry.reply))) }
+    ensures plan { IfOk result (λ r. r.1 ≡ granted.entry.plan) }
 {
-    match core.begin_poll(arena, stamp.session) {
-        Ok(()) => answer_news(core, arena, stamp, out),
-        Err(refusal) => say_refusal(&refusal, out),
-    }
-}
-
-// Answers a poll that has begun.
-fn answer_news(
-    core: &mut Core,
-    arena: &mut Bump,
-    stamp: Stamp,
-    out: &mut AnswerWriter,
-) -> Result<Answer, NoMemory>
-    requires moment { stamp.now ≤ MAX_MOMENT }
-    requires none { out.old.text ≡ [] }
-    ensures before { out.new.before ≡ out.old.before }
-    ensures answered { IfOk result (λ answer. (said : List ℕ) × IsAnsweredBy core.old (Ok (record { stamp = stamp; event = Event.Poll })) said core.new × (bytes_of answer out.new.text ≡ as_line said)) }
-{
-    match core.news(arena, stamp.now, stamp.session) {
-        Ok(tidings) => out.put_tidings(&tidings)?,
-        Err(why) => return say_refusal(&why, out),
-    }
-    match core.end_poll(arena, stamp.now, stamp.session) {
-        Ok(()) => Ok(Answer::Written),
-        Err(_) => Ok(Answer::NoMemory),
-    }
+    let Granted { reply, plan } = granted;
+    let answer = match &reply {
+        BorrowedReply::Done => Answer::Done,
+        _ => {
+            out.put_borrowed_reply(&reply)?;
+            Answer::Written
+        }
+    };
+    Ok((answer, plan))
 }
 
 // Where a header leads, and the answer to it.
@@ -304,23 +176,6 @@ fn say_header_fault(fault: &HeaderFault, out: &mut AnswerWriter) -> Result<Answe
     }
 }
 
-fn say(reply: &Reply, out: &mut AnswerWriter) -> Result<Answer, NoMemory>
-    requires none { out.old.text ≡ [] }
-    ensures before { out.new.before ≡ out.old.before }
-    ensures line { IfOk result (λ answer. bytes_of answer out.new.text ≡ as_line (text reply.now)) }
-    ensures done { reply.now ≡ replies.Done → IsOk result }
-    ensures no_memory { reply.now ≡ replies.Refused refusals.NoMemory → IsOk result }
-{
-    match reply {
-        Reply::Done => Ok(Answer::Done),
-        Reply::Value(_) | Reply::News(_) => {
-            out.put_reply(reply)?;
-            Ok(Answer::Written)
-        }
-        Reply::Refused(refusal) => say_refusal(refusal, out),
-    }
-}
-
 #[tactic(auto, using(crate::proofs::Fixed::no_memory_of_reply))]
 fn say_refusal(refusal: &Refusal, out: &mut AnswerWriter) -> Result<Answer, NoMemory>
     requires none { out.old.text ≡ [] }
@@ -338,31 +193,20 @@ fn say_refusal(refusal: &Refusal, out: &mut AnswerWriter) -> Result<Answer, NoMe
 }
 
 // The names of a denial are written from where they stand.
-fn say_read_refusal(refusal: &ReadRefusal<'_>, out: &mut AnswerWriter) -> Result<Answer, NoMemory>
+fn say_borrowed_refusal(
+    refusal: &BorrowedRefusal<'_>,
+    out: &mut AnswerWriter,
+) -> Result<Answer, NoMemory>
     requires none { out.old.text ≡ [] }
     ensures before { out.new.before ≡ out.old.before }
-    ensures line { IfOk result (λ answer. bytes_of answer out.new.text ≡ as_line (text (replies.Refused (refusal_of_read refusal.now)))) }
+    ensures line { IfOk result (λ answer. bytes_of answer out.new.text ≡ as_line (text (replies.Refused (refusal_of refusal.now)))) }
 {
     match refusal {
-        ReadRefusal::Denied(names) => {
-            out.put_read_denied(names)?;
+        BorrowedRefusal::Other(refusal) => say_refusal(refusal, out),
+        _ => {
+            out.put_borrowed_refusal(refusal)?;
             Ok(Answer::Written)
         }
-        ReadRefusal::Other(refusal) => say_refusal(refusal, out),
-    }
-}
-
-fn say_write_refusal(refusal: &WriteRefusal<'_>, out: &mut AnswerWriter) -> Result<Answer, NoMemory>
-    requires none { out.old.text ≡ [] }
-    ensures before { out.new.before ≡ out.old.before }
-    ensures line { IfOk result (λ answer. bytes_of answer out.new.text ≡ as_line (text (replies.Refused (refusal_of_write refusal.now)))) }
-{
-    match refusal {
-        WriteRefusal::Denied(at, names) => {
-            out.put_write_denied(at, names)?;
-            Ok(Answer::Written)
-        }
-        WriteRefusal::Other(refusal) => say_refusal(refusal, out),
     }
 }
 

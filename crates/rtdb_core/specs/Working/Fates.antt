@@ -1,5 +1,5 @@
 -- What events are refused for, and what becomes of listeners, as the code decides and makes it. No public clause stands on these words.
-use Rattle.std.specs.Prelude.{◌≡◌, ℕ, suc, ◌+◌, ◌-◌, ◌^◌, ◌==◌, List, [], ◌∷◌, ◌++◌, map, length, min, nat_le, nat_lt, ◌&&◌, Bool, not, if◌then◌else◌, Option, None, Some}
+use Rattle.std.specs.Prelude.{ℕ, suc, ◌+◌, ◌-◌, ◌^◌, ◌==◌, List, [], ◌∷◌, ◌++◌, map, length, min, nat_le, ◌&&◌, Bool, not, if◌then◌else◌, Option, None, Some}
 use Rattle.std.specs.FinMap as map_of
 use Rattle.evaluator.specs.Identity.{Identity}
 use Rattle.tree_model.specs.Tree.{Tree}
@@ -14,9 +14,7 @@ use Rattle.listeners.specs.Table.{Listener, with_mark, cancelled, has_id}
 use Rattle.listeners.specs.declared.limits.TheConstants.{MAX_LISTENERS}
 use Rattle.rtdb_model.specs.State.{State, Session, Sessions, scene_for}
 use Rattle.rtdb_model.specs.Rejudged.{asked_for, hears, moves}
-use Rattle.rtdb_model.specs.Step.{denial, or_full, tree_with, written_to}
-use Rattle.rtdb_core.specs.declared.judged.Judged.{Judged}
-use Rattle.rtdb_core.specs.declared.judged.Judged.TheVariants.{Refused, Granted}
+use Rattle.rtdb_model.specs.Step.{denial, or_full, tree_with}
 use Rattle.rtdb_model.specs.declared.reply.Refusal.{Refusal}
 use Rattle.rtdb_model.specs.declared.reply.Refusal.TheVariants.{DuplicateId, TooManyListeners}
 use Rattle.rtdb_core.specs.declared.fates.Fate.{Fate}
@@ -92,10 +90,6 @@ fates_of old rules new now (one ∷ others) = map (fate_of old rules new now one
 abbrev pub all_sessions : Sessions → List Session
 all_sessions sessions = map (λ e. e.1) (map_of.entries sessions)
 
--- somebody listens to something on the session
-abbrev pub listens : Session → Bool
-listens one = nat_lt 0 (length one.listeners)
-
 -- the state once this is made that was decided
 abbrev pub with_settled : State → List Decision → State
 with_settled state ds = record state { sessions = map_of.from_entries (settled_all 0 ds (map_of.entries state.sessions)) }
@@ -121,11 +115,6 @@ verdict_for old now who writes = write_verdict (scene_for old now who) (tree_wit
 -- why these writes are refused, if they are
 unfoldable pub write_refusal_for : State → ℕ → Option Identity → List Write → Option Refusal
 write_refusal_for old now who writes = or_full (denial (verdict_for old now who writes)) (tree_with old writes)
-
--- writes are refused for this, or this is decided of all listeners
-abbrev pub IsJudgedWrite : State → ℕ → Option Identity → List Write → Judged → Type 0
-IsJudgedWrite old now who writes (Refused refusal) = write_refusal_for old now who writes ≡ Some refusal
-IsJudgedWrite old now who writes (Granted decisions) = (write_refusal_for old now who writes ≡ None) × (with_settled (with_tree old writes) decisions.made.items ≡ written_to old now writes)
 
 -- why an open session that listens to these can't listen under this id, whatever the rules say
 abbrev pub listen_refusal : List Listener → List ℕ → Option Refusal

@@ -1,5 +1,8 @@
-use Rattle.rtdb_core.proofs.Heard.{step_heard}
+use Rattle.std.proofs.Common.{◌∙◌, inl, sym, ap}
+use Rattle.rtdb_model.specs.Step.{Outcome, Step}
+use Rattle.rtdb_core.specs.Planned.{after_of}
 use Rattle.rtdb_core.proofs.database.Core.step.Goals as goal
 
-pub invariant_of-self : goal.invariant_of-self
-invariant_of-self c = step_heard c.self.inside.machine c.args.now c.args.session c.args.event c.step.result c.step.new.self c.self.invariant c.step.ensures
+pub returns-in-Ok-commit : goal.returns-in-Ok-commit
+unfolding Step
+returns-in-Ok-commit c = inl (λ i. let o : Outcome = record { reply = c.in-Ok.ensures.reply i; after = sym (c.in-Ok-commit.ensures.done ∙ ap after_of c.in-Ok.ensures.plan) i } in o)

@@ -1,0 +1,11 @@
+use Rattle.std.proofs.Common.{rules}
+use Rattle.std.specs.Ordering.{is_lt}
+use Rattle.std.proofs.lemmas.List.Sorted.{ranks_by, answers_always}
+use Rattle.tree_model.specs.Path.{path_cmp}
+use Rattle.tree_model.specs.Write.{Write, location}
+use Rattle.tree_model.proofs.Orders.{paths_total}
+use Rattle.rtdb_model.proofs.writes.sort.Goals as goal
+
+pub returns-clause-ascending : goal.returns-clause-ascending
+returns-clause-ascending c =
+    c.sort_unstable_by.ensures.sorted (λ a b. is_lt (path_cmp (location a) (location b))) (ranks_by paths_total (λ (write : Write). location write)) (answers_always _ _ _ (λ f a r g called. search rules))

@@ -1,0 +1,87 @@
+-- Events as data: what tells two events apart.
+use Rattle.std.specs.Prelude.{◌≡◌, ℕ, List, Option, None, Some, refl}
+use Rattle.std.proofs.Common.{inl, inr, ◌⊎◌}
+use Rattle.std.specs.Coded.{Coded, code_by, coded×, coded⊎, coded_ℕ, coded_list, coded_option}
+use Rattle.tree_model.specs.Path.{Path}
+use Rattle.tree_model.specs.Tree.{tree_code}
+use Rattle.tree_model.specs.Write.{Write}
+use Rattle.evaluator.specs.Identity.{Identity, identity_code}
+use Rattle.listeners.specs.Query.{Query, query_code}
+use Rattle.rules_reader.specs.Book.{Book, book_code}
+use Rattle.rtdb_model.specs.declared.event.Event.{Event}
+use Rattle.rtdb_model.specs.declared.event.Event.TheVariants.{Open, Close, SignIn, SignOut, Get, Set, Remove, Update, Listen, Unlisten, Poll, Tick, Deploy}
+
+-- what a read asks for
+abbrev Asked : Type 0
+Asked = Path × Option Query
+
+-- what an event that has anything has: an identity, a read, a write, a path, writes, an id and a read, an id, or rules
+abbrev Parts : Type 0
+Parts = Identity ⊎ (Asked ⊎ (Write ⊎ (Path ⊎ (List Write ⊎ ((List ℕ × Asked) ⊎ (List ℕ ⊎ Book))))))
+
+-- the five others have nothing
+abbrev Data : Type 0
+Data = Option (Option (Option (Option (Option Parts))))
+
+abbrev of_parts : Parts → Data
+of_parts parts = Some (Some (Some (Some (Some parts))))
+
+abbrev data_of : Event → Data
+data_of Open = None
+data_of Close = Some None
+data_of SignOut = Some (Some None)
+data_of Poll = Some (Some (Some None))
+data_of Tick = Some (Some (Some (Some None)))
+data_of (SignIn who) = of_parts (inl who)
+data_of (Get path query) = of_parts (inr (inl (path, query)))
+data_of (Set write) = of_parts (inr (inr (inl write)))
+data_of (Remove path) = of_parts (inr (inr (inr (inl path))))
+data_of (Update writes) = of_parts (inr (inr (inr (inr (inl writes)))))
+data_of (Listen id path query) = of_parts (inr (inr (inr (inr (inr (inl (id, (path, query))))))))
+data_of (Unlisten id) = of_parts (inr (inr (inr (inr (inr (inr (inl id)))))))
+data_of (Deploy rules) = of_parts (inr (inr (inr (inr (inr (inr (inr rules)))))))
+
+abbrev event_of : Data → Event
+event_of None = Open
+event_of (Some None) = Close
+event_of (Some (Some None)) = SignOut
+event_of (Some (Some (Some None))) = Poll
+event_of (Some (Some (Some (Some None)))) = Tick
+event_of (Some (Some (Some (Some (Some (inl who)))))) = SignIn who
+event_of (Some (Some (Some (Some (Some (inr (inl read))))))) = Get read.0 read.1
+event_of (Some (Some (Some (Some (Some (inr (inr (inl write)))))))) = Set write
+event_of (Some (Some (Some (Some (Some (inr (inr (inr (inl path))))))))) = Remove path
+event_of (Some (Some (Some (Some (Some (inr (inr (inr (inr (inl writes)))))))))) = Update writes
+event_of (Some (Some (Some (Some (Some (inr (inr (inr (inr (inr (inl asked))))))))))) = Listen asked.0 asked.1.0 asked.1.1
+event_of (Some (Some (Some (Some (Some (inr (inr (inr (inr (inr (inr (inl id)))))))))))) = Unlisten id
+event_of (Some (Some (Some (Some (Some (inr (inr (inr (inr (inr (inr (inr rules)))))))))))) = Deploy rules
+
+pub event_of-data_of : (event : Event) → event_of (data_of event) ≡ event
+event_of-data_of Open = refl
+event_of-data_of Close = refl
+event_of-data_of SignOut = refl
+event_of-data_of Poll = refl
+event_of-data_of Tick = refl
+event_of-data_of (SignIn who) = refl
+event_of-data_of (Get path query) = refl
+event_of-data_of (Set write) = refl
+event_of-data_of (Remove path) = refl
+event_of-data_of (Update writes) = refl
+event_of-data_of (Listen id path query) = refl
+event_of-data_of (Unlisten id) = refl
+event_of-data_of (Deploy rules) = refl
+
+abbrev path_code : Coded Path
+path_code = coded_list (coded_list coded_ℕ)
+
+abbrev write_code : Coded Write
+write_code = coded× path_code tree_code
+
+abbrev asked_code : Coded Asked
+asked_code = coded× path_code (coded_option query_code)
+
+abbrev parts_code : Coded Parts
+parts_code = coded⊎ identity_code (coded⊎ asked_code (coded⊎ write_code (coded⊎ path_code (coded⊎ (coded_list write_code) (coded⊎ (coded× (coded_list coded_ℕ) asked_code) (coded⊎ (coded_list coded_ℕ) book_code))))))
+
+abbrev pub event_code : Coded Event
+event_code = code_by Data (coded_option (coded_option (coded_option (coded_option (coded_option parts_code))))) data_of event_of event_of-data_of

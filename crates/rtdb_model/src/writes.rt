@@ -1,0 +1,80 @@
+//! The writes of an update.
+ghost use Rattle.std.specs.Prelude.{◌≡◌};
+ghost use Rattle.std.specs.List.Sorted.{IsPermutation, IsSortedBy};
+ghost use Rattle.std.specs.Ordering.{is_lt};
+ghost use Rattle.tree_model.specs.Path.{path_cmp};
+ghost use Rattle.tree_model.specs.Write.{location};
+
+use path_capture::Write;
+use std::fmt::{self, Formatter};
+use std::marker::Model;
+use std::snapshot::Snapshot;
+
+/// The writes of an update, in the order of their locations: they are sorted once, where they are made, so that
+/// whoever takes them compares neighbours alone. Contracts see them as the list that was given.
+#[derive(Drop)]
+pub struct Writes {
+    sorted: Vec<Write>,
+    given: Snapshot<Vec<Write>>,
+}
+
+impl Model for Writes {
+    ghost use Rattle.std.specs.Prelude.{List};
+    ghost use Rattle.std.specs.Coded.{coded×, coded_list, coded_ℕ};
+    ghost use Rattle.std.specs.List.Sorted.{IsPermutation, IsSortedBy};
+    ghost use Rattle.std.specs.Ordering.{is_lt};
+    ghost use Rattle.tree_model.specs.Path.{path_cmp};
+    ghost use Rattle.tree_model.specs.Tree.{tree_code};
+    ghost use Rattle.tree_model.specs.Write.{Write, location};
+
+    ghost Value = { List Write };
+
+    ghost coded = { coded_list (coded× (coded_list (coded_list coded_ℕ)) tree_code) };
+
+    ghost view = { λ writes. writes.given.value.items };
+
+    ghost invariant = { λ writes. IsPermutation writes.given.value.items writes.sorted.items × IsSortedBy (λ a b. is_lt (path_cmp (location a) (location b))) writes.sorted.items };
+}
+
+impl Writes {
+    /// The writes of a vector, which is sorted in place: n · log n comparisons of paths, and n where they are in order.
+    /// It takes no memory.
+    pub fn of_vec(held: Vec<Write>) -> Writes
+        ensures { result ≡ held.items }
+    {
+        let given = Snapshot::of(&held);
+        let mut sorted = held;
+        sort(&mut sorted);
+        Writes { sorted, given }
+    }
+
+    /// These writes in the order of their locations.
+    pub fn in_order(&self) -> &[Write]
+        ensures permutation { IsPermutation self.now result.now }
+        ensures ascending { IsSortedBy (λ a b. is_lt (path_cmp (location a) (location b))) result.now }
+    {
+        self.sorted.as_slice()
+    }
+
+    /// The same as a vector, without taking memory.
+    pub fn into_vec(self) -> Vec<Write>
+        ensures permutation { IsPermutation self result.items }
+        ensures ascending { IsSortedBy (λ a b. is_lt (path_cmp (location a) (location b))) result.items }
+    {
+        let Writes { sorted, given: _ } = self;
+        sorted
+    }
+}
+
+fn sort(writes: &mut Vec<Write>)
+    ensures permutation { IsPermutation writes.old.items writes.new.items }
+    ensures ascending { IsSortedBy (λ a b. is_lt (path_cmp (location a) (location b))) writes.new.items }
+{
+    writes.sort_unstable_by(|a, b| a.at().compare(b.at()));
+}
+
+impl fmt::Debug for Writes {
+    fn fmt<W: fmt::Write>(&self, f: &mut Formatter<W>) -> fmt::Result {
+        self.sorted.fmt(f)
+    }
+}
