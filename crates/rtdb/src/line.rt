@@ -151,7 +151,7 @@ pub fn a_check_names_one_of_the_words()
 {}
 
 /// The rules file and the port that a server wants stand in the words behind the program's name, and `serve` without
-/// them is no order. Its numbers lie in their ranges.
+/// them is no order. Its numbers lie in their ranges; the last clauses have these, and the usual ones, in numbers.
 pub fn a_server_has_its_rules_and_its_port()
     ensures rules { (words : List Text) (options : Served) → AreOrder words (serves options) → IsGiven (drop 1 words) (codes "rules") options.rules_file }
     ensures port { (words : List Text) (options : Served) → AreOrder words (serves options)
@@ -159,6 +159,8 @@ pub fn a_server_has_its_rules_and_its_port()
     ensures workers { (words : List Text) (options : Served) → AreOrder words (serves options) → (1 ≤ options.workers) × (options.workers ≤ MAX_WORKERS) }
     ensures rounds { (words : List Text) (options : Served) → AreOrder words (serves options) → (1 ≤ options.rounds) × (options.rounds ≤ MAX_ROUNDS) }
     ensures missing { (program : List ℕ) (order : Wanted) → AreOrder (program ∷ codes "serve" ∷ []) order → ⊥ }
+    ensures ranges { (MAX_PORT ≡ 65535) × (MAX_WORKERS ≡ 64) × (MAX_ROUNDS ≡ 1000000) }
+    ensures usual { (USUAL_WORKERS ≡ 4) × (USUAL_ROUNDS ≡ 1000000) }
 {}
 
 /// Words in which `clap` finds no fault are an order: none of them lacks what its command needs.
