@@ -5,7 +5,7 @@ use Rattle.tree_model.specs.PathMap.{get}
 use Rattle.arena_snapshot.specs.View.{node_or_null, tree_of, IsKind}
 use Rattle.arena_snapshot.specs.Working.Changing.{get-changed-root}
 use Rattle.arena_snapshot.specs.Working.Patches.{change_of}
-use Rattle.arena_snapshot.specs.declared.view.Kind.TheVariants.{Patched}
+use Rattle.arena_snapshot.specs.declared.view.ViewKind.TheVariants.{Patched}
 use Rattle.arena_snapshot.specs.declared.view.Patched.{Patched as PatchedNode}
 
 -- no primitive stands at the root of a patched node

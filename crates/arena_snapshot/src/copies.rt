@@ -2,7 +2,7 @@
 ghost use Rattle.std.specs.Prelude.{◌≡◌, IfOk};
 ghost use Rattle.arena_snapshot.specs.Working.Change.{entries_of};
 
-use crate::view::{Kind, View};
+use crate::view::{View, ViewKind};
 use json_tree::{Child, NoMemory, Node};
 use std::alloc::Global;
 
@@ -13,8 +13,8 @@ pub fn copy_out(alloc: Global, view: &View) -> Result<Node, NoMemory>
     ensures { IfOk result (λ node. node ≡ view.now) }
 {
     match &view.kind {
-        Kind::Stored(node) => node.copy(alloc),
-        Kind::Patched(_) => Node::of_children(copies(alloc, view)?),
+        ViewKind::Stored(node) => node.copy(alloc),
+        ViewKind::Patched(_) => Node::of_children(copies(alloc, view)?),
     }
 }
 

@@ -10,10 +10,10 @@ ghost use Rattle.arena_snapshot.specs.Working.Patches.{change_of};
 
 use crate::patches::stored_width;
 use crate::sizes::{Sizes, exchanged, stored_sizes};
-use crate::view::{Kind, Patch, Patched, View};
+use crate::view::{Patch, Patched, View, ViewKind};
 use bumpalo::Bump;
 use bumpalo::collections::into_bump_slice;
-use json_tree::{Key, NoMemory, Node, Place};
+use json_tree::{ChildPlace, Key, NoMemory, Node};
 
 // The node below, the children that are laid over it so far, and the sizes of what both make.
 #[derive(Drop)]
@@ -48,7 +48,7 @@ impl<'a> Layer<'a> {
     pub(crate) fn push(
         &mut self,
         key: &'a Key,
-        stored: Place,
+        stored: ChildPlace,
         child: Option<View<'a>>,
     ) -> Result<(), NoMemory>
         requires stored { option_map (λ node. node.now) stored.child
@@ -97,7 +97,7 @@ impl<'a> Layer<'a> {
             width: sizes.width,
         })?;
         Ok(Some(View {
-            kind: Kind::Patched(node),
+            kind: ViewKind::Patched(node),
         }))
     }
 }

@@ -9,19 +9,19 @@ ghost use Rattle.arena_snapshot.specs.Working.Change.{changed, entries_of, AreCh
 ghost use Rattle.arena_snapshot.specs.Working.Patches.{change_of, ArePatches, is_behind};
 
 use crate::view::{Patch, View};
-use json_tree::{Key, Node, Place};
+use json_tree::{ChildPlace, Key, Node};
 
 // ---- stored children
 
 // What is stored at a key, and how many stored children stand before it, by one binary search.
-pub(crate) fn stored_place<'a>(base: Option<&'a Node>, key: &Key) -> Place<'a>
+pub(crate) fn stored_place<'a>(base: Option<&'a Node>, key: &Key) -> ChildPlace<'a>
     ensures child { option_map (λ node. node.now) result.child
         ≡ non_null (sub (node_or_null base.entry) (key.now ∷ [])) }
     ensures before { result.before ≡ before key.now (node_or_null base.entry) }
 {
     match base {
         Some(node) => node.place(key.text()),
-        None => Place {
+        None => ChildPlace {
             child: None,
             before: 0,
         },

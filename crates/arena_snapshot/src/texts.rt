@@ -6,23 +6,33 @@ ghost use Rattle.tree_model.specs.PathMap.{get};
 ghost use Rattle.tree_model.specs.Tree.{null};
 ghost use Rattle.json_tree.specs.Json.{value_of};
 
-use crate::view::{Kind, View};
+use crate::view::{View, ViewKind};
 use json::Writer;
-use json_tree::{NoMemory, write_node};
+use json_tree::{NoMemory, write_json, write_node};
 use std::alloc::AllocError;
 
-/// Writes the JSON text of a view behind what stands in the bytes, null for None, in one pass, with no memory
-/// but what the text takes: the text that the tree has by `write_json`. Where children are changed, each takes a
-/// binary search. (This project's profile.)
+/// Writes the JSON text of a view behind what stands in the bytes, null for None, with no memory but what the text
+/// takes: the text that the tree has by `write_json`, which writes what is stored. Where children are changed, each
+/// takes a binary search. (This project's profile.)
 pub fn write_view(bytes: Vec<u8>, view: Option<&View>) -> Result<Vec<u8>, NoMemory>
     ensures { IfOk result (λ text. text.items ≡ bytes.items
         ++ compact_text (value_of (unwrap_or (option_map (λ view. view.now) view.entry) null))) }
 {
-    let mut out = Writer::new(bytes);
     match view {
-        None => out.null()?,
-        Some(view) => write_tree(&mut out, view)?,
+        None => write_json(bytes, None),
+        Some(view) => match &view.kind {
+            ViewKind::Stored(node) => write_json(bytes, Some(node)),
+            ViewKind::Patched(_) => write_patched(bytes, view),
+        },
     }
+}
+
+// The same of a view whose children are changed.
+fn write_patched(bytes: Vec<u8>, view: &View) -> Result<Vec<u8>, NoMemory>
+    ensures { IfOk result (λ text. text.items ≡ bytes.items ++ compact_text (value_of view.now)) }
+{
+    let mut out = Writer::new(bytes);
+    write_tree(&mut out, view)?;
     Ok(out.into_inner())
 }
 
@@ -35,8 +45,8 @@ pub fn write_tree(out: &mut Writer, view: &View) -> Result<(), AllocError>
         ≡ out.old.tokens ++ json_tokens (outline (value_of view.now))) }
 {
     match &view.kind {
-        Kind::Stored(node) => write_node(out, node),
-        Kind::Patched(_) => write_children(out, view),
+        ViewKind::Stored(node) => write_node(out, node),
+        ViewKind::Patched(_) => write_children(out, view),
     }
 }
 

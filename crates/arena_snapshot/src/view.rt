@@ -17,12 +17,12 @@ use tree_model::MAX_DEPTH;
 #[cycle(view)]
 #[derive(Drop)]
 pub struct View<'a> {
-    pub(crate) kind: Kind<'a>,
+    pub(crate) kind: ViewKind<'a>,
 }
 
 #[cycle(view)]
 #[derive(Drop)]
-pub(crate) enum Kind<'a> {
+pub(crate) enum ViewKind<'a> {
     // As it is stored.
     Stored(&'a Node),
     // In the arena, so that a view is small.
@@ -88,7 +88,7 @@ impl<'a> View<'a> {
     {
         node.law();
         View {
-            kind: Kind::Stored(node),
+            kind: ViewKind::Stored(node),
         }
     }
 
@@ -97,8 +97,8 @@ impl<'a> View<'a> {
         ensures { result ≡ self.now }
     {
         let kind = match &self.kind {
-            Kind::Stored(node) => Kind::Stored(node),
-            Kind::Patched(node) => Kind::Patched(node),
+            ViewKind::Stored(node) => ViewKind::Stored(node),
+            ViewKind::Patched(node) => ViewKind::Patched(node),
         };
         View { kind }
     }
@@ -108,8 +108,8 @@ impl<'a> View<'a> {
         ensures { option_map (λ leaf. primitive_of leaf.now) result ≡ get self.now [] }
     {
         match &self.kind {
-            Kind::Stored(node) => node.leaf(),
-            Kind::Patched(_) => None,
+            ViewKind::Stored(node) => node.leaf(),
+            ViewKind::Patched(_) => None,
         }
     }
 
@@ -129,8 +129,8 @@ impl<'a> View<'a> {
         ensures lawful { IsStanding result }
     {
         match &self.kind {
-            Kind::Stored(node) => Standing::of(stored_view(Some(node), name)),
-            Kind::Patched(node) => Standing::of(child_of(node.base, node.patches, name)),
+            ViewKind::Stored(node) => Standing::of(stored_view(Some(node), name)),
+            ViewKind::Patched(node) => Standing::of(child_of(node.base, node.patches, name)),
         }
     }
 
@@ -147,8 +147,8 @@ impl<'a> View<'a> {
         ensures { result ≡ non_null (sub self.now keys.now) }
     {
         match &self.kind {
-            Kind::Stored(node) => stored_below(node, keys),
-            Kind::Patched(_) => self.walked(keys),
+            ViewKind::Stored(node) => stored_below(node, keys),
+            ViewKind::Patched(_) => self.walked(keys),
         }
     }
 
@@ -169,8 +169,8 @@ impl<'a> View<'a> {
         ensures { result ≡ length (child_keys self.now) }
     {
         match &self.kind {
-            Kind::Stored(node) => node.width(),
-            Kind::Patched(node) => node.width,
+            ViewKind::Stored(node) => node.width(),
+            ViewKind::Patched(node) => node.width,
         }
     }
 
@@ -187,8 +187,8 @@ impl<'a> View<'a> {
         ensures { result ≡ min (count self.now) usize.MAX }
     {
         match &self.kind {
-            Kind::Stored(node) => node.count(),
-            Kind::Patched(node) => node.count,
+            ViewKind::Stored(node) => node.count(),
+            ViewKind::Patched(node) => node.count,
         }
     }
 
@@ -198,8 +198,8 @@ impl<'a> View<'a> {
         ensures { option_map (λ key. key.now) result ≡ slice_get (child_keys self.now) i }
     {
         match &self.kind {
-            Kind::Stored(node) => node.key_at(i),
-            Kind::Patched(node) => key_of(node.base, node.patches, node.width, i),
+            ViewKind::Stored(node) => node.key_at(i),
+            ViewKind::Patched(node) => key_of(node.base, node.patches, node.width, i),
         }
     }
 
@@ -211,8 +211,8 @@ impl<'a> View<'a> {
             ≡ slice_get (map_of.entries (children self.now)) i }
     {
         match &self.kind {
-            Kind::Stored(node) => stored_entry(node, i),
-            Kind::Patched(node) => match patched_entry(node.base, node.patches, node.width, i) {
+            ViewKind::Stored(node) => stored_entry(node, i),
+            ViewKind::Patched(node) => match patched_entry(node.base, node.patches, node.width, i) {
                 Some(entry) => Some(entry),
                 None => self.searched_entry(i),
             },
@@ -247,8 +247,8 @@ impl<'a> Standing<'a> {
         match view {
             None => Standing::Nothing,
             Some(view) => match view.kind {
-                Kind::Stored(node) => Standing::Stored(node),
-                Kind::Patched(node) => Standing::Patched(node),
+                ViewKind::Stored(node) => Standing::Stored(node),
+                ViewKind::Patched(node) => Standing::Patched(node),
             },
         }
     }
@@ -261,10 +261,10 @@ impl<'a> Standing<'a> {
         match self {
             Standing::Nothing => None,
             Standing::Stored(node) => Some(View {
-                kind: Kind::Stored(node),
+                kind: ViewKind::Stored(node),
             }),
             Standing::Patched(node) => Some(View {
-                kind: Kind::Patched(node),
+                kind: ViewKind::Patched(node),
             }),
         }
     }

@@ -15,19 +15,19 @@ use Rattle.tree_model.specs.Tree.{Tree}
 use Rattle.tree_model.proofs.Existence.{exists-sub}
 use Rattle.tree_model.proofs.Lookups.{get-sub, sub-sub}
 use Rattle.path_capture.specs.Path.{segments}
-use Rattle.evaluator.specs.Value.{Value, null, truth, whole, words, sentinel, a_record, Part, value, snapshot, as_value}
+use Rattle.evaluator.specs.Value.{Value, null, truth, whole, words, sentinel, a_record, Meaning, value, snapshot, as_value}
 use Rattle.evaluator.specs.Snapshot.{exists_at, primitive_at, primitive_or_sentinel, val_at, has_children_at, child_at}
 use Rattle.evaluator.specs.Members.{member}
 use Rattle.evaluator.specs.Calls.{snapshot_test, type_test, snapshot_call, snapshot_call_with, snapshot_call_listed, child_of, has_child, have_children, Given, nothing, one, two, listed, others, called, call_of}
 use Rattle.evaluator.proofs.Snapshots.{pair_below, children_above}
 
 -- one and the same; or two trees, seen from one path, with the same there and below
-pub data Alike : Option Part → Option Part → Type 0 where
-  same : (m : Option Part) → Alike m m
+pub data Alike : Option Meaning → Option Meaning → Type 0 where
+  same : (m : Option Meaning) → Alike m m
   places : (t u : Tree) (q : Path) → sub t q ≡ sub u q → Alike (Some (snapshot (t, q))) (Some (snapshot (u, q)))
 
-pub equals : {m n : Option Part} → m ≡ n → Alike m n
-equals {m} e = subst (λ (o : Option Part). Alike m o) e (same m)
+pub equals : {m n : Option Meaning} → m ≡ n → Alike m n
+equals {m} e = subst (λ (o : Option Meaning). Alike m o) e (same m)
 
 -- what a method of this name gives, but `val`
 abbrev but_val : List ℕ → Bool → Bool → Option Primitive → Option Value
@@ -135,14 +135,14 @@ module _ (t u : Tree) (q : Path) (below : sub t q ≡ sub u q) where
 
 -- ---- all parts
 
-pub called_alike : (f : List ℕ) (g : Given) {m n : Option Part} → bytes_eq (codes "parent") f ≡ false → Alike m n → Alike (called f m g) (called f n g)
+pub called_alike : (f : List ℕ) (g : Given) {m n : Option Meaning} → bytes_eq (codes "parent") f ≡ false → Alike m n → Alike (called f m g) (called f n g)
 called_alike f g e (same m) = same (called f m g)
 called_alike f g e (places t u q below) = place_called t u q below f g e
 
-pub member_alike : (f : List ℕ) {m n : Option Part} → Alike m n → Alike (option_and_then (member f) m) (option_and_then (member f) n)
+pub member_alike : (f : List ℕ) {m n : Option Meaning} → Alike m n → Alike (option_and_then (member f) m) (option_and_then (member f) n)
 member_alike f (same m) = same (option_and_then (member f) m)
 member_alike f (places t u q below) = same None
 
-pub value_alike : {m n : Option Part} → Alike m n → as_value m ≡ as_value n
+pub value_alike : {m n : Option Meaning} → Alike m n → as_value m ≡ as_value n
 value_alike (same m) = refl
 value_alike (places t u q below) = refl

@@ -8,7 +8,7 @@ use Rattle.tree_model.specs.PathMap.{sub}
 use Rattle.tree_model.proofs.Orders.{same_key, bytes_eq-swap}
 use Rattle.path_capture.specs.Captures.{key_named}
 use Rattle.expr_parser.specs.Tree as t
-use Rattle.expr_parser.specs.Tree.{Tree, Trees, Arguments}
+use Rattle.expr_parser.specs.Tree.{SyntaxTree, Trees, Arguments}
 use Rattle.expr_types.specs.declared.scope.Scope.{Scope}
 use Rattle.expr_types.specs.declared.scope.Scope.TheVariants.{Request, Location, Database}
 use Rattle.expr_types.specs.Scope.{wider, scope_of_variable, scope_of, scope_given, scope_listed}
@@ -101,7 +101,7 @@ module _ (env other : Env) where
 
 module _ (limit : Scope) (below : Within Database limit → ⊥) (env other : Env) (variables : (f : List ℕ) → Within (scope_of_variable f) limit → Alike (variable f env) (variable f other)) (captures : env.captures ≡ other.captures) where
   mutual
-    alike : (x : Tree) → Within (scope_of x) limit → Alike (mean x env) (mean x other)
+    alike : (x : SyntaxTree) → Within (scope_of x) limit → Alike (mean x env) (mean x other)
     alike (t.Number n) w = same _
     alike (t.Text s) w = same _
     alike t.True w = same _
@@ -149,7 +149,7 @@ module _ (limit : Scope) (below : Within Database limit → ⊥) (env other : En
 
 -- ---- the whole
 
-pub depends : (x : Tree) (env other : Env) → LookSame (scope_of x) env other → outcome x env ≡ outcome x other
+pub depends : (x : SyntaxTree) (env other : Env) → LookSame (scope_of x) env other → outcome x env ≡ outcome x other
 depends x env other h =
     elim (scope_of x) as (λ s. scope_of x ≡ s → LookSame s env other → outcome x env ≡ outcome x other) [
       | Request ↦ λ e k. ap outcome_of (value_alike (alike Request (λ no. no) env other (request_variable env other k) k.captures x (subst (λ (s : Scope). Within s Request) (sym e) tt)))

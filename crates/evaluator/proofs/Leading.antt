@@ -216,7 +216,7 @@ sum_ends (Some (truth b)) front = inl refl
 sum_ends (Some sentinel) front = inl refl
 sum_ends (Some a_record) front = inl refl
 
-ends_or_errs : (x : t.Tree) (env : Env) → EndsBelow x → EndsOrErrs (as_value (mean x env))
+ends_or_errs : (x : t.SyntaxTree) (env : Env) → EndsBelow x → EndsOrErrs (as_value (mean x env))
 ends_or_errs x env (inl literal) = inr (literal.0, ap (λ y. as_value (mean y env)) literal.1)
 ends_or_errs x env (inr sum) =
     let last : as_value (mean sum.1 env) ≡ Some (words (sum.3.0 ++ 47 ∷ [])) = ap (λ y. as_value (mean y env)) sum.3.1 in
@@ -279,17 +279,17 @@ child_of_sum s m n (inr (inr ends)) =
     ∙ before_child s (ends.0 ++ 47 ∷ []) n
     ∙ ap (λ o. option_map place_of (led_by (s, MAX_TEXT_BYTES) (sum_of o n))) (sym ends.1)
 
-parts_of : (x y : t.Tree) (env : Env) → BeginsBelow y ⊎ EndsBelow x → ((rest : List ℕ) × (as_value (mean y env) ≡ Some (words (47 ∷ rest)))) ⊎ EndsOrErrs (as_value (mean x env))
+parts_of : (x y : t.SyntaxTree) (env : Env) → BeginsBelow y ⊎ EndsBelow x → ((rest : List ℕ) × (as_value (mean y env) ≡ Some (words (47 ∷ rest)))) ⊎ EndsOrErrs (as_value (mean x env))
 parts_of x y env (inl begins) = inl (begins.0, ap (λ z. as_value (mean z env)) begins.1)
 parts_of x y env (inr ends) = inr (ends_or_errs x env ends)
 
-seam_parts : (p : Snapshot × ℕ) → p.1 ≤ MAX_TEXT_BYTES → (x y : t.Tree) (env : Env) → BeginsBelow y ⊎ EndsBelow x → led_by p (as_value (mean (t.Operation Add x y) env)) ≡ option_and_then (λ q. led_by q (as_value (mean y env))) (led_by p (as_value (mean x env)))
+seam_parts : (p : Snapshot × ℕ) → p.1 ≤ MAX_TEXT_BYTES → (x y : t.SyntaxTree) (env : Env) → BeginsBelow y ⊎ EndsBelow x → led_by p (as_value (mean (t.Operation Add x y) env)) ≡ option_and_then (λ q. led_by q (as_value (mean y env))) (led_by p (as_value (mean x env)))
 seam_parts p most x y env parted =
     ap (led_by p) (value_of_values (sum_of (as_value (mean x env)) (as_value (mean y env))))
     ∙ sum_leads p most (as_value (mean x env)) (as_value (mean y env)) (parts_of x y env parted)
 
 -- where such a sum leads: the right operand leads on from where the left one does
-pub seam_leads : (p : Snapshot × ℕ) → p.1 ≤ MAX_TEXT_BYTES → (s x y : t.Tree) (op : Operator) (env : Env) → IsSeam s → s ≡ t.Operation op x y → led_by p (as_value (mean s env)) ≡ option_and_then (λ q. led_by q (as_value (mean y env))) (led_by p (as_value (mean x env)))
+pub seam_leads : (p : Snapshot × ℕ) → p.1 ≤ MAX_TEXT_BYTES → (s x y : t.SyntaxTree) (op : Operator) (env : Env) → IsSeam s → s ≡ t.Operation op x y → led_by p (as_value (mean s env)) ≡ option_and_then (λ q. led_by q (as_value (mean y env))) (led_by p (as_value (mean x env)))
 seam_leads p most s x y op env seam is =
     let left : seam.0 ≡ x = same_left (sym seam.2 ∙ is) in
     let right : seam.1 ≡ y = same_right (sym seam.2 ∙ is) in
@@ -305,7 +305,7 @@ seam_leads p most s x y op env seam is =
     same_right e = cc
 
 -- where it leads as the text of a child
-pub seam_child : (s : Snapshot) (key : t.Tree) (env : Env) → IsSeam key → option_and_then (child_of s) (as_value (mean key env)) ≡ option_map place_of (led_by (s, MAX_TEXT_BYTES) (as_value (mean key env)))
+pub seam_child : (s : Snapshot) (key : t.SyntaxTree) (env : Env) → IsSeam key → option_and_then (child_of s) (as_value (mean key env)) ≡ option_map place_of (led_by (s, MAX_TEXT_BYTES) (as_value (mean key env)))
 seam_child s key env seam =
     let whole : as_value (mean key env) ≡ sum_of (as_value (mean seam.0 env)) (as_value (mean seam.1 env)) = ap (λ z. as_value (mean z env)) seam.2 ∙ value_of_values _ in
     ap (option_and_then (child_of s)) whole
@@ -356,9 +356,9 @@ module _ (p : Snapshot × ℕ) (most : p.1 ≤ MAX_TEXT_BYTES) (e x : Expr) (op 
       ∙ ap (option_and_then (λ o. led_by o (as_value (mean (view y) env)))) there
 
 -- the child that is found, where the sum leads
-pub made_found : (s : Snapshot) (key : t.Tree) (env : Env) (n : ℕ) (r : Result (Bor Snapshot) Stop) → IsSeam key → IfOk r (λ at. led_by (s, MAX_TEXT_BYTES) (as_value (mean key env)) ≡ Some (at.now, n)) → IfOk r (λ at. option_and_then (child_of s) (as_value (mean key env)) ≡ Some at.now)
+pub made_found : (s : Snapshot) (key : t.SyntaxTree) (env : Env) (n : ℕ) (r : Result (Bor Snapshot) Stop) → IsSeam key → IfOk r (λ at. led_by (s, MAX_TEXT_BYTES) (as_value (mean key env)) ≡ Some (at.now, n)) → IfOk r (λ at. option_and_then (child_of s) (as_value (mean key env)) ≡ Some at.now)
 made_found s key env n (Ok at) seam h = seam_child s key env seam ∙ ap (option_map place_of) h
 made_found s key env n (Err stop) seam h = h
 
-pub made_errs : (s : Snapshot) (key : t.Tree) (env : Env) → IsSeam key → led_by (s, MAX_TEXT_BYTES) (as_value (mean key env)) ≡ None → option_and_then (child_of s) (as_value (mean key env)) ≡ None
+pub made_errs : (s : Snapshot) (key : t.SyntaxTree) (env : Env) → IsSeam key → led_by (s, MAX_TEXT_BYTES) (as_value (mean key env)) ≡ None → option_and_then (child_of s) (as_value (mean key env)) ≡ None
 made_errs s key env seam h = seam_child s key env seam ∙ ap (option_map place_of) h

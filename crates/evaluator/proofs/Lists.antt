@@ -11,7 +11,7 @@ use Rattle.expr_parser.specs.declared.expr.Argument.{List as Listing}
 use Rattle.expr_parser.specs.Tree as t
 use Rattle.expr_parser.specs.View.{view, view_argument, views, arguments}
 use Rattle.expr_parser.proofs.Knots.{view-Call, view-List}
-use Rattle.evaluator.specs.Value.{Value, truth, Part, value, snapshot, auth, token, query, Snapshot, as_value}
+use Rattle.evaluator.specs.Value.{Value, truth, Meaning, value, snapshot, auth, token, query, Snapshot, as_value}
 use Rattle.evaluator.specs.Calls.{others, call_of, called, called_with_two, called_with_list, snapshot_call_listed, have_children, has_child}
 use Rattle.evaluator.specs.Env.{Env}
 use Rattle.evaluator.specs.Mean.{mean, given, values}
@@ -20,7 +20,7 @@ use Rattle.evaluator.specs.Working.Parts.{argument_value, holder}
 -- ---- calls
 
 -- a call, by what its receiver is
-pub call_is : (e x : Expr) (receiver : Box Expr Global) (f g : List ℕ) (xs : Vec code_argument.Argument Global) (args : List code_argument.Argument) (p : Part) (env : Env) → e ≡ Call receiver f xs → x ≡ receiver.value → g ≡ f → args ≡ xs.items → mean (view x) env ≡ Some p → mean (view e) env ≡ call_of g p (given (arguments args) env)
+pub call_is : (e x : Expr) (receiver : Box Expr Global) (f g : List ℕ) (xs : Vec code_argument.Argument Global) (args : List code_argument.Argument) (p : Meaning) (env : Env) → e ≡ Call receiver f xs → x ≡ receiver.value → g ≡ f → args ≡ xs.items → mean (view x) env ≡ Some p → mean (view e) env ≡ call_of g p (given (arguments args) env)
 call_is e x receiver f g xs args p env is at name same m =
     ap (λ y. mean (view y) env) is
     ∙ ap (λ y. mean y env) (view-Call receiver f xs)
@@ -31,12 +31,12 @@ call_is e x receiver f g xs args p env is at name same m =
 -- ---- what a call is given
 
 -- two arguments, which may be lists
-with_two : (f : List ℕ) (p : Part) (x y : t.Argument) (env : Env) → call_of f p (given (t.argument x (t.argument y t.no_argument)) env) ≡ option_and_then (λ v. option_and_then (called_with_two f p v) (argument_value y env)) (argument_value x env)
+with_two : (f : List ℕ) (p : Meaning) (x y : t.Argument) (env : Env) → call_of f p (given (t.argument x (t.argument y t.no_argument)) env) ≡ option_and_then (λ v. option_and_then (called_with_two f p v) (argument_value y env)) (argument_value x env)
 with_two f p (t.One x) (t.One y) env = refl
 with_two f p (t.Listed xs) y env = refl
 with_two f p (t.One x) (t.Listed ys) env = elim (as_value (mean x env)) as (λ m. None ≡ option_and_then (λ v. option_and_then (called_with_two f p v) None) m) [ None ↦ refl | (Some v) ↦ refl ]
 
-pub two_are : (f : List ℕ) (p : Part) (xs : List code_argument.Argument) (x y : code_argument.Argument) (env : Env) → 2 ≤ length xs → length xs < 3 → x ≡ get_or xs 0 x → y ≡ get_or xs 1 y → call_of f p (given (arguments xs) env) ≡ option_and_then (λ v. option_and_then (called_with_two f p v) (argument_value (view_argument y) env)) (argument_value (view_argument x) env)
+pub two_are : (f : List ℕ) (p : Meaning) (xs : List code_argument.Argument) (x y : code_argument.Argument) (env : Env) → 2 ≤ length xs → length xs < 3 → x ≡ get_or xs 0 x → y ≡ get_or xs 1 y → call_of f p (given (arguments xs) env) ≡ option_and_then (λ v. option_and_then (called_with_two f p v) (argument_value (view_argument y) env)) (argument_value (view_argument x) env)
 two_are f p [] x y env few many h g = absurd (omega arith)
 two_are f p (a ∷ []) x y env few many h g = absurd (omega arith)
 two_are f p (a ∷ b ∷ c ∷ xs) x y env few many h g = absurd (omega arith)
@@ -46,7 +46,7 @@ two_are f p (a ∷ b ∷ []) x y env few many h g =
     ∙ ap (λ z. option_and_then (λ v. option_and_then (called_with_two f p v) (argument_value (view_argument z) env)) (argument_value (view_argument x) env)) (sym g)
 
 -- one argument
-pub one_is : (f : List ℕ) (p : Part) (xs : List code_argument.Argument) (x : code_argument.Argument) (env : Env) → 1 ≤ length xs → length xs < 2 → x ≡ get_or xs 0 x → call_of f p (given (arguments xs) env) ≡ call_of f p (given (t.argument (view_argument x) t.no_argument) env)
+pub one_is : (f : List ℕ) (p : Meaning) (xs : List code_argument.Argument) (x : code_argument.Argument) (env : Env) → 1 ≤ length xs → length xs < 2 → x ≡ get_or xs 0 x → call_of f p (given (arguments xs) env) ≡ call_of f p (given (t.argument (view_argument x) t.no_argument) env)
 one_is f p [] x env few many h = absurd (omega arith)
 one_is f p (a ∷ b ∷ xs) x env few many h = absurd (omega arith)
 one_is f p (a ∷ []) x env few many h = ap (λ z. call_of f p (given (t.argument (view_argument z) t.no_argument) env)) (sym h)
@@ -64,7 +64,7 @@ many_are (x ∷ y ∷ []) env many = absurd (omega arith)
 many_are (x ∷ y ∷ z ∷ xs) env many = three (view_argument x) (view_argument y) (view_argument z) (arguments xs) env
 
 -- a list
-pub list_is : (items : Vec Expr Global) (x : code_argument.Argument) (ys : List Expr) (f : List ℕ) (p : Part) (env : Env) → x ≡ Listing items → ys ≡ items.items → call_of f p (given (t.argument (view_argument x) t.no_argument) env) ≡ option_and_then (called_with_list f p) (values (views ys) env)
+pub list_is : (items : Vec Expr Global) (x : code_argument.Argument) (ys : List Expr) (f : List ℕ) (p : Meaning) (env : Env) → x ≡ Listing items → ys ≡ items.items → call_of f p (given (t.argument (view_argument x) t.no_argument) env) ≡ option_and_then (called_with_list f p) (values (views ys) env)
 list_is items x ys f p env is same =
     ap (λ a. call_of f p (given (t.argument (view_argument a) t.no_argument) env)) is
     ∙ ap (λ a. call_of f p (given (t.argument a t.no_argument) env)) (view-List items)
@@ -130,7 +130,7 @@ all_found s xs env n all end so_far =
 -- ---- a call with a list
 
 -- what the method gives, by whether it is the one that takes a list
-abbrev of_list : Bool → Snapshot → Option (List Value) → Option Part
+abbrev of_list : Bool → Snapshot → Option (List Value) → Option Meaning
 of_list b s ms = option_and_then (λ vs. option_map value (cond b (option_map truth (have_children s vs)) None)) ms
 
 of_none : (s : Snapshot) (ms : Option (List Value)) → of_list false s ms ≡ None
@@ -141,11 +141,11 @@ of_some : (s : Snapshot) (ms : Option (List Value)) → of_list true s ms ≡ op
 of_some s None = refl
 of_some s (Some vs) = elim (have_children s vs) as (λ o. option_map value (option_map truth o) ≡ option_map (λ b. value (truth b)) o) [ None ↦ refl | (Some b) ↦ refl ]
 
-no_method : {A : Type 0} (ms : Option A) → option_and_then {U = Part} (λ vs. None) ms ≡ None
+no_method : {A : Type 0} (ms : Option A) → option_and_then {U = Meaning} (λ vs. None) ms ≡ None
 no_method None = refl
 no_method (Some vs) = refl
 
-pub no_holder : (f : List ℕ) (p : Part) (ms : Option (List Value)) → holder f p ≡ None → option_and_then (called_with_list f p) ms ≡ None
+pub no_holder : (f : List ℕ) (p : Meaning) (ms : Option (List Value)) → holder f p ≡ None → option_and_then (called_with_list f p) ms ≡ None
 unfolding snapshot_call_listed
 no_holder f (value v) ms h = no_method ms
 no_holder f (auth who) ms h = no_method ms
@@ -157,7 +157,7 @@ no_holder f (snapshot s) ms h =
       | false ↦ λ g. of_none s ms
     ] h
 
-pub some_holder : (f : List ℕ) (p : Part) (s : Snapshot) (ms : Option (List Value)) (m : Option Bool) → holder f p ≡ Some s → option_and_then (have_children s) ms ≡ m → option_and_then (called_with_list f p) ms ≡ option_map (λ b. value (truth b)) m
+pub some_holder : (f : List ℕ) (p : Meaning) (s : Snapshot) (ms : Option (List Value)) (m : Option Bool) → holder f p ≡ Some s → option_and_then (have_children s) ms ≡ m → option_and_then (called_with_list f p) ms ≡ option_map (λ b. value (truth b)) m
 unfolding snapshot_call_listed
 some_holder f (value v) s ms m h e = cc
 some_holder f (auth who) s ms m h e = cc

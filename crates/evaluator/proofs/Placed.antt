@@ -10,7 +10,7 @@ use Rattle.expr_parser.specs.declared.expr.Argument.{Argument, One, List as List
 use Rattle.expr_parser.specs.Tree as t
 use Rattle.expr_parser.specs.View.{view, views, arguments}
 use Rattle.expr_parser.proofs.Knots.{view-Call, view-List}
-use Rattle.evaluator.specs.Value.{Value, truth, Part, value, snapshot, auth, token, query, Snapshot, as_value}
+use Rattle.evaluator.specs.Value.{Value, truth, Meaning, value, snapshot, auth, token, query, Snapshot, as_value}
 use Rattle.tree_model.proofs.Orders.{same_key}
 use Rattle.evaluator.specs.declared.value.Stop.{Stop}
 use Rattle.evaluator.specs.Snapshot.{parent_at}
@@ -46,7 +46,7 @@ value_by f s false other = other_is_test f s other
 value_of_call : (f : List ℕ) (s : Snapshot) → as_value (snapshot_call f s) ≡ snapshot_test f s
 value_of_call f s = value_by f s (bytes_eq (codes "parent") f) refl
 
-pub nothing_at : (f : List ℕ) (m : Option Part) → called f m nothing ≡ option_and_then (snapshot_call f) (as_place m)
+pub nothing_at : (f : List ℕ) (m : Option Meaning) → called f m nothing ≡ option_and_then (snapshot_call f) (as_place m)
 nothing_at f None = refl
 nothing_at f (Some (value v)) = refl
 nothing_at f (Some (snapshot s)) = refl
@@ -54,7 +54,7 @@ nothing_at f (Some (auth who)) = refl
 nothing_at f (Some (token claims)) = refl
 nothing_at f (Some (query a)) = refl
 
-value_of_nothing_at : (f : List ℕ) (m : Option Part) → as_value (called f m nothing) ≡ option_and_then (snapshot_test f) (as_place m)
+value_of_nothing_at : (f : List ℕ) (m : Option Meaning) → as_value (called f m nothing) ≡ option_and_then (snapshot_test f) (as_place m)
 value_of_nothing_at f None = refl
 value_of_nothing_at f (Some (value v)) = refl
 value_of_nothing_at f (Some (snapshot s)) = value_of_call f s
@@ -76,7 +76,7 @@ value_of_truths : (o : Option Bool) → as_value (option_map (λ b. value (truth
 value_of_truths None = refl
 value_of_truths (Some b) = refl
 
-pub child_at_place : (m : Option Part) (w : Option Value) → as_place (called (codes "child") m (one w)) ≡ option_and_then (λ s. option_and_then (child_of s) w) (as_place m)
+pub child_at_place : (m : Option Meaning) (w : Option Value) → as_place (called (codes "child") m (one w)) ≡ option_and_then (λ s. option_and_then (child_of s) w) (as_place m)
 unfolding snapshot_call_with
 child_at_place None w = refl
 child_at_place (Some (snapshot s)) (Some v) = place_of_places (child_of s v)
@@ -90,7 +90,7 @@ child_at_place (Some (auth who)) (Some v) = refl
 child_at_place (Some (token claims)) (Some v) = refl
 child_at_place (Some (query a)) (Some v) = refl
 
-pub has_child_at : (m : Option Part) (w : Option Value) → as_value (called (codes "hasChild") m (one w)) ≡ option_map truth (option_and_then (λ s. option_and_then (has_child s) w) (as_place m))
+pub has_child_at : (m : Option Meaning) (w : Option Value) → as_value (called (codes "hasChild") m (one w)) ≡ option_map truth (option_and_then (λ s. option_and_then (has_child s) w) (as_place m))
 unfolding snapshot_call_with text_test
 has_child_at None w = refl
 has_child_at (Some (snapshot s)) (Some v) = value_of_truths (has_child s v)
@@ -106,7 +106,7 @@ has_child_at (Some (query a)) (Some v) = refl
 
 -- ---- with a list
 
-pub have_children_at : (m : Option Part) (ms : Option (List Value)) → as_value (called (codes "hasChildren") m (listed ms)) ≡ option_map truth (option_and_then (λ s. option_and_then (have_children s) ms) (as_place m))
+pub have_children_at : (m : Option Meaning) (ms : Option (List Value)) → as_value (called (codes "hasChildren") m (listed ms)) ≡ option_map truth (option_and_then (λ s. option_and_then (have_children s) ms) (as_place m))
 unfolding snapshot_call_listed
 have_children_at None ms = refl
 have_children_at (Some (snapshot s)) (Some vs) = value_of_values (option_map truth (have_children s vs))

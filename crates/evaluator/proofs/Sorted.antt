@@ -9,7 +9,7 @@ use Rattle.tree_model.specs.Key.{Key}
 use Rattle.tree_model.proofs.Orders.{same_key}
 use Rattle.path_capture.specs.Captures.{names, key_named}
 use Rattle.expr_parser.specs.Tree as t
-use Rattle.expr_parser.specs.Tree.{Tree, Trees}
+use Rattle.expr_parser.specs.Tree.{SyntaxTree, Trees}
 use Rattle.expr_types.specs.declared.place.Place.{Place}
 use Rattle.expr_types.specs.declared.place.Place.TheVariants.{ReadRule, WriteRule, ValidateRule}
 use Rattle.expr_types.specs.declared.sort.Sort.{Sort}
@@ -21,7 +21,7 @@ use Rattle.expr_types.specs.HasSort as h
 use Rattle.expr_types.specs.HasSort.{HasSort, HasSomeSort, AreValues, is_value}
 use Rattle.expr_types.proofs.Wider.{kept}
 use Rattle.evaluator.specs.Identity.{Identity, Claims}
-use Rattle.evaluator.specs.Value.{Value, truth, words, Part, value, snapshot, auth, token, query, Snapshot, sort_of_part, as_value, in_range}
+use Rattle.evaluator.specs.Value.{Value, truth, words, Meaning, value, snapshot, auth, token, query, Snapshot, sort_of_part, as_value, in_range}
 use Rattle.evaluator.specs.Snapshot.{parent_at}
 use Rattle.evaluator.specs.Operators.{other_truth, minus_of, operated, chosen}
 use Rattle.evaluator.specs.Members.{member, auth_part, value_part, query_field}
@@ -33,31 +33,31 @@ use Rattle.evaluator.specs.Sorted.{IsOfSort, StandsIn, whole, in_part}
 
 -- ---- what may be an error
 
-of_map : {A : Type 0} (g : A → Part) (s : Sort) → ((a : A) → sort_of_part (g a) ≡ s) → (o : Option A) → IsOfSort s (option_map g o)
+of_map : {A : Type 0} (g : A → Meaning) (s : Sort) → ((a : A) → sort_of_part (g a) ≡ s) → (o : Option A) → IsOfSort s (option_map g o)
 of_map g s is None = tt
 of_map g s is (Some a) = is a
 
 of_value : (o : Option Value) → IsOfSort sort.Value (option_map value o)
 of_value o = of_map value sort.Value (λ v. refl) o
 
-of_then : (f : Part → Option Part) (r s : Sort) → ((p : Part) → sort_of_part p ≡ r → IsOfSort s (f p)) → (m : Option Part) → IsOfSort r m → IsOfSort s (option_and_then f m)
+of_then : (f : Meaning → Option Meaning) (r s : Sort) → ((p : Meaning) → sort_of_part p ≡ r → IsOfSort s (f p)) → (m : Option Meaning) → IsOfSort r m → IsOfSort s (option_and_then f m)
 of_then f r s on None h = tt
 of_then f r s on (Some p) h = on p h
 
-of_any : {A : Type 0} (f : A → Option Part) (s : Sort) → ((a : A) → IsOfSort s (f a)) → (m : Option A) → IsOfSort s (option_and_then f m)
+of_any : {A : Type 0} (f : A → Option Meaning) (s : Sort) → ((a : A) → IsOfSort s (f a)) → (m : Option A) → IsOfSort s (option_and_then f m)
 of_any f s on None = tt
 of_any f s on (Some a) = on a
 
 -- ---- parts of one sort
 
-only_value : (Q : Part → Type 0) → ((v : Value) → Q (value v)) → (p : Part) → sort_of_part p ≡ sort.Value → Q p
+only_value : (Q : Meaning → Type 0) → ((v : Value) → Q (value v)) → (p : Meaning) → sort_of_part p ≡ sort.Value → Q p
 only_value Q on (value v) e = on v
 only_value Q on (snapshot s) e = cc
 only_value Q on (auth who) e = cc
 only_value Q on (token claims) e = cc
 only_value Q on (query a) e = cc
 
-only_snapshot : (Q : Part → Type 0) → ((s : Snapshot) → Q (snapshot s)) → (p : Part) → sort_of_part p ≡ sort.Snapshot → Q p
+only_snapshot : (Q : Meaning → Type 0) → ((s : Snapshot) → Q (snapshot s)) → (p : Meaning) → sort_of_part p ≡ sort.Snapshot → Q p
 only_snapshot Q on (value v) e = cc
 only_snapshot Q on (snapshot s) e = on s
 only_snapshot Q on (auth who) e = cc
@@ -83,28 +83,28 @@ auth_token : (f : List ℕ) (who : Option Identity) → f ≡ codes "token" → 
 unfolding auth_part
 auth_token f who e = subst (λ (g : List ℕ). IsOfSort sort.Token (auth_part g who)) (sym e) refl
 
-member_auth_text : (f : List ℕ) → is_among f auth_names ≡ true → (p : Part) → sort_of_part p ≡ sort.Auth → IsOfSort sort.Value (member f p)
+member_auth_text : (f : List ℕ) → is_among f auth_names ≡ true → (p : Meaning) → sort_of_part p ≡ sort.Auth → IsOfSort sort.Value (member f p)
 member_auth_text f is (value v) e = cc
 member_auth_text f is (snapshot s) e = cc
 member_auth_text f is (auth who) e = auth_text f who is
 member_auth_text f is (token claims) e = cc
 member_auth_text f is (query a) e = cc
 
-member_auth_token : (f : List ℕ) → f ≡ codes "token" → (p : Part) → sort_of_part p ≡ sort.Auth → IsOfSort sort.Token (member f p)
+member_auth_token : (f : List ℕ) → f ≡ codes "token" → (p : Meaning) → sort_of_part p ≡ sort.Auth → IsOfSort sort.Token (member f p)
 member_auth_token f is (value v) e = cc
 member_auth_token f is (snapshot s) e = cc
 member_auth_token f is (auth who) e = auth_token f who is
 member_auth_token f is (token claims) e = cc
 member_auth_token f is (query a) e = cc
 
-member_claim : (f : List ℕ) (p : Part) → sort_of_part p ≡ sort.Token → IsOfSort sort.Value (member f p)
+member_claim : (f : List ℕ) (p : Meaning) → sort_of_part p ≡ sort.Token → IsOfSort sort.Value (member f p)
 member_claim f (value v) e = cc
 member_claim f (snapshot s) e = cc
 member_claim f (auth who) e = cc
 member_claim f (token claims) e = refl
 member_claim f (query a) e = cc
 
-member_query : (f : List ℕ) (p : Part) → sort_of_part p ≡ sort.Query → IsOfSort sort.Value (member f p)
+member_query : (f : List ℕ) (p : Meaning) → sort_of_part p ≡ sort.Query → IsOfSort sort.Value (member f p)
 member_query f (value v) e = cc
 member_query f (snapshot s) e = cc
 member_query f (auth who) e = cc
@@ -134,19 +134,19 @@ unfolding snapshot_call_with
 snapshot_has f s v e = subst (λ (g : List ℕ). IsOfSort sort.Value (snapshot_call_with g s v)) (sym e) (of_map (λ b. value (truth b)) sort.Value (λ x. refl) (has_child s v))
 
 module _ (env : Env) where
-  call_test : (f : List ℕ) (m : Option Part) (n : Option Value) → IsOfSort sort.Value m → IsOfSort sort.Value (called f m (one n))
+  call_test : (f : List ℕ) (m : Option Meaning) (n : Option Value) → IsOfSort sort.Value m → IsOfSort sort.Value (called f m (one n))
   call_test f m n d = of_then (λ p. call_of f p (one n)) sort.Value sort.Value (only_value (λ p. IsOfSort sort.Value (call_of f p (one n))) (λ v. of_any (called_with f (value v)) sort.Value (λ w. of_value (text_test f v w)) n)) m d
 
-  call_change : (f : List ℕ) (m : Option Part) (n k : Option Value) → IsOfSort sort.Value m → IsOfSort sort.Value (called f m (two n k))
+  call_change : (f : List ℕ) (m : Option Meaning) (n k : Option Value) → IsOfSort sort.Value m → IsOfSort sort.Value (called f m (two n k))
   call_change f m n k d = of_then (λ p. call_of f p (two n k)) sort.Value sort.Value (only_value (λ p. IsOfSort sort.Value (call_of f p (two n k))) (λ v. of_any (λ w. option_and_then (called_with_two f (value v) w) k) sort.Value (λ w. of_any (called_with_two f (value v) w) sort.Value (λ x. of_value (text_change f v w x)) k) n)) m d
 
-  call_snapshot : (f : List ℕ) (r : Sort) (m : Option Part) → ((s : Snapshot) → IsOfSort r (snapshot_call f s)) → IsOfSort sort.Snapshot m → IsOfSort r (called f m nothing)
+  call_snapshot : (f : List ℕ) (r : Sort) (m : Option Meaning) → ((s : Snapshot) → IsOfSort r (snapshot_call f s)) → IsOfSort sort.Snapshot m → IsOfSort r (called f m nothing)
   call_snapshot f r m on d = of_then (λ p. call_of f p nothing) sort.Snapshot r (only_snapshot (λ p. IsOfSort r (call_of f p nothing)) on) m d
 
-  call_snapshot_with : (f : List ℕ) (r : Sort) (m : Option Part) (n : Option Value) → ((s : Snapshot) (v : Value) → IsOfSort r (snapshot_call_with f s v)) → IsOfSort sort.Snapshot m → IsOfSort r (called f m (one n))
+  call_snapshot_with : (f : List ℕ) (r : Sort) (m : Option Meaning) (n : Option Value) → ((s : Snapshot) (v : Value) → IsOfSort r (snapshot_call_with f s v)) → IsOfSort sort.Snapshot m → IsOfSort r (called f m (one n))
   call_snapshot_with f r m n on d = of_then (λ p. call_of f p (one n)) sort.Snapshot r (only_snapshot (λ p. IsOfSort r (call_of f p (one n))) (λ s. of_any (called_with f (snapshot s)) r (on s) n)) m d
 
-  call_listed : (f : List ℕ) (m : Option Part) (ns : Option (List Value)) → IsOfSort sort.Snapshot m → IsOfSort sort.Value (called f m (listed ns))
+  call_listed : (f : List ℕ) (m : Option Meaning) (ns : Option (List Value)) → IsOfSort sort.Snapshot m → IsOfSort sort.Value (called f m (listed ns))
   call_listed f m ns d = of_then (λ p. call_of f p (listed ns)) sort.Snapshot sort.Value (only_snapshot (λ p. IsOfSort sort.Value (call_of f p (listed ns))) (λ s. of_any (called_with_list f (snapshot s)) sort.Value (λ vs. of_value (snapshot_call_listed f s vs)) ns)) m d
 
   -- ---- variables
@@ -201,7 +201,7 @@ some_mapped f None some = some
 some_mapped f (Some x) some = refl
 
 module _ (p : Place) (env : Env) where
-  capture_there : (f : List ℕ) (s : Sort) {x : Tree} → x ≡ t.Capture f → HasSort p (names env.captures) x s → IsSome (capture f env)
+  capture_there : (f : List ℕ) (s : Sort) {x : SyntaxTree} → x ≡ t.Capture f → HasSort p (names env.captures) x s → IsSome (capture f env)
   capture_there f s e h.number = cc
   capture_there f s e h.text = cc
   capture_there f s e h.truth = cc
@@ -238,7 +238,7 @@ module _ (p : Place) (env : Env) where
 -- ---- all expressions
 
 module _ (p : Place) (env : Env) (is : is_for p env.access ≡ true) where
-  variable_is : (f : List ℕ) (s : Sort) {x : Tree} → x ≡ t.Variable f → HasSort p (names env.captures) x s → IsOfSort s (variable f env) × IsSome (variable f env)
+  variable_is : (f : List ℕ) (s : Sort) {x : SyntaxTree} → x ≡ t.Variable f → HasSort p (names env.captures) x s → IsOfSort s (variable f env) × IsSome (variable f env)
   variable_is f s e h.number = cc
   variable_is f s e h.text = cc
   variable_is f s e h.truth = cc
@@ -269,7 +269,7 @@ module _ (p : Place) (env : Env) (is : is_for p env.access ≡ true) where
   variable_is f s e (h.child i d g j) = cc
   variable_is f s e (h.parent i d) = cc
 
-  pub sorted : {x : Tree} {s : Sort} → HasSort p (names env.captures) x s → IsOfSort s (mean x env)
+  pub sorted : {x : SyntaxTree} {s : Sort} → HasSort p (names env.captures) x s → IsOfSort s (mean x env)
   sorted (h.number {n}) = of_value (in_range (pos n))
   sorted h.text = refl
   sorted h.truth = refl
@@ -306,14 +306,14 @@ module _ (p : Place) (env : Env) (is : is_for p env.access ≡ true) where
 -- ---- what stands in an expression
 
 module _ (p : Place) (ns : List (List ℕ)) where
-  abbrev Sorted : List Tree → Type 0
+  abbrev Sorted : List SyntaxTree → Type 0
   Sorted xs = AllByRecursion (HasSomeSort p ns) xs
 
   all_sorted : {vs : Trees} → AreValues p ns vs → Sorted (elements vs ++ [])
   all_sorted h.no_value = tt
   all_sorted (h.value d i vs) = ((_, d), all_sorted vs)
 
-  parts_sorted : {x : Tree} {s : Sort} → HasSort p ns x s → Sorted (parts x)
+  parts_sorted : {x : SyntaxTree} {s : Sort} → HasSort p ns x s → Sorted (parts x)
   parts_sorted h.number = tt
   parts_sorted h.text = tt
   parts_sorted h.truth = tt
@@ -344,21 +344,21 @@ module _ (p : Place) (ns : List (List ℕ)) where
   parts_sorted (h.child i d g j) = ((_, d), ((_, g), tt))
   parts_sorted (h.parent i d) = ((_, d), tt)
 
-  one_of : (before : List Tree) (y : Tree) (after : List Tree) → Sorted (before ++ y ∷ after) → HasSomeSort p ns y
+  one_of : (before : List SyntaxTree) (y : SyntaxTree) (after : List SyntaxTree) → Sorted (before ++ y ∷ after) → HasSomeSort p ns y
   one_of [] y after all = all.0
   one_of (x ∷ before) y after all = one_of before y after all.1
 
-  pub all_there : (x : Tree) {z : Tree} → StandsIn x z → HasSomeSort p ns z → HasSomeSort p ns x
+  pub all_there : (x : SyntaxTree) {z : SyntaxTree} → StandsIn x z → HasSomeSort p ns z → HasSomeSort p ns x
   all_there x whole d = d
-  all_there x (in_part before y after e inside) d = all_there x inside (one_of before y after (subst (λ (ys : List Tree). Sorted ys) e (parts_sorted d.1)))
+  all_there x (in_part before y after e inside) d = all_there x inside (one_of before y after (subst (λ (ys : List SyntaxTree). Sorted ys) e (parts_sorted d.1)))
 
 -- ---- a checked expression
 
 abbrev pub checked_sorted : (c : Checked) (env : Env) → IsChecked c → Suits c env → HasSomeSort c.place (names env.captures) c.tree
 checked_sorted c env d suits = (d.0, kept (captures_in c.tree) (names env.captures) (λ f e _. suits.captures f e) d.1)
 
-pub checked_value : (c : Checked) (env : Env) → IsChecked c → Suits c env → (p : Part) → mean c.tree env ≡ Some p → is_value (sort_of_part p) ≡ true
+pub checked_value : (c : Checked) (env : Env) → IsChecked c → Suits c env → (p : Meaning) → mean c.tree env ≡ Some p → is_value (sort_of_part p) ≡ true
 checked_value c env d suits p e =
     let of_sort = sorted c.place env suits.place (checked_sorted c env d suits).1 in
-    let same : sort_of_part p ≡ d.0 = subst (λ (m : Option Part). IsOfSort d.0 m) e of_sort in
+    let same : sort_of_part p ≡ d.0 = subst (λ (m : Option Meaning). IsOfSort d.0 m) e of_sort in
     ap is_value same ∙ d.2

@@ -3,7 +3,7 @@ use Rattle.std.specs.Prelude.{ℕ, Bool, true, ◌&&◌, if◌then◌else◌, Li
 use Rattle.std.specs.Option.{option_and_then}
 use Rattle.std.specs.Str.{bytes_eq}
 use Rattle.tree_model.specs.Primitive.{Primitive}
-use Rattle.evaluator.specs.Value.{Value, truth, words, Part, value, snapshot, Snapshot}
+use Rattle.evaluator.specs.Value.{Value, truth, words, Meaning, value, snapshot, Snapshot}
 use Rattle.evaluator.specs.Snapshot.{exists_at, primitive_at, val_at, has_children_at, is_number, is_string, is_boolean, child_at, parent_at}
 use Rattle.evaluator.specs.Texts.{text_test, text_change}
 
@@ -26,7 +26,7 @@ snapshot_test f s =
     else type_test f (primitive_at s)
 
 -- one that takes nothing: `parent()` gives a snapshot. (The same section.)
-unfoldable pub snapshot_call : List ℕ → Snapshot → Option Part
+unfoldable pub snapshot_call : List ℕ → Snapshot → Option Meaning
 snapshot_call f s = if bytes_eq (codes "parent") f then option_map snapshot (parent_at s) else option_map value (snapshot_test f s)
 
 -- the child at a text of keys; what is no text errs
@@ -39,7 +39,7 @@ unfoldable pub has_child : Snapshot → Value → Option Bool
 has_child s v = option_map exists_at (child_of s v)
 
 -- one that takes a value. (Reference, RuleDataSnapshot methods.)
-unfoldable pub snapshot_call_with : List ℕ → Snapshot → Value → Option Part
+unfoldable pub snapshot_call_with : List ℕ → Snapshot → Value → Option Meaning
 snapshot_call_with f s v =
     if bytes_eq (codes "child") f then option_map snapshot (child_of s v)
     else if bytes_eq (codes "hasChild") f then option_map (λ b. value (truth b)) (has_child s v)
@@ -65,28 +65,28 @@ pub data Given : Type 0 where
   others : Given
 
 -- a call with nothing
-abbrev pub called_with_nothing : List ℕ → Part → Option Part
+abbrev pub called_with_nothing : List ℕ → Meaning → Option Meaning
 called_with_nothing f (snapshot s) = snapshot_call f s
 called_with_nothing f _ = None
 
 -- a call with a value: of a text, or of a snapshot
-abbrev pub called_with : List ℕ → Part → Value → Option Part
+abbrev pub called_with : List ℕ → Meaning → Value → Option Meaning
 called_with f (value v) w = option_map value (text_test f v w)
 called_with f (snapshot s) w = snapshot_call_with f s w
 called_with f _ w = None
 
 -- a call with two values
-abbrev pub called_with_two : List ℕ → Part → Value → Value → Option Part
+abbrev pub called_with_two : List ℕ → Meaning → Value → Value → Option Meaning
 called_with_two f (value v) w x = option_map value (text_change f v w x)
 called_with_two f _ w x = None
 
 -- a call with a list
-abbrev pub called_with_list : List ℕ → Part → List Value → Option Part
+abbrev pub called_with_list : List ℕ → Meaning → List Value → Option Meaning
 called_with_list f (snapshot s) vs = option_map value (snapshot_call_listed f s vs)
 called_with_list f _ vs = None
 
 -- a call of a receiver, its arguments evaluated from left to right
-abbrev pub call_of : List ℕ → Part → Given → Option Part
+abbrev pub call_of : List ℕ → Meaning → Given → Option Meaning
 call_of f p nothing = called_with_nothing f p
 call_of f p (one m) = option_and_then (called_with f p) m
 call_of f p (two m n) = option_and_then (λ v. option_and_then (called_with_two f p v) n) m
@@ -94,5 +94,5 @@ call_of f p (listed ms) = option_and_then (called_with_list f p) ms
 call_of f p others = None
 
 -- a call, the receiver evaluated before its arguments
-abbrev pub called : List ℕ → Option Part → Given → Option Part
+abbrev pub called : List ℕ → Option Meaning → Given → Option Meaning
 called f m g = option_and_then (λ p. call_of f p g) m

@@ -4,7 +4,7 @@ use Rattle.std.specs.Str.{bytes_eq}
 use Rattle.std.specs.Prelude.{pos}
 use Rattle.tree_model.specs.Key.{Key}
 use Rattle.path_capture.specs.Captures.{names, key_named}
-use Rattle.expr_parser.specs.Tree.{Tree}
+use Rattle.expr_parser.specs.Tree.{SyntaxTree}
 use Rattle.expr_types.specs.declared.place.Place.{Place}
 use Rattle.expr_types.specs.declared.place.Place.TheVariants.{ReadRule, WriteRule, ValidateRule}
 use Rattle.expr_types.specs.Names.{is_among}
@@ -13,7 +13,7 @@ use Rattle.evaluator.specs.declared.env.Env as code
 use Rattle.evaluator.specs.declared.env.Access as code_access
 use Rattle.evaluator.specs.Asked.{Asked, asked_of}
 use Rattle.evaluator.specs.Identity.{Identity}
-use Rattle.evaluator.specs.Value.{words, whole, Snapshot, Part, value, snapshot, auth, query}
+use Rattle.evaluator.specs.Value.{words, whole, Snapshot, Meaning, value, snapshot, auth, query}
 use Rattle.evaluator.specs.Snapshot.{root_of}
 
 -- what is asked: to read, with these fields of a query, or to write, with `newData` as it will be. (Reference, `query` and `newData` variables.)
@@ -32,17 +32,17 @@ pub record Env : Type 0 where
 -- ---- variables
 
 -- `query`, which is there in a read
-abbrev pub asked_in : Access → Option Part
+abbrev pub asked_in : Access → Option Meaning
 asked_in (reads a) = Some (query a)
 asked_in (writes s) = None
 
 -- `newData`, which is there in a write
-abbrev pub coming_in : Access → Option Part
+abbrev pub coming_in : Access → Option Meaning
 coming_in (reads a) = None
 coming_in (writes s) = Some (snapshot s)
 
 -- a variable. (Reference, variables: `auth`, `now`, `root`, `data`, `newData`, `query`.)
-unfoldable pub variable : List ℕ → Env → Option Part
+unfoldable pub variable : List ℕ → Env → Option Meaning
 variable f env =
     if bytes_eq (codes "auth") f then Some (auth env.who)
     else if bytes_eq (codes "now") f then Some (value (whole (pos env.moment)))
@@ -53,7 +53,7 @@ variable f env =
     else None
 
 -- a capture: its key, as a text. (Guide "Core syntax", using $ variables to capture path segments.)
-abbrev pub capture : List ℕ → Env → Option Part
+abbrev pub capture : List ℕ → Env → Option Meaning
 capture f env = option_map (λ k. value (words k)) (key_named f env.captures)
 
 -- ---- where a checked expression may be evaluated
@@ -66,7 +66,7 @@ is_for ValidateRule (writes s) = true
 is_for _ _ = false
 
 -- the captures that the expression names are there
-abbrev pub HasCaptures : Tree → List (List ℕ × Key) → Type 0
+abbrev pub HasCaptures : SyntaxTree → List (List ℕ × Key) → Type 0
 HasCaptures x captures = (f : List ℕ) → is_among f (captures_in x) ≡ true → is_among f (names captures) ≡ true
 
 -- the environment is one for this expression: of its place, and with the captures that it names

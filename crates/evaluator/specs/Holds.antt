@@ -1,6 +1,6 @@
 -- Whether a rule holds, and why it does not.
 use Rattle.std.specs.Prelude.{true, false, Option, Some}
-use Rattle.expr_parser.specs.Tree.{Tree}
+use Rattle.expr_parser.specs.Tree.{SyntaxTree}
 use Rattle.evaluator.specs.declared.evaluation.Outcome.{Outcome}
 use Rattle.evaluator.specs.declared.evaluation.Outcome.TheVariants.{Yes, No, Erred}
 use Rattle.evaluator.specs.Value.{Value, truth, as_value}
@@ -14,5 +14,5 @@ outcome_of (Some (truth false)) = No
 outcome_of _ = Erred
 
 -- whether a rule of this expression holds in this environment: Yes where it means true; No, the reason `false`, where it means false; Erred, the reason `error`, in every other case
-abbrev pub outcome : Tree → Env → Outcome
+abbrev pub outcome : SyntaxTree → Env → Outcome
 outcome x env = outcome_of (as_value (mean x env))

@@ -2,8 +2,8 @@
 use Rattle.std.specs.Prelude.{pos, true, false, List, [], ◌∷◌, Option, Some, option_map}
 use Rattle.std.specs.Option.{option_and_then}
 use Rattle.expr_parser.specs.Tree as t
-use Rattle.expr_parser.specs.Tree.{Tree, Trees, Arguments, Argument}
-use Rattle.evaluator.specs.Value.{Value, null, truth, words, Part, value, as_value, in_range}
+use Rattle.expr_parser.specs.Tree.{SyntaxTree, Trees, Arguments, Argument}
+use Rattle.evaluator.specs.Value.{Value, null, truth, words, Meaning, value, as_value, in_range}
 use Rattle.evaluator.specs.Operators.{operated, other_truth, minus_of, chosen}
 use Rattle.evaluator.specs.Members.{member}
 use Rattle.evaluator.specs.Calls.{Given, nothing, one, two, listed, others, called}
@@ -11,7 +11,7 @@ use Rattle.evaluator.specs.Env.{Env, variable, capture}
 
 abbrev mutual
   -- (Reference, expressions; a line for each form of an expression.)
-  pub mean : Tree → Env → Option Part
+  pub mean : SyntaxTree → Env → Option Meaning
   mean (t.Number n) env = option_map value (in_range (pos n))
   mean (t.Text s) env = Some (value (words s))
   mean t.True env = Some (value (truth true))

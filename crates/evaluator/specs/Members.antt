@@ -5,7 +5,7 @@ use Rattle.std.specs.Str.{bytes_eq}
 use Rattle.tree_model.specs.Primitive.{Primitive}
 use Rattle.evaluator.specs.Identity.{Identity, Claims, claim_named}
 use Rattle.evaluator.specs.Asked.{Asked}
-use Rattle.evaluator.specs.Value.{Value, truth, whole, words, Part, value, snapshot, auth, token, query, of_primitive, or_null}
+use Rattle.evaluator.specs.Value.{Value, truth, whole, words, Meaning, value, snapshot, auth, token, query, of_primitive, or_null}
 use Rattle.evaluator.specs.Texts.{length_of}
 
 -- a text that may be there, or null
@@ -21,7 +21,7 @@ abbrev pub number_or_null : Option ℕ → Value
 number_or_null n = or_null (option_map (λ m. whole (pos m)) n)
 
 -- a part of `auth`; null where nobody is signed in. (Reference, `auth` variable.)
-unfoldable pub auth_part : List ℕ → Option Identity → Option Part
+unfoldable pub auth_part : List ℕ → Option Identity → Option Meaning
 auth_part f who =
     if bytes_eq (codes "uid") f then Some (value (text_or_null (option_map (λ a. a.uid) who)))
     else if bytes_eq (codes "provider") f then Some (value (text_or_null (option_map (λ a. a.provider) who)))
@@ -60,7 +60,7 @@ unfoldable pub value_part : List ℕ → Value → Option Value
 value_part f v = if bytes_eq (codes "length") f then length_of v else None
 
 -- what stands behind the dot of a part. (Reference, variables and String properties.)
-abbrev pub member : List ℕ → Part → Option Part
+abbrev pub member : List ℕ → Meaning → Option Meaning
 member f (value v) = option_map value (value_part f v)
 member f (snapshot s) = None
 member f (auth who) = auth_part f who

@@ -24,15 +24,15 @@ abbrev pub Snapshot : Type 0
 Snapshot = Tree × Path
 
 -- What a part of an expression means, one constructor for each sort; `auth` and `auth.token` are None where nobody is signed in. (The sorts are this project's profile.)
-pub data Part : Type 0 where
-  value : Value → Part
-  snapshot : Snapshot → Part
-  auth : Option Identity → Part
-  token : Option Claims → Part
-  query : Asked → Part
+pub data Meaning : Type 0 where
+  value : Value → Meaning
+  snapshot : Snapshot → Meaning
+  auth : Option Identity → Meaning
+  token : Option Claims → Meaning
+  query : Asked → Meaning
 
 -- the sort of such a part
-abbrev pub sort_of_part : Part → Sort
+abbrev pub sort_of_part : Meaning → Sort
 sort_of_part (value v) = sorts.TheVariants.Value
 sort_of_part (snapshot s) = sorts.TheVariants.Snapshot
 sort_of_part (auth who) = sorts.TheVariants.Auth
@@ -45,7 +45,7 @@ record_if None = null
 record_if (Some who) = a_record
 
 -- where a value is wanted: `auth` and `auth.token` are records, or null; a snapshot or a query is none. (Reference, `auth` variable: null where nobody is signed in.)
-abbrev pub in_value : Part → Option Value
+abbrev pub in_value : Meaning → Option Value
 in_value (value v) = Some v
 in_value (snapshot s) = None
 in_value (auth who) = Some (record_if who)
@@ -53,7 +53,7 @@ in_value (token claims) = Some (record_if claims)
 in_value (query a) = None
 
 -- the value of what may be an error
-abbrev pub as_value : Option Part → Option Value
+abbrev pub as_value : Option Meaning → Option Value
 as_value m = option_and_then in_value m
 
 -- ---- values of what is stored and given

@@ -3,7 +3,7 @@ use Rattle.std.specs.Prelude.{ℕ, zero, suc, List, [], ◌∷◌, ◌++◌, pos
 use Rattle.tree_model.specs.Path.{Path}
 use Rattle.tree_model.specs.Primitive.{Primitive, whole}
 use Rattle.tree_model.specs.Worked.{tree_of_pairs}
-use Rattle.expr_parser.specs.Tree.{Tree, Call, One, no_argument, argument}
+use Rattle.expr_parser.specs.Tree.{SyntaxTree, Call, One, no_argument, argument}
 use Rattle.evaluator.specs.Asked.{no_query}
 use Rattle.evaluator.specs.Identity.{Identity}
 use Rattle.evaluator.specs.Env.{Env, reads}
@@ -26,11 +26,11 @@ keys_behind zero = []
 keys_behind (suc n) = codes "k/" ++ keys_behind n
 
 -- a call with nothing, and with one value
-abbrev pub call : Tree → List ℕ → Tree
+abbrev pub call : SyntaxTree → List ℕ → SyntaxTree
 call x f = Call x f no_argument
 
-abbrev pub call_with : Tree → List ℕ → Tree → Tree
+abbrev pub call_with : SyntaxTree → List ℕ → SyntaxTree → SyntaxTree
 call_with x f v = Call x f (argument (One v) no_argument)
 
-abbrev pub call_with_two : Tree → List ℕ → Tree → Tree → Tree
+abbrev pub call_with_two : SyntaxTree → List ℕ → SyntaxTree → SyntaxTree → SyntaxTree
 call_with_two x f v w = Call x f (argument (One v) (argument (One w) no_argument))

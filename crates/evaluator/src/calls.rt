@@ -11,7 +11,7 @@ use crate::snapshot::{
     val_at,
 };
 use crate::texts::{text_change, text_test};
-use crate::value::{Part, Stop, Value, put_part, put_value, wanted};
+use crate::value::{Meaning, Stop, Value, put_part, put_value, wanted};
 use bumpalo::Bump;
 use expr_tokens::{KnownName, Name};
 use json_tree::Leaf;
@@ -69,7 +69,7 @@ fn is_boolean(leaf: Option<&Leaf>) -> bool
 pub(crate) fn snapshot_call<'a>(
     name: &Name,
     place: &Snapshot<'a>,
-    found: &mut Part<'a>,
+    found: &mut Meaning<'a>,
 ) -> Result<(), Stop>
     ensures value { OnOk result (snapshot_call name.now place.now ≡ Some (part_of found.new)) }
     ensures erred { IsErrOf result Stop.Erred → snapshot_call name.now place.now ≡ None }
@@ -78,12 +78,12 @@ pub(crate) fn snapshot_call<'a>(
 }
 
 #[inline(always)]
-fn call_known<'a>(known: Option<KnownName>, place: &Snapshot<'a>) -> Option<Part<'a>>
+fn call_known<'a>(known: Option<KnownName>, place: &Snapshot<'a>) -> Option<Meaning<'a>>
     ensures { option_map part_of result ≡ call_known known place.now }
 {
     match known {
-        Some(KnownName::Parent) => Some(Part::Snapshot(place.parent()?)),
-        _ => Some(Part::Value(test_known(known, place)?)),
+        Some(KnownName::Parent) => Some(Meaning::Snapshot(place.parent()?)),
+        _ => Some(Meaning::Value(test_known(known, place)?)),
     }
 }
 
@@ -131,13 +131,13 @@ fn snapshot_call_with<'a>(
     name: &str,
     place: &'a Snapshot<'a>,
     given: Value<'a>,
-) -> Result<Part<'a>, Stop>
+) -> Result<Meaning<'a>, Stop>
     ensures value { IfOk result (λ p. snapshot_call_with name.now place.now (value_of given.entry) ≡ Some (part_of p)) }
     ensures erred { IsErrOf result Stop.Erred → snapshot_call_with name.now place.now (value_of given.entry) ≡ None }
 {
     match name {
-        "child" => Ok(Part::Snapshot(child_of(arena, place, given).get()?)),
-        "hasChild" => Ok(Part::Value(Value::Truth(has_child(arena, place, given)?))),
+        "child" => Ok(Meaning::Snapshot(child_of(arena, place, given).get()?)),
+        "hasChild" => Ok(Meaning::Value(Value::Truth(has_child(arena, place, given)?))),
         _ => Err(Stop::Erred),
     }
 }
@@ -145,12 +145,12 @@ fn snapshot_call_with<'a>(
 // ---- all receivers
 
 // What a call with nothing gives, put where its receiver was.
-pub(crate) fn called_with_nothing<'a>(name: &Name, found: &mut Part<'a>) -> Result<(), Stop>
+pub(crate) fn called_with_nothing<'a>(name: &Name, found: &mut Meaning<'a>) -> Result<(), Stop>
     ensures value { OnOk result (called_with_nothing name.now (part_of found.old) ≡ Some (part_of found.new)) }
     ensures erred { IsErrOf result Stop.Erred → called_with_nothing name.now (part_of found.old) ≡ None }
 {
     match *found {
-        Part::Snapshot(place) => snapshot_call(name, place, found),
+        Meaning::Snapshot(place) => snapshot_call(name, place, found),
         _ => Err(Stop::Erred),
     }
 }
@@ -158,15 +158,15 @@ pub(crate) fn called_with_nothing<'a>(name: &Name, found: &mut Part<'a>) -> Resu
 pub(crate) fn called_with<'a>(
     arena: &'a Bump,
     name: &str,
-    receiver: Part<'a>,
+    receiver: Meaning<'a>,
     given: Value<'a>,
-) -> Result<Part<'a>, Stop>
+) -> Result<Meaning<'a>, Stop>
     ensures value { IfOk result (λ p. called_with name.now (part_of receiver.entry) (value_of given.entry) ≡ Some (part_of p)) }
     ensures erred { IsErrOf result Stop.Erred → called_with name.now (part_of receiver.entry) (value_of given.entry) ≡ None }
 {
     match receiver {
-        Part::Value(value) => Ok(Part::Value(wanted(text_test(name, value, given))?)),
-        Part::Snapshot(place) => snapshot_call_with(arena, name, place, given),
+        Meaning::Value(value) => Ok(Meaning::Value(wanted(text_test(name, value, given))?)),
+        Meaning::Snapshot(place) => snapshot_call_with(arena, name, place, given),
         _ => Err(Stop::Erred),
     }
 }
@@ -174,28 +174,28 @@ pub(crate) fn called_with<'a>(
 pub(crate) fn called_with_two<'a>(
     arena: &'a Bump,
     name: &str,
-    receiver: Part<'a>,
+    receiver: Meaning<'a>,
     first: Value<'a>,
     second: Value<'a>,
-) -> Result<Part<'a>, Stop>
+) -> Result<Meaning<'a>, Stop>
     ensures value { IfOk result (λ p. called_with_two name.now (part_of receiver.entry) (value_of first.entry) (value_of second.entry) ≡ Some (part_of p)) }
     ensures erred { IsErrOf result Stop.Erred → called_with_two name.now (part_of receiver.entry) (value_of first.entry) (value_of second.entry) ≡ None }
 {
     match receiver {
-        Part::Value(value) => {
+        Meaning::Value(value) => {
             let changed = text_change(arena, name, value, first, second)?;
-            Ok(Part::Value(changed))
+            Ok(Meaning::Value(changed))
         }
         _ => Err(Stop::Erred),
     }
 }
 
 // The snapshot whose children a call with a list is about.
-pub(crate) fn holder<'a>(name: &str, receiver: Part<'a>) -> Option<&'a Snapshot<'a>>
+pub(crate) fn holder<'a>(name: &str, receiver: Meaning<'a>) -> Option<&'a Snapshot<'a>>
     ensures { option_map (λ s. s.now) result ≡ holder name.now (part_of receiver.entry) }
 {
     match receiver {
-        Part::Snapshot(place) => match name {
+        Meaning::Snapshot(place) => match name {
             "hasChildren" => Some(place),
             _ => None,
         },

@@ -26,7 +26,9 @@ use crate::members::{auth_value, capture, member, member_value as member_value_o
 use crate::operators::{in_truth, is_something, literal, minus_of, of_both};
 use crate::seams::{is_seam, literal_below, value_below};
 use crate::snapshot::{Found, Snapshot, child_at};
-use crate::value::{Part, Stop, Value, in_place, in_value, put_part, put_truth, put_value, wanted};
+use crate::value::{
+    Meaning, Stop, Value, in_place, in_value, put_part, put_truth, put_value, wanted,
+};
 use bumpalo::Bump;
 use expr_parser::{Argument, Expr, Operator};
 use expr_tokens::{KnownName, Name};
@@ -43,17 +45,17 @@ fn part<'a>(
     arena: &'a Bump,
     expr: &'a Expr,
     env: &Env<'a, '_>,
-    found: &mut Part<'a>,
+    found: &mut Meaning<'a>,
 ) -> Result<(), Stop>
     ensures value { OnOk result (mean (view expr.now) (env_of env.now) ≡ Some (part_of found.new)) }
     ensures erred { IsErrOf result Stop.Erred → mean (view expr.now) (env_of env.now) ≡ None }
 {
     match expr {
         Expr::Number(number) => number_part(*number, found),
-        Expr::Text(text) => put_part(Some(Part::Value(Value::Words(text.as_str()))), found),
-        Expr::True => put_part(Some(Part::Value(Value::Truth(true))), found),
-        Expr::False => put_part(Some(Part::Value(Value::Truth(false))), found),
-        Expr::Null => put_part(Some(Part::Value(Value::Null)), found),
+        Expr::Text(text) => put_part(Some(Meaning::Value(Value::Words(text.as_str()))), found),
+        Expr::True => put_part(Some(Meaning::Value(Value::Truth(true))), found),
+        Expr::False => put_part(Some(Meaning::Value(Value::Truth(false))), found),
+        Expr::Null => put_part(Some(Meaning::Value(Value::Null)), found),
         Expr::Variable(name) => put_part(variable(name, env), found),
         Expr::Capture(name) => put_part(capture(name.as_str(), env), found),
         Expr::Group(inner) => part(arena, inner, env, found),
@@ -77,11 +79,11 @@ fn part<'a>(
 }
 
 #[inline(never)]
-fn number_part<'a>(number: u64, found: &mut Part<'a>) -> Result<(), Stop>
+fn number_part<'a>(number: u64, found: &mut Meaning<'a>) -> Result<(), Stop>
     ensures value { OnOk result (option_map value (in_range (pos number)) ≡ Some (part_of found.new)) }
     ensures erred { IsErrOf result Stop.Erred → option_map value (in_range (pos number)) ≡ None }
 {
-    *found = Part::Value(wanted(literal(number))?);
+    *found = Meaning::Value(wanted(literal(number))?);
     Ok(())
 }
 
@@ -93,7 +95,7 @@ fn member_part<'a>(
     receiver: &'a Expr,
     name: &Name,
     env: &Env<'a, '_>,
-    found: &mut Part<'a>,
+    found: &mut Meaning<'a>,
 ) -> Result<(), Stop>
     ensures value { OnOk result (option_and_then (member name.now) (mean (view receiver.now) (env_of env.now)) ≡ Some (part_of found.new)) }
     ensures erred { IsErrOf result Stop.Erred → option_and_then (member name.now) (mean (view receiver.now) (env_of env.now)) ≡ None }
@@ -109,7 +111,7 @@ fn receiver_of<'a>(
     arena: &'a Bump,
     expr: &'a Expr,
     env: &Env<'a, '_>,
-    found: &mut Part<'a>,
+    found: &mut Meaning<'a>,
 ) -> Result<(), Stop>
     ensures value { OnOk result (mean (view expr.now) (env_of env.now) ≡ Some (part_of found.new)) }
     ensures erred { IsErrOf result Stop.Erred → mean (view expr.now) (env_of env.now) ≡ None }
@@ -131,7 +133,7 @@ fn call_with_nothing<'a>(
     receiver: &'a Expr,
     name: &Name,
     env: &Env<'a, '_>,
-    found: &mut Part<'a>,
+    found: &mut Meaning<'a>,
 ) -> Result<(), Stop>
     ensures value { OnOk result (called name.now (mean (view receiver.now) (env_of env.now)) nothing ≡ Some (part_of found.new)) }
     ensures erred { IsErrOf result Stop.Erred → called name.now (mean (view receiver.now) (env_of env.now)) nothing ≡ None }
@@ -147,14 +149,14 @@ fn value_part<'a>(
     arena: &'a Bump,
     expr: &'a Expr,
     env: &Env<'a, '_>,
-    found: &mut Part<'a>,
+    found: &mut Meaning<'a>,
 ) -> Result<(), Stop>
     ensures value { OnOk result (option_map value (as_value (mean (view expr.now) (env_of env.now))) ≡ Some (part_of found.new)) }
     ensures erred { IsErrOf result Stop.Erred → option_map value (as_value (mean (view expr.now) (env_of env.now))) ≡ None }
 {
     let mut only = Value::Null;
     value(arena, expr, env, &mut only)?;
-    *found = Part::Value(only);
+    *found = Meaning::Value(only);
     Ok(())
 }
 
@@ -267,7 +269,7 @@ fn member_value<'a>(
     ensures erred { IsErrOf result Stop.Erred → as_value (option_and_then (member name.now) (mean (view receiver.now) (env_of env.now))) ≡ None }
 {
     if let Expr::Variable(before) = receiver
-        && let Some(Part::Auth(who)) = variable(before, env)
+        && let Some(Meaning::Auth(who)) = variable(before, env)
     {
         return put_value(auth_value(name, who), found);
     }
@@ -287,7 +289,7 @@ fn member_value_of_part<'a>(
     ensures value { OnOk result (as_value (option_and_then (member name.now) (mean (view receiver.now) (env_of env.now))) ≡ Some (value_of found.new)) }
     ensures erred { IsErrOf result Stop.Erred → as_value (option_and_then (member name.now) (mean (view receiver.now) (env_of env.now))) ≡ None }
 {
-    let mut before = Part::Value(Value::Null);
+    let mut before = Meaning::Value(Value::Null);
     receiver_of(arena, receiver, env, &mut before)?;
     put_value(member_value_of(name, before), found)
 }
@@ -542,7 +544,7 @@ fn place_of_part<'a>(arena: &'a Bump, expr: &'a Expr, env: &Env<'a, '_>) -> Foun
     ensures value { IfOk (result_of result) (λ at. as_place (mean (view expr.now) (env_of env.now)) ≡ Some at.now) }
     ensures erred { IsErrOf (result_of result) Stop.Erred → as_place (mean (view expr.now) (env_of env.now)) ≡ None }
 {
-    let mut found = Part::Value(Value::Null);
+    let mut found = Meaning::Value(Value::Null);
     match part(arena, expr, env, &mut found) {
         Ok(()) => Found::of(wanted(in_place(found))),
         Err(stop) => Found::stopped(stop),
@@ -561,7 +563,7 @@ fn value_of_part<'a>(
     ensures value { OnOk result (as_value (mean (view expr.now) (env_of env.now)) ≡ Some (value_of found.new)) }
     ensures erred { IsErrOf result Stop.Erred → as_value (mean (view expr.now) (env_of env.now)) ≡ None }
 {
-    let mut whole = Part::Value(Value::Null);
+    let mut whole = Meaning::Value(Value::Null);
     part(arena, expr, env, &mut whole)?;
     put_value(in_value(whole), found)
 }
@@ -671,13 +673,13 @@ fn other_truth<'a>(
     arena: &'a Bump,
     expr: &'a Expr,
     env: &Env<'a, '_>,
-    found: &mut Part<'a>,
+    found: &mut Meaning<'a>,
 ) -> Result<(), Stop>
     ensures value { OnOk result (option_map value (other_truth (as_value (mean (view expr.now) (env_of env.now)))) ≡ Some (part_of found.new)) }
     ensures erred { IsErrOf result Stop.Erred → option_map value (other_truth (as_value (mean (view expr.now) (env_of env.now)))) ≡ None }
 {
     let b = truth(arena, expr, env)?;
-    *found = Part::Value(Value::Truth(!b));
+    *found = Meaning::Value(Value::Truth(!b));
     Ok(())
 }
 
@@ -688,14 +690,14 @@ fn opposite<'a>(
     arena: &'a Bump,
     expr: &'a Expr,
     env: &Env<'a, '_>,
-    found: &mut Part<'a>,
+    found: &mut Meaning<'a>,
 ) -> Result<(), Stop>
     ensures value { OnOk result (option_map value (option_and_then minus_of (as_value (mean (view expr.now) (env_of env.now)))) ≡ Some (part_of found.new)) }
     ensures erred { IsErrOf result Stop.Erred → option_map value (option_and_then minus_of (as_value (mean (view expr.now) (env_of env.now)))) ≡ None }
 {
     let mut number = Value::Null;
     value(arena, expr, env, &mut number)?;
-    *found = Part::Value(wanted(minus_of(number))?);
+    *found = Meaning::Value(wanted(minus_of(number))?);
     Ok(())
 }
 
@@ -708,14 +710,14 @@ fn operation<'a>(
     left: Value<'a>,
     right: &'a Expr,
     env: &Env<'a, '_>,
-    found: &mut Part<'a>,
+    found: &mut Meaning<'a>,
 ) -> Result<(), Stop>
     ensures value { OnOk result (option_map value (operated operator (Some (value_of left.entry)) (as_value (mean (view right.now) (env_of env.now)))) ≡ Some (part_of found.new)) }
     ensures erred { IsErrOf result Stop.Erred → option_map value (operated operator (Some (value_of left.entry)) (as_value (mean (view right.now) (env_of env.now)))) ≡ None }
 {
     let mut made = left;
     operated(arena, operator, right, env, &mut made)?;
-    *found = Part::Value(made);
+    *found = Meaning::Value(made);
     Ok(())
 }
 
@@ -757,7 +759,7 @@ fn call<'a>(
     name: &Name,
     list: &'a [Argument],
     env: &Env<'a, '_>,
-    found: &mut Part<'a>,
+    found: &mut Meaning<'a>,
 ) -> Result<(), Stop>
     ensures value { OnOk result (call_of name.now (part_of found.old) (meant (arguments list.now) (env_of env.now)) ≡ Some (part_of found.new)) }
     ensures erred { IsErrOf result Stop.Erred → call_of name.now (part_of found.old) (meant (arguments list.now) (env_of env.now)) ≡ None }
@@ -782,7 +784,7 @@ fn call_with_second<'a>(
     first: Value<'a>,
     given: &'a Argument,
     env: &Env<'a, '_>,
-    found: &mut Part<'a>,
+    found: &mut Meaning<'a>,
 ) -> Result<(), Stop>
     ensures value { OnOk result (option_and_then (called_with_two name.now (part_of found.old) (value_of first.entry)) (argument_value (view_argument given.now) (env_of env.now)) ≡ Some (part_of found.new)) }
     ensures erred { IsErrOf result Stop.Erred → option_and_then (called_with_two name.now (part_of found.old) (value_of first.entry)) (argument_value (view_argument given.now) (env_of env.now)) ≡ None }
@@ -800,7 +802,7 @@ fn call_with<'a>(
     name: &str,
     given: &'a Argument,
     env: &Env<'a, '_>,
-    found: &mut Part<'a>,
+    found: &mut Meaning<'a>,
 ) -> Result<(), Stop>
     ensures value { OnOk result (call_of name.now (part_of found.old) (meant (argument (view_argument given.now) no_argument) (env_of env.now)) ≡ Some (part_of found.new)) }
     ensures erred { IsErrOf result Stop.Erred → call_of name.now (part_of found.old) (meant (argument (view_argument given.now) no_argument) (env_of env.now)) ≡ None }
@@ -823,14 +825,14 @@ fn call_listed<'a>(
     name: &str,
     items: &'a [Expr],
     env: &Env<'a, '_>,
-    found: &mut Part<'a>,
+    found: &mut Meaning<'a>,
 ) -> Result<(), Stop>
     ensures value { OnOk result (option_and_then (called_with_list name.now (part_of found.old)) (values (views items.now) (env_of env.now)) ≡ Some (part_of found.new)) }
     ensures erred { IsErrOf result Stop.Erred → option_and_then (called_with_list name.now (part_of found.old)) (values (views items.now) (env_of env.now)) ≡ None }
 {
     let place = wanted(holder(name, *found))?;
     let all = have_children(arena, place, items, env)?;
-    *found = Part::Value(Value::Truth(all));
+    *found = Meaning::Value(Value::Truth(all));
     Ok(())
 }
 
@@ -896,7 +898,7 @@ pub fn evaluate<'a>(
 ) -> Result<Outcome, NoMemory>
     requires { Suits checked.now (env_of env.now) }
     ensures outcome { IfOk result (λ found. found ≡ outcome checked.now.tree (env_of env.now)) }
-    ensures sorted { (p : meanings.Part) → mean checked.now.tree (env_of env.now) ≡ Some p → is_value (sort_of_part p) ≡ true }
+    ensures sorted { (p : meanings.Meaning) → mean checked.now.tree (env_of env.now) ≡ Some p → is_value (sort_of_part p) ≡ true }
 {
     checked.law();
     match truth(arena, checked.expr(), env) {

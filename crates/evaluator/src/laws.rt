@@ -1,7 +1,7 @@
 //! The laws of meaning.
 ghost use Rattle.std.specs.Prelude.{◌≡◌, ◌≢◌, ◌↔◌, ℕ, List, [], ◌++◌, true, Some, IsSome};
 ghost use Rattle.path_capture.specs.Captures.{names};
-ghost use Rattle.expr_parser.specs.Tree.{Tree, Variable, Capture};
+ghost use Rattle.expr_parser.specs.Tree.{SyntaxTree, Variable, Capture};
 ghost use Rattle.expr_types.specs.declared.place.Place.{Place};
 ghost use Rattle.expr_types.specs.declared.sort.Sort.{Sort};
 ghost use Rattle.expr_types.specs.HasSort.{HasSort, HasSomeSort};
@@ -20,7 +20,7 @@ ghost use Rattle.evaluator.specs.Sorted.{IsOfSort, StandsIn};
 /// where one is wanted and that nothing is asked of a part of another sort, is true of what expressions
 /// mean. A variable or a capture that has a sort is there. It does nothing.
 pub fn what_has_a_sort_means_that_or_errs()
-    ensures sorts { (place : Place) (env : Env) (x : Tree) (s : Sort) → is_for place env.access ≡ true → HasSort place (names env.captures) x s → IsOfSort s (mean x env) }
+    ensures sorts { (place : Place) (env : Env) (x : SyntaxTree) (s : Sort) → is_for place env.access ≡ true → HasSort place (names env.captures) x s → IsOfSort s (mean x env) }
     ensures variables { (place : Place) (env : Env) (f : List ℕ) (s : Sort) → is_for place env.access ≡ true → HasSort place (names env.captures) (Variable f) s → IsSome (mean (Variable f) env) }
     ensures captures { (place : Place) (env : Env) (f : List ℕ) (s : Sort) → HasSort place (names env.captures) (Capture f) s → IsSome (mean (Capture f) env) }
 {}
@@ -28,12 +28,12 @@ pub fn what_has_a_sort_means_that_or_errs()
 /// Each expression that stands in a checked one has a sort, in every environment that suits it: so the
 /// law above is true of all of them. It does nothing.
 pub fn all_parts_of_what_is_checked_have_sorts()
-    ensures { (checked : Checked) (env : Env) (x : Tree) → IsChecked checked → Suits checked env → StandsIn x checked.tree → HasSomeSort checked.place (names env.captures) x }
+    ensures { (checked : Checked) (env : Env) (x : SyntaxTree) → IsChecked checked → Suits checked env → StandsIn x checked.tree → HasSomeSort checked.place (names env.captures) x }
 {}
 
 /// An expression gives the same in two environments that look the same to its scope. It does nothing.
 pub fn what_an_expression_depends_on()
-    ensures { (x : Tree) (one other : Env) → LookSame (scope_of x) one other → outcome x one ≡ outcome x other }
+    ensures { (x : SyntaxTree) (one other : Env) → LookSame (scope_of x) one other → outcome x one ≡ outcome x other }
 {}
 
 /// A text contains a part exactly where it is the part with a text before it and a text behind it. It does nothing.

@@ -11,31 +11,31 @@ use crate::asked::Asked;
 use crate::env::{Access, Env};
 use crate::identity::{Claims, Identity};
 use crate::texts::length_of;
-use crate::value::{Part, Value, leaf_or_null, limit_or_null, text_or_null};
+use crate::value::{Meaning, Value, leaf_or_null, limit_or_null, text_or_null};
 use expr_tokens::{KnownName, Name};
 
 // ---- variables and captures
 
-fn coming<'a>(access: Access<'a>) -> Option<Part<'a>>
+fn coming<'a>(access: Access<'a>) -> Option<Meaning<'a>>
     ensures { option_map part_of result ≡ coming_in (access_of access.entry) }
 {
     match access {
         Access::Reads(_) => None,
-        Access::Writes(place) => Some(Part::Snapshot(place)),
+        Access::Writes(place) => Some(Meaning::Snapshot(place)),
     }
 }
 
-fn asked<'a>(access: Access<'a>) -> Option<Part<'a>>
+fn asked<'a>(access: Access<'a>) -> Option<Meaning<'a>>
     ensures { option_map part_of result ≡ asked_in (access_of access.entry) }
 {
     match access {
-        Access::Reads(asked) => Some(Part::Query(asked)),
+        Access::Reads(asked) => Some(Meaning::Query(asked)),
         Access::Writes(_) => None,
     }
 }
 
 #[inline(always)]
-pub(crate) fn variable<'a>(name: &Name, env: &Env<'a, '_>) -> Option<Part<'a>>
+pub(crate) fn variable<'a>(name: &Name, env: &Env<'a, '_>) -> Option<Meaning<'a>>
     ensures { option_map part_of result ≡ variable name.now (env_of env.now) }
 {
     variable_known(name.known(), env)
@@ -43,45 +43,47 @@ pub(crate) fn variable<'a>(name: &Name, env: &Env<'a, '_>) -> Option<Part<'a>>
 
 // The variable of a known name.
 #[inline(always)]
-fn variable_known<'a>(known: Option<KnownName>, env: &Env<'a, '_>) -> Option<Part<'a>>
+fn variable_known<'a>(known: Option<KnownName>, env: &Env<'a, '_>) -> Option<Meaning<'a>>
     ensures { option_map part_of result ≡ variable_known known (env_of env.now) }
 {
     match known {
-        Some(KnownName::Auth) => Some(Part::Auth(env.auth)),
-        Some(KnownName::Now) => Some(Part::Value(Value::Whole(env.moment.milliseconds() as i64))),
-        Some(KnownName::Root) => Some(Part::Snapshot(env.here.top())),
-        Some(KnownName::Data) => Some(Part::Snapshot(env.here)),
+        Some(KnownName::Auth) => Some(Meaning::Auth(env.auth)),
+        Some(KnownName::Now) => Some(Meaning::Value(Value::Whole(
+            env.moment.milliseconds() as i64,
+        ))),
+        Some(KnownName::Root) => Some(Meaning::Snapshot(env.here.top())),
+        Some(KnownName::Data) => Some(Meaning::Snapshot(env.here)),
         Some(KnownName::NewData) => coming(env.access),
         Some(KnownName::Query) => asked(env.access),
         _ => None,
     }
 }
 
-pub(crate) fn capture<'a>(name: &str, env: &Env<'a, '_>) -> Option<Part<'a>>
+pub(crate) fn capture<'a>(name: &str, env: &Env<'a, '_>) -> Option<Meaning<'a>>
     ensures { option_map part_of result ≡ capture name.now (env_of env.now) }
 {
     match env.captures.key_of(name) {
-        Some(key) => Some(Part::Value(Value::Words(key.text()))),
+        Some(key) => Some(Meaning::Value(Value::Words(key.text()))),
         None => None,
     }
 }
 
 // ---- behind a dot
 
-fn auth_part<'a>(name: &Name, who: Option<&'a Identity>) -> Option<Part<'a>>
+fn auth_part<'a>(name: &Name, who: Option<&'a Identity>) -> Option<Meaning<'a>>
     ensures { option_map part_of result ≡ auth_part name.now (option_map (λ a. a.now) who.entry) }
 {
     auth_part_known(name.known(), who)
 }
 
 // The part of `auth` that has a known name.
-fn auth_part_known<'a>(known: Option<KnownName>, who: Option<&'a Identity>) -> Option<Part<'a>>
+fn auth_part_known<'a>(known: Option<KnownName>, who: Option<&'a Identity>) -> Option<Meaning<'a>>
     ensures { option_map part_of result ≡ auth_part_known known (option_map (λ a. a.now) who.entry) }
 {
     match known {
-        Some(KnownName::Uid) => Some(Part::Value(uid_of(who))),
-        Some(KnownName::Provider) => Some(Part::Value(provider_of(who))),
-        Some(KnownName::Token) => Some(Part::Token(claims_of(who))),
+        Some(KnownName::Uid) => Some(Meaning::Value(uid_of(who))),
+        Some(KnownName::Provider) => Some(Meaning::Value(provider_of(who))),
+        Some(KnownName::Token) => Some(Meaning::Token(claims_of(who))),
         _ => None,
     }
 }
@@ -198,37 +200,37 @@ fn value_part<'a>(name: &str, value: Value) -> Option<Value<'a>>
 }
 
 // A value as a part, if there is one.
-fn as_part<'a>(found: Option<Value<'a>>) -> Option<Part<'a>>
+fn as_part<'a>(found: Option<Value<'a>>) -> Option<Meaning<'a>>
     ensures { option_map part_of result ≡ option_map value (option_map value_of found.entry) }
 {
     match found {
-        Some(value) => Some(Part::Value(value)),
+        Some(value) => Some(Meaning::Value(value)),
         None => None,
     }
 }
 
-pub(crate) fn member<'a>(name: &Name, receiver: Part<'a>) -> Option<Part<'a>>
+pub(crate) fn member<'a>(name: &Name, receiver: Meaning<'a>) -> Option<Meaning<'a>>
     ensures { option_map part_of result ≡ member name.now (part_of receiver.entry) }
 {
     match receiver {
-        Part::Value(value) => as_part(value_part(name.as_str(), value)),
-        Part::Snapshot(_) => None,
-        Part::Auth(who) => auth_part(name, who),
-        Part::Token(claims) => Some(Part::Value(claim(name.as_str(), claims))),
-        Part::Query(asked) => as_part(query_field(name.as_str(), asked)),
+        Meaning::Value(value) => as_part(value_part(name.as_str(), value)),
+        Meaning::Snapshot(_) => None,
+        Meaning::Auth(who) => auth_part(name, who),
+        Meaning::Token(claims) => Some(Meaning::Value(claim(name.as_str(), claims))),
+        Meaning::Query(asked) => as_part(query_field(name.as_str(), asked)),
     }
 }
 
 // The same, where a value is wanted.
 #[inline(always)]
-pub(crate) fn member_value<'a>(name: &Name, receiver: Part<'a>) -> Option<Value<'a>>
+pub(crate) fn member_value<'a>(name: &Name, receiver: Meaning<'a>) -> Option<Value<'a>>
     ensures { option_map value_of result ≡ as_value (member name.now (part_of receiver.entry)) }
 {
     match receiver {
-        Part::Value(value) => value_part(name.as_str(), value),
-        Part::Snapshot(_) => None,
-        Part::Auth(who) => auth_value(name, who),
-        Part::Token(claims) => Some(claim(name.as_str(), claims)),
-        Part::Query(asked) => query_field(name.as_str(), asked),
+        Meaning::Value(value) => value_part(name.as_str(), value),
+        Meaning::Snapshot(_) => None,
+        Meaning::Auth(who) => auth_value(name, who),
+        Meaning::Token(claims) => Some(claim(name.as_str(), claims)),
+        Meaning::Query(asked) => query_field(name.as_str(), asked),
     }
 }

@@ -25,7 +25,7 @@ pub(crate) enum Value<'a> {
 
 // What a part of an expression means, by its sort.
 #[derive(Clone, Copy)]
-pub(crate) enum Part<'a> {
+pub(crate) enum Meaning<'a> {
     Value(Value<'a>),
     Snapshot(&'a Snapshot<'a>),
     Auth(Option<&'a Identity>),
@@ -96,7 +96,7 @@ pub(crate) fn put_truth<'a>(truth: bool, found: &mut Value<'a>) -> Result<(), St
 
 // Puts a part where it is wanted, or errs.
 #[inline(always)]
-pub(crate) fn put_part<'a>(part: Option<Part<'a>>, found: &mut Part<'a>) -> Result<(), Stop>
+pub(crate) fn put_part<'a>(part: Option<Meaning<'a>>, found: &mut Meaning<'a>) -> Result<(), Stop>
     ensures value { OnOk result (option_map part_of part.entry ≡ Some (part_of found.new)) }
     ensures erred { IsErrOf result Stop.Erred → option_map part_of part.entry ≡ None }
 {
@@ -105,23 +105,23 @@ pub(crate) fn put_part<'a>(part: Option<Part<'a>>, found: &mut Part<'a>) -> Resu
 }
 
 // The part, where a value is wanted.
-pub(crate) fn in_value<'a>(part: Part<'a>) -> Option<Value<'a>>
+pub(crate) fn in_value<'a>(part: Meaning<'a>) -> Option<Value<'a>>
     ensures { option_map value_of result ≡ in_value (part_of part.entry) }
 {
     match part {
-        Part::Value(value) => Some(value),
-        Part::Auth(None) | Part::Token(None) => Some(Value::Null),
-        Part::Auth(Some(_)) | Part::Token(Some(_)) => Some(Value::Record),
-        Part::Snapshot(_) | Part::Query(_) => None,
+        Meaning::Value(value) => Some(value),
+        Meaning::Auth(None) | Meaning::Token(None) => Some(Value::Null),
+        Meaning::Auth(Some(_)) | Meaning::Token(Some(_)) => Some(Value::Record),
+        Meaning::Snapshot(_) | Meaning::Query(_) => None,
     }
 }
 
 // The location, where one is wanted.
-pub(crate) fn in_place<'a>(part: Part<'a>) -> Option<&'a Snapshot<'a>>
+pub(crate) fn in_place<'a>(part: Meaning<'a>) -> Option<&'a Snapshot<'a>>
     ensures { option_map (λ s. s.now) result ≡ in_place (part_of part.entry) }
 {
     match part {
-        Part::Snapshot(place) => Some(place),
+        Meaning::Snapshot(place) => Some(place),
         _ => None,
     }
 }

@@ -6,7 +6,7 @@ use Rattle.expr_tokens.specs.declared.operator.Operator.TheVariants as b
 use Rattle.expr_tokens.specs.declared.token.Token.{Token}
 use Rattle.expr_tokens.specs.declared.token.Token.TheVariants as t
 use Rattle.expr_parser.specs.declared.parser.ParseFault.{ParseFault}
-use Rattle.expr_parser.specs.Tree.{Tree, Trees, Argument, Arguments, Number, Text, True, False, Null, Variable, Capture, Group, Member, Call, Not, Negate, Operation, Choice, One, Listed, no_argument, none}
+use Rattle.expr_parser.specs.Tree.{SyntaxTree, Trees, Argument, Arguments, Number, Text, True, False, Null, Variable, Capture, Group, Member, Call, Not, Negate, Operation, Choice, One, Listed, no_argument, none}
 use Rattle.expr_parser.specs.Grammar.{level}
 use Rattle.expr_parser.specs.Working.Reading.{Mode, Whole, Climb, On, Unary, After, Args, Items, Found, Reader, ◌>>=◌, stop, deeper, snoc, snoc_item, closed, group, primary, items_on, args_on, call, named, dotted, after, postfix, unary, on, climb, otherwise, parts, chosen, whole, items, arg, args, step, run, read}
 use Rattle.expr_parser.proofs.Turns.{place, Within, within_more, Alike, both_closed, both_primary, both_items_on, both_args_on, both_call, both_named, both_dotted, both_after, both_unary, both_on, both_otherwise, both_chosen, both_arg, run_short, run_enough}
@@ -35,7 +35,7 @@ alike_if k false o o' p p' h g = g
 alike_deeper : {A : Type 0} (k d : ℕ) (ts us : List Token) (o p : Found A) → Alike' k o p → Alike' k (deeper d ts o) (deeper d us p)
 alike_deeper {A} k d ts us o p h = alike_if k (nat_lt d MAX_LEVELS) o (stop {A = A} ts) p (stop {A = A} us) h (stops _ _)
 
-alike_closed : (k : ℕ) (x : Tree) (ts us : List Token) → Like k ts us → Alike' k (closed x ts) (closed x us)
+alike_closed : (k : ℕ) (x : SyntaxTree) (ts us : List Token) → Like k ts us → Alike' k (closed x ts) (closed x us)
 alike_closed k x ts us (past h) = beyond (both_closed k x ts h).within
 alike_closed k x _ _ (same t.CloseParenthesis l) = reads (Group x) l
 alike_closed k x _ _ (same u l) = stops _ _
@@ -83,17 +83,17 @@ module _ (r : Reader) (short : (m : Mode) (d : ℕ) (ts : List Token) → Within
       alike_call_on t.CloseParenthesis us vs l' = reads no_argument l'
       alike_call_on u us vs l' = again k (Args no_argument) d (u ∷ us) (u ∷ vs) (same u l')
 
-  alike_named : (k d : ℕ) (x : Tree) (f : List ℕ) (ts us : List Token) → Like k ts us → Alike' k (named r d x f ts) (named r d x f us)
+  alike_named : (k d : ℕ) (x : SyntaxTree) (f : List ℕ) (ts us : List Token) → Like k ts us → Alike' k (named r d x f ts) (named r d x f us)
   alike_named k d x f ts us (past h) = beyond (both_named r r (suc (length ts)) (self (suc (length ts))) k d x f ts (omega arith) h).within
   alike_named k d x f _ _ (same t.OpenParenthesis {us} {vs} l) = alike_deeper k d (t.OpenParenthesis ∷ us) (t.OpenParenthesis ∷ vs) _ _ (alike_bind k (call r (suc d) us) (call r (suc d) vs) (λ xs. Ok (Call x f xs.0, xs.1)) (alike_call k (suc d) us vs l) (λ xs vs' ws l'. reads (Call x f xs) l') (λ xs h. h))
   alike_named k d x f _ _ (same u l) = reads (Member x f) (same u l)
 
-  alike_dotted : (k d : ℕ) (x : Tree) (ts us : List Token) → Like k ts us → Alike' k (dotted r d x ts) (dotted r d x us)
+  alike_dotted : (k d : ℕ) (x : SyntaxTree) (ts us : List Token) → Like k ts us → Alike' k (dotted r d x ts) (dotted r d x us)
   alike_dotted k d x ts us (past h) = beyond (both_dotted r r (suc (length ts)) (self (suc (length ts))) k d x ts (omega arith) h).within
   alike_dotted k d x _ _ (same (t.Name f) {us} {vs} l) = alike_named k d x f us vs l
   alike_dotted k d x _ _ (same u l) = stops _ _
 
-  alike_after : (k d : ℕ) (x : Tree) (ts us : List Token) → Like k ts us → Alike' k (after r d x ts) (after r d x us)
+  alike_after : (k d : ℕ) (x : SyntaxTree) (ts us : List Token) → Like k ts us → Alike' k (after r d x ts) (after r d x us)
   alike_after k d x ts us (past h) = beyond (both_after r r (suc (length ts)) (self (suc (length ts))) k d x ts (omega arith) h).within
   alike_after k d x _ _ (same t.Dot {us} {vs} l) = alike_bind k (dotted r d x us) (dotted r d x vs) (λ y. r (After y.0) d y.1) (alike_dotted k d x us vs l) (λ y vs' ws l'. again k (After y) d vs' ws l') (λ y h. short_reads k (After y.0) d y.1 h)
   alike_after k d x _ _ (same t.OpenBracket l) = stops _ _
@@ -112,7 +112,7 @@ module _ (r : Reader) (short : (m : Mode) (d : ℕ) (ts : List Token) → Within
       from (t.Operator b.Subtract) us vs l' = alike_deeper k d (t.Operator b.Subtract ∷ us) (t.Operator b.Subtract ∷ vs) _ _ (alike_bind k (r Unary (suc d) us) (r Unary (suc d) vs) (λ x. Ok (Negate x.0, x.1)) (again k Unary (suc d) us vs l') (λ x vs' ws m. reads (Negate x) m) (λ x h. h))
       from u us vs l' = alike_postfix k d (u ∷ us) (u ∷ vs) (same u l')
 
-  alike_on : (k n d : ℕ) (x : Tree) (ts us : List Token) → Like k ts us → Alike' k (on r n d x ts) (on r n d x us)
+  alike_on : (k n d : ℕ) (x : SyntaxTree) (ts us : List Token) → Like k ts us → Alike' k (on r n d x ts) (on r n d x us)
   alike_on k n d x ts us (past h) = beyond (both_on r r (suc (length ts)) (self (suc (length ts))) k n d x ts (omega arith) h).within
   alike_on k n d x _ _ (same (t.Operator op) {us} {vs} l) = alike_if k (nat_le n (level op)) _ _ _ _
       (alike_bind k (r (Climb (suc (level op))) d us) (r (Climb (suc (level op))) d vs) (λ y. r (On n (Operation op x y.0)) d y.1) (again k (Climb (suc (level op))) d us vs l) (λ y vs' ws m. again k (On n (Operation op x y)) d vs' ws m) (λ y h. short_reads k (On n (Operation op x y.0)) d y.1 h))
@@ -123,12 +123,12 @@ module _ (r : Reader) (short : (m : Mode) (d : ℕ) (ts : List Token) → Within
   alike_climb k n d ts us l = alike_bind k (unary r d ts) (unary r d us) (λ x. on r n d x.0 x.1) (alike_unary k d ts us l) (λ x vs ws m. alike_on k n d x vs ws m)
       (λ x h. (both_on r r (suc (length x.1)) (self (suc (length x.1))) k n d x.0 x.1 (omega arith) h).within)
 
-  alike_otherwise : (k d : ℕ) (c x : Tree) (ts us : List Token) → Like k ts us → Alike' k (otherwise r d c x ts) (otherwise r d c x us)
+  alike_otherwise : (k d : ℕ) (c x : SyntaxTree) (ts us : List Token) → Like k ts us → Alike' k (otherwise r d c x ts) (otherwise r d c x us)
   alike_otherwise k d c x ts us (past h) = beyond (both_otherwise r r (suc (length ts)) (self (suc (length ts))) k d c x ts (omega arith) h).within
   alike_otherwise k d c x _ _ (same t.Colon {us} {vs} l) = alike_bind k (r Whole (suc d) us) (r Whole (suc d) vs) (λ y. Ok (Choice c x y.0, y.1)) (again k Whole (suc d) us vs l) (λ y vs' ws m. reads (Choice c x y) m) (λ y h. h)
   alike_otherwise k d c x _ _ (same u l) = stops _ _
 
-  alike_chosen : (k d : ℕ) (c : Tree) (ts us : List Token) → Like k ts us → Alike' k (chosen r d c ts) (chosen r d c us)
+  alike_chosen : (k d : ℕ) (c : SyntaxTree) (ts us : List Token) → Like k ts us → Alike' k (chosen r d c ts) (chosen r d c us)
   alike_chosen k d c ts us (past h) = beyond (both_chosen r r (suc (length ts)) (self (suc (length ts))) k d c ts (omega arith) h).within
   alike_chosen k d c _ _ (same t.Question {us} {vs} l) = alike_deeper k d (t.Question ∷ us) (t.Question ∷ vs) (parts r d c us) (parts r d c vs)
       (alike_bind k (r Whole (suc d) us) (r Whole (suc d) vs) (λ x. otherwise r d c x.0 x.1) (again k Whole (suc d) us vs l) (λ x vs' ws m. alike_otherwise k d c x vs' ws m)
@@ -179,34 +179,34 @@ pub alike_read : (k : ℕ) (ts us : List Token) → Like k ts us → Alike' k (r
 unfolding read
 alike_read k ts us l =
     let n : ℕ = suc (length ts + length us) in
-    subst (λ (o : Found Tree). Alike' k o (run (suc (length us)) Whole 0 us)) (run_enough n (suc (length ts)) Whole 0 ts (omega arith) (omega arith))
-    (subst (λ (p : Found Tree). Alike' k (run n Whole 0 ts) p) (run_enough n (suc (length us)) Whole 0 us (omega arith) (omega arith)) (alike_run n k Whole 0 ts us l))
+    subst (λ (o : Found SyntaxTree). Alike' k o (run (suc (length us)) Whole 0 us)) (run_enough n (suc (length ts)) Whole 0 ts (omega arith) (omega arith))
+    (subst (λ (p : Found SyntaxTree). Alike' k (run n Whole 0 ts) p) (run_enough n (suc (length us)) Whole 0 us (omega arith) (omega arith)) (alike_run n k Whole 0 ts us l))
 
-apart : (k : ℕ) (o p : Found Tree) (e : ParseFault) (x : Tree) → Alike' k o p → o ≡ Err e → place e ≡ suc k → p ≡ Ok (x, []) → ⊥
+apart : (k : ℕ) (o p : Found SyntaxTree) (e : ParseFault) (x : SyntaxTree) → Alike' k o p → o ≡ Err e → place e ≡ suc k → p ≡ Ok (x, []) → ⊥
 apart k (Ok y) p e x (beyond w) a h g = cc
 apart k (Err f) p e x (beyond w) a h g = let same : f ≡ e = cc in absurd (omega (arith, ap place same))
 apart k _ _ e x (reads y l) a h g = cc
 apart k _ _ e x (stops f f') a h g = cc
 
-apart_behind : (k : ℕ) (o p : Found Tree) (x y : Tree) (rest : List Token) → Alike' k o p → o ≡ Ok (x, rest) → length rest ≡ suc k → p ≡ Ok (y, []) → ⊥
-apart_behind k (Ok z) p x y rest (beyond w) a h g = let same : z ≡ (x, rest) = cc in absurd (omega (arith, ap (λ (s : Tree × List Token). length s.1) same))
+apart_behind : (k : ℕ) (o p : Found SyntaxTree) (x y : SyntaxTree) (rest : List Token) → Alike' k o p → o ≡ Ok (x, rest) → length rest ≡ suc k → p ≡ Ok (y, []) → ⊥
+apart_behind k (Ok z) p x y rest (beyond w) a h g = let same : z ≡ (x, rest) = cc in absurd (omega (arith, ap (λ (s : SyntaxTree × List Token). length s.1) same))
 apart_behind k (Err f) p x y rest (beyond w) a h g = cc
 apart_behind k _ _ x y rest (reads z (past {us} {vs} m)) a h g =
-    let q : Tree × List Token = (z, us) in
-    let q' : Tree × List Token = (x, rest) in
+    let q : SyntaxTree × List Token = (z, us) in
+    let q' : SyntaxTree × List Token = (x, rest) in
     let same : q ≡ q' = cc in
-    absurd (omega (arith, ap (λ (s : Tree × List Token). length s.1) same))
+    absurd (omega (arith, ap (λ (s : SyntaxTree × List Token). length s.1) same))
 apart_behind k _ _ x y rest (reads z (same u {us} {vs} l)) a h g =
-    let q : Tree × List Token = (z, u ∷ vs) in
-    let q' : Tree × List Token = (y, []) in
+    let q : SyntaxTree × List Token = (z, u ∷ vs) in
+    let q' : SyntaxTree × List Token = (y, []) in
     let e : q ≡ q' = cc in
-    absurd (omega (arith, ap (λ (s : Tree × List Token). length s.1) e))
+    absurd (omega (arith, ap (λ (s : SyntaxTree × List Token). length s.1) e))
 apart_behind k _ _ x y rest (stops f f') a h g = cc
 
 -- where reading stops at a token, no expression goes on with it
-pub stops_never : (before left others : List Token) (u : Token) (e : ParseFault) (x : Tree) → read Whole 0 (before ++ u ∷ left) ≡ Err e → place e ≡ suc (length left) → read Whole 0 (before ++ u ∷ others) ≡ Ok (x, []) → ⊥
+pub stops_never : (before left others : List Token) (u : Token) (e : ParseFault) (x : SyntaxTree) → read Whole 0 (before ++ u ∷ left) ≡ Err e → place e ≡ suc (length left) → read Whole 0 (before ++ u ∷ others) ≡ Ok (x, []) → ⊥
 stops_never before left others u e x h p g = apart (length left) (read Whole 0 (before ++ u ∷ left)) (read Whole 0 (before ++ u ∷ others)) e x (alike_read (length left) (before ++ u ∷ left) (before ++ u ∷ others) (like before left others u)) h p g
 
 -- and where an expression ends before a token
-pub behind_never : (before left others : List Token) (u : Token) (x y : Tree) → read Whole 0 (before ++ u ∷ left) ≡ Ok (x, u ∷ left) → read Whole 0 (before ++ u ∷ others) ≡ Ok (y, []) → ⊥
+pub behind_never : (before left others : List Token) (u : Token) (x y : SyntaxTree) → read Whole 0 (before ++ u ∷ left) ≡ Ok (x, u ∷ left) → read Whole 0 (before ++ u ∷ others) ≡ Ok (y, []) → ⊥
 behind_never before left others u x y h g = apart_behind (length left) (read Whole 0 (before ++ u ∷ left)) (read Whole 0 (before ++ u ∷ others)) x y (u ∷ left) (alike_read (length left) (before ++ u ∷ left) (before ++ u ∷ others) (like before left others u)) h refl g

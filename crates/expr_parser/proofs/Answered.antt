@@ -8,7 +8,7 @@ use Rattle.expr_tokens.specs.Spelling.{SpellsTokens, ArePlaces}
 use Rattle.expr_tokens.proofs.Answered.{scanned, no_memory_fault}
 use Rattle.expr_parser.specs.declared.parser.ParseFault.{ParseFault}
 use Rattle.expr_parser.specs.declared.parser.ParseFault.TheVariants.{NoMemory, Unexpected, Bracket}
-use Rattle.expr_parser.specs.Tree.{Tree}
+use Rattle.expr_parser.specs.Tree.{SyntaxTree}
 use Rattle.expr_parser.specs.Grammar.{Spells}
 use Rattle.expr_parser.specs.Stopping.{Refused}
 use Rattle.expr_parser.specs.Text.{SpellsExpression, RefusedText}
@@ -19,9 +19,9 @@ use Rattle.expr_parser.proofs.Placed.{placed, names_byte, names_bracket}
 
 -- an expression, or where the tokens stop to be one
 abbrev pub Parsed : List Token → Type 0
-Parsed ts = ((x : Tree) × Spells ts x) ⊎ ((fault : ParseFault) × Refused ts fault × (fault ≢ NoMemory))
+Parsed ts = ((x : SyntaxTree) × Spells ts x) ⊎ ((fault : ParseFault) × Refused ts fault × (fault ≢ NoMemory))
 
-parsed_by : (ts : List Token) (found : Found Tree) → read Whole 0 ts ≡ found → Parsed ts
+parsed_by : (ts : List Token) (found : Found SyntaxTree) → read Whole 0 ts ≡ found → Parsed ts
 parsed_by ts (Ok (x, [])) e = inl (x, is_found ts x [] e refl)
 parsed_by ts (Ok (x, u ∷ left)) e = inr (Unexpected (length (u ∷ left)), left_over ts x (u ∷ left) e (λ n. absurd (omega arith)), λ n. cc)
 parsed_by ts (Err (Unexpected n)) e = inr (Unexpected n, is_refused ts (Unexpected n) e, λ m. cc)
@@ -34,7 +34,7 @@ each_parsed ts = parsed_by ts (read Whole 0 ts) refl
 
 -- an expression of the text, or why it spells none
 abbrev pub Read : List ℕ → Type 0
-Read text = ((x : Tree) × SpellsExpression text x) ⊎ ((fault : ExprFault) × RefusedText text fault × (fault ≢ text_fault.NoMemory))
+Read text = ((x : SyntaxTree) × SpellsExpression text x) ⊎ ((fault : ExprFault) × RefusedText text fault × (fault ≢ text_fault.NoMemory))
 
 stopped : (text : List ℕ) (us : List Token) (places : List ℕ) → SpellsTokens text us → ArePlaces text us places → (fault : ParseFault) → Refused us fault → fault ≢ NoMemory → Read text
 stopped text us places h p (Unexpected n) r other = inr (text_fault.BadExpression (placed text places n), names_byte text us places n (placed text places n) h p r refl, λ m. cc)

@@ -7,7 +7,7 @@ use Rattle.expr_tokens.specs.declared.operator.Operator.{Operator}
 use Rattle.expr_tokens.specs.declared.operator.Operator.TheVariants as b
 use Rattle.expr_tokens.specs.declared.token.Token.{Token}
 use Rattle.expr_tokens.specs.declared.token.Token.TheVariants as t
-use Rattle.expr_parser.specs.Tree.{Tree, Trees, Argument, Arguments, Number, Text, True, False, Null, Variable, Capture, Group, Member, Call, Not, Negate, Operation, Choice, One, Listed, no_argument, argument, none, more}
+use Rattle.expr_parser.specs.Tree.{SyntaxTree, Trees, Argument, Arguments, Number, Text, True, False, Null, Variable, Capture, Group, Member, Call, Not, Negate, Operation, Choice, One, Listed, no_argument, argument, none, more}
 use Rattle.expr_parser.specs.Grammar.{level}
 use Rattle.expr_parser.specs.Working.Printing.{spelled, spelled_argument, spelled_arguments, spelled_more, spelled_items, spelled_more_items, HasOne, Fits, FitsArgument, FitArguments, FitItems, Printed}
 use Rattle.expr_parser.specs.Working.Reading.{Whole, Climb, On, Unary, After, Args, Items, Found, ◌>>=◌, stop, deeper, snoc, snoc_item, closed, items_on, args_on, call, named, after, on, otherwise, chosen, whole, arg, read}
@@ -79,74 +79,74 @@ deeper_is {A} d ts o h = ap (λ c. cond c o (stop {A = A} ts)) (lt-ltb d MAX_LEV
 
 -- ---- reading stops where the expression ends
 
-on_ends : (n d : ℕ) (x : Tree) (ts : List Token) → Ends n ts → on read n d x ts ≡ Ok (x, ts)
+on_ends : (n d : ℕ) (x : SyntaxTree) (ts : List Token) → Ends n ts → on read n d x ts ≡ Ok (x, ts)
 on_ends n d x (t.Operator op ∷ ts) e =
     ap (λ c. cond c (read (Climb (suc (level op))) d ts >>= λ y. read (On n (Operation op x y.0)) d y.1) (Ok (x, t.Operator op ∷ ts))) (lt-leb n (level op) e)
 on_ends n d x _ e = refl
 
-after_ends : (n d : ℕ) (x : Tree) (ts : List Token) → Ends n ts → after read d x ts ≡ Ok (x, ts)
+after_ends : (n d : ℕ) (x : SyntaxTree) (ts : List Token) → Ends n ts → after read d x ts ≡ Ok (x, ts)
 after_ends n d x (t.Dot ∷ ts) e = absurd e
 after_ends n d x (t.OpenBracket ∷ ts) e = absurd e
 after_ends n d x _ e = refl
 
-chosen_ends : (d : ℕ) (x : Tree) (ts : List Token) → Ends 0 ts → chosen read d x ts ≡ Ok (x, ts)
+chosen_ends : (d : ℕ) (x : SyntaxTree) (ts : List Token) → Ends 0 ts → chosen read d x ts ≡ Ok (x, ts)
 chosen_ends d x (t.Question ∷ ts) e = absurd (omega arith)
 chosen_ends d x _ e = refl
 
-named_is : (d : ℕ) (x : Tree) (f : List ℕ) (ts : List Token) → NotOpen ts → named read d x f ts ≡ Ok (Member x f, ts)
+named_is : (d : ℕ) (x : SyntaxTree) (f : List ℕ) (ts : List Token) → NotOpen ts → named read d x f ts ≡ Ok (Member x f, ts)
 named_is d x f (t.OpenParenthesis ∷ ts) h = absurd h
 named_is d x f _ h = refl
 
-climb_from : (n d : ℕ) (x : Tree) (ts rest : List Token) → read Unary d ts ≡ Ok (x, rest) → read (Climb n) d ts ≡ read (On n x) d rest
+climb_from : (n d : ℕ) (x : SyntaxTree) (ts rest : List Token) → read Unary d ts ≡ Ok (x, rest) → read (Climb n) d ts ≡ read (On n x) d rest
 climb_from n d x ts rest h =
-    read_step (Climb n) d ts ∙ ap (λ (o : Found Tree). o >>= λ y. on read n d y.0 y.1) (sym (read_step Unary d ts) ∙ h) ∙ sym (read_step (On n x) d rest)
+    read_step (Climb n) d ts ∙ ap (λ (o : Found SyntaxTree). o >>= λ y. on read n d y.0 y.1) (sym (read_step Unary d ts) ∙ h) ∙ sym (read_step (On n x) d rest)
 
-whole_from : (d : ℕ) (x : Tree) (ts rest : List Token) → read (Climb 1) d ts ≡ Ok (x, rest) → read Whole d ts ≡ chosen read d x rest
+whole_from : (d : ℕ) (x : SyntaxTree) (ts rest : List Token) → read (Climb 1) d ts ≡ Ok (x, rest) → read Whole d ts ≡ chosen read d x rest
 whole_from d x ts rest h =
-    read_step Whole d ts ∙ ap (λ (o : Found Tree). o >>= λ y. chosen read d y.0 y.1) (sym (read_step (Climb 1) d ts) ∙ h)
+    read_step Whole d ts ∙ ap (λ (o : Found SyntaxTree). o >>= λ y. chosen read d y.0 y.1) (sym (read_step (Climb 1) d ts) ∙ h)
 
 -- ---- one expression
 
-abbrev IsWhole : Tree → Type 0
+abbrev IsWhole : SyntaxTree → Type 0
 IsWhole e = (d : ℕ) (rest : List Token) → Fits e 0 d → Ends 0 rest → read Whole d (spelled e rest) ≡ Ok (e, rest)
 
-abbrev IsClimb : Tree → Type 0
+abbrev IsClimb : SyntaxTree → Type 0
 IsClimb e = (n m d : ℕ) (rest : List Token) → 1 ≤ n → n ≤ m → Fits e m d → Ends (suc m) rest → read (Climb n) d (spelled e rest) ≡ read (On n e) d rest
 
-abbrev IsUnary : Tree → Type 0
+abbrev IsUnary : SyntaxTree → Type 0
 IsUnary e = (d : ℕ) (rest : List Token) → Fits e 7 d → Ends 8 rest → read Unary d (spelled e rest) ≡ Ok (e, rest)
 
-abbrev IsPostfix : Tree → Type 0
+abbrev IsPostfix : SyntaxTree → Type 0
 IsPostfix e = (d : ℕ) (rest : List Token) → Fits e 8 d → NotOpen rest → read Unary d (spelled e rest) ≡ read (After e) d rest
 
-pub record Complete (e : Tree) : Type 0 where
+pub record Complete (e : SyntaxTree) : Type 0 where
   pub whole_is : (d : ℕ) (rest : List Token) → Fits e 0 d → Ends 0 rest → read Whole d (spelled e rest) ≡ Ok (e, rest)
   pub climb_is : (n m d : ℕ) (rest : List Token) → 1 ≤ n → n ≤ m → Fits e m d → Ends (suc m) rest → read (Climb n) d (spelled e rest) ≡ read (On n e) d rest
   pub unary_is : (d : ℕ) (rest : List Token) → Fits e 7 d → Ends 8 rest → read Unary d (spelled e rest) ≡ Ok (e, rest)
   pub postfix_is : (d : ℕ) (rest : List Token) → Fits e 8 d → NotOpen rest → read Unary d (spelled e rest) ≡ read (After e) d rest
 
 -- e of the level n is also of the level m
-abbrev Lifts : Tree → ℕ → ℕ → Type 0
+abbrev Lifts : SyntaxTree → ℕ → ℕ → Type 0
 Lifts e n m = (d : ℕ) → Fits e n d → Fits e m d
 
-whole_of_climb : (e : Tree) → Lifts e 0 1 → IsClimb e → IsWhole e
+whole_of_climb : (e : SyntaxTree) → Lifts e 0 1 → IsClimb e → IsWhole e
 whole_of_climb e lift h d rest fits ends =
     whole_from d e (spelled e rest) rest (h 1 1 d rest (omega arith) (omega arith) (lift d fits) (Ends-more 0 2 rest (omega arith) ends) ∙ (read_step (On 1 e) d rest ∙ on_ends 1 d e rest (Ends-more 0 1 rest (omega arith) ends)))
     ∙ chosen_ends d e rest ends
 
-climb_of_unary : (e : Tree) → ((m : ℕ) → Lifts e m 7) → IsUnary e → IsClimb e
+climb_of_unary : (e : SyntaxTree) → ((m : ℕ) → Lifts e m 7) → IsUnary e → IsClimb e
 climb_of_unary e lift h n m d rest one le fits ends = climb_from n d e (spelled e rest) rest (h d rest (lift m d fits) (Ends-8 (suc m) rest ends))
 
-unary_of_postfix : (e : Tree) → Lifts e 7 8 → IsPostfix e → IsUnary e
+unary_of_postfix : (e : SyntaxTree) → Lifts e 7 8 → IsPostfix e → IsUnary e
 unary_of_postfix e lift h d rest fits ends = h d rest (lift d fits) (Ends-not_open 8 rest ends) ∙ (read_step (After e) d rest ∙ after_ends 8 d e rest ends)
 
-of_postfix : (e : Tree) → ((n m : ℕ) → m ≤ 8 → Lifts e n m) → IsPostfix e → Complete e
+of_postfix : (e : SyntaxTree) → ((n m : ℕ) → m ≤ 8 → Lifts e n m) → IsPostfix e → Complete e
 of_postfix e lift h =
     let u = unary_of_postfix e (lift 7 8 (omega arith)) h in
     let c = climb_of_unary e (λ m. lift m 7 (omega arith)) u in
     record { whole_is = whole_of_climb e (lift 0 1 (omega arith)) c; climb_is = c; unary_is = u; postfix_is = h }
 
-of_unary : (e : Tree) → ((n m : ℕ) → m ≤ 7 → Lifts e n m) → ((d : ℕ) → Fits e 8 d → ⊥) → IsUnary e → Complete e
+of_unary : (e : SyntaxTree) → ((n m : ℕ) → m ≤ 7 → Lifts e n m) → ((d : ℕ) → Fits e 8 d → ⊥) → IsUnary e → Complete e
 of_unary e lift never u =
     let c = climb_of_unary e (λ m. lift m 7 (omega arith)) u in
     record { whole_is = whole_of_climb e (lift 0 1 (omega arith)) c; climb_is = c; unary_is = u; postfix_is = λ d rest fits h. absurd (never d fits) }
@@ -172,32 +172,32 @@ variable_complete f = of_postfix (Variable f) (λ n m h d fits. h) (λ d rest fi
 capture_complete : (f : List ℕ) → Complete (Capture f)
 capture_complete f = of_postfix (Capture f) (λ n m h d fits. h) (λ d rest fits h. read_step Unary d (t.Capture f ∷ rest) ∙ sym (read_step (After (Capture f)) d rest))
 
-group_complete : (x : Tree) → Complete x → Complete (Group x)
+group_complete : (x : SyntaxTree) → Complete x → Complete (Group x)
 group_complete x X = of_postfix (Group x) (λ n m h d fits. (h, fits.1, fits.2)) (λ d rest fits h.
     read_step Unary d (t.OpenParenthesis ∷ spelled x (t.CloseParenthesis ∷ rest))
-    ∙ ap (λ (o : Found Tree). deeper d (t.OpenParenthesis ∷ spelled x (t.CloseParenthesis ∷ rest)) (o >>= λ y. closed y.0 y.1) >>= λ y. after read d y.0 y.1) (X.whole_is (suc d) (t.CloseParenthesis ∷ rest) fits.2 tt)
-    ∙ ap (λ (o : Found Tree). o >>= λ y. after read d y.0 y.1) (deeper_is d (t.OpenParenthesis ∷ spelled x (t.CloseParenthesis ∷ rest)) (Ok (Group x, rest)) fits.1)
+    ∙ ap (λ (o : Found SyntaxTree). deeper d (t.OpenParenthesis ∷ spelled x (t.CloseParenthesis ∷ rest)) (o >>= λ y. closed y.0 y.1) >>= λ y. after read d y.0 y.1) (X.whole_is (suc d) (t.CloseParenthesis ∷ rest) fits.2 tt)
+    ∙ ap (λ (o : Found SyntaxTree). o >>= λ y. after read d y.0 y.1) (deeper_is d (t.OpenParenthesis ∷ spelled x (t.CloseParenthesis ∷ rest)) (Ok (Group x, rest)) fits.1)
     ∙ sym (read_step (After (Group x)) d rest))
 
-member_complete : (x : Tree) (f : List ℕ) → Complete x → Complete (Member x f)
+member_complete : (x : SyntaxTree) (f : List ℕ) → Complete x → Complete (Member x f)
 member_complete x f X = of_postfix (Member x f) (λ n m h d fits. (h, fits.1)) (λ d rest fits h.
     X.postfix_is d (t.Dot ∷ t.Name f ∷ rest) fits.1 tt
     ∙ read_step (After x) d (t.Dot ∷ t.Name f ∷ rest)
-    ∙ ap (λ (o : Found Tree). o >>= λ y. read (After y.0) d y.1) (named_is d x f rest h))
+    ∙ ap (λ (o : Found SyntaxTree). o >>= λ y. read (After y.0) d y.1) (named_is d x f rest h))
 
-not_complete : (x : Tree) → Complete x → Complete (Not x)
+not_complete : (x : SyntaxTree) → Complete x → Complete (Not x)
 not_complete x X = of_unary (Not x) (λ n m h d fits. (h, fits.1, fits.2)) (λ d fits. omega (arith, fits.0)) (λ d rest fits h.
     read_step Unary d (t.Not ∷ spelled x rest)
-    ∙ ap (λ (o : Found Tree). deeper d (t.Not ∷ spelled x rest) (o >>= λ y. Ok (Not y.0, y.1))) (X.unary_is (suc d) rest fits.2 h)
+    ∙ ap (λ (o : Found SyntaxTree). deeper d (t.Not ∷ spelled x rest) (o >>= λ y. Ok (Not y.0, y.1))) (X.unary_is (suc d) rest fits.2 h)
     ∙ deeper_is d (t.Not ∷ spelled x rest) (Ok (Not x, rest)) fits.1)
 
-negate_complete : (x : Tree) → Complete x → Complete (Negate x)
+negate_complete : (x : SyntaxTree) → Complete x → Complete (Negate x)
 negate_complete x X = of_unary (Negate x) (λ n m h d fits. (h, fits.1, fits.2)) (λ d fits. omega (arith, fits.0)) (λ d rest fits h.
     read_step Unary d (t.Operator b.Subtract ∷ spelled x rest)
-    ∙ ap (λ (o : Found Tree). deeper d (t.Operator b.Subtract ∷ spelled x rest) (o >>= λ y. Ok (Negate y.0, y.1))) (X.unary_is (suc d) rest fits.2 h)
+    ∙ ap (λ (o : Found SyntaxTree). deeper d (t.Operator b.Subtract ∷ spelled x rest) (o >>= λ y. Ok (Negate y.0, y.1))) (X.unary_is (suc d) rest fits.2 h)
     ∙ deeper_is d (t.Operator b.Subtract ∷ spelled x rest) (Ok (Negate x, rest)) fits.1)
 
-operation_climbs : (op : Operator) (x y : Tree) → Complete x → Complete y → IsClimb (Operation op x y)
+operation_climbs : (op : Operator) (x y : SyntaxTree) → Complete x → Complete y → IsClimb (Operation op x y)
 operation_climbs op x y X Y n m d rest one le fits ends =
     let p : ℕ = level op in
     let low : n ≤ level op = omega (arith, fits.0) in
@@ -207,9 +207,9 @@ operation_climbs op x y X Y n m d rest one le fits ends =
     X.climb_is n (level op) d (t.Operator op ∷ spelled y rest) one low fits.1 (omega arith)
     ∙ read_step (On n x) d (t.Operator op ∷ spelled y rest)
     ∙ ap (λ c. cond c (read (Climb (suc (level op))) d (spelled y rest) >>= λ z. read (On n (Operation op x z.0)) d z.1) (Ok (x, t.Operator op ∷ spelled y rest))) (le-leb n (level op) low)
-    ∙ ap (λ (o : Found Tree). o >>= λ z. read (On n (Operation op x z.0)) d z.1) right
+    ∙ ap (λ (o : Found SyntaxTree). o >>= λ z. read (On n (Operation op x z.0)) d z.1) right
 
-operation_complete : (op : Operator) (x y : Tree) → Complete x → Complete y → Complete (Operation op x y)
+operation_complete : (op : Operator) (x y : SyntaxTree) → Complete x → Complete y → Complete (Operation op x y)
 operation_complete op x y X Y =
     let c : IsClimb (Operation op x y) = operation_climbs op x y X Y in
     record {
@@ -219,15 +219,15 @@ operation_complete op x y X Y =
       postfix_is = λ d rest fits h. absurd (omega (arith, fits.0, level_below op));
     }
 
-choice_complete : (c x y : Tree) → Complete c → Complete x → Complete y → Complete (Choice c x y)
+choice_complete : (c x y : SyntaxTree) → Complete c → Complete x → Complete y → Complete (Choice c x y)
 choice_complete c x y C X Y =
     record {
       whole_is = λ d rest fits ends.
           (let us : List Token = spelled x (t.Colon ∷ spelled y rest) in
           let ts : List Token = t.Question ∷ us in
           whole_from d c (spelled c ts) ts (C.climb_is 1 1 d ts (omega arith) (omega arith) fits.2 (omega arith) ∙ (read_step (On 1 c) d ts ∙ on_ends 1 d c ts (omega arith)))
-          ∙ ap (λ (o : Found Tree). deeper d (t.Question ∷ us) (o >>= λ z. otherwise read d c z.0 z.1)) (X.whole_is (suc d) (t.Colon ∷ spelled y rest) fits.3 tt)
-          ∙ ap (λ (o : Found Tree). deeper d (t.Question ∷ us) (o >>= λ z. Ok (Choice c x z.0, z.1))) (Y.whole_is (suc d) rest fits.4 ends)
+          ∙ ap (λ (o : Found SyntaxTree). deeper d (t.Question ∷ us) (o >>= λ z. otherwise read d c z.0 z.1)) (X.whole_is (suc d) (t.Colon ∷ spelled y rest) fits.3 tt)
+          ∙ ap (λ (o : Found SyntaxTree). deeper d (t.Question ∷ us) (o >>= λ z. Ok (Choice c x z.0, z.1))) (Y.whole_is (suc d) rest fits.4 ends)
           ∙ deeper_is d (t.Question ∷ us) (Ok (Choice c x y, rest)) fits.1);
       climb_is = λ n m d rest one le fits ends. absurd (omega (arith, fits.0));
       unary_is = λ d rest fits h. absurd (omega (arith, fits.0));
@@ -242,7 +242,7 @@ Begins (t.CloseParenthesis ∷ ts) = ⊥
 Begins (t.OpenBracket ∷ ts) = ⊥
 Begins _ = Unit {0}
 
-spelled-begins : (e : Tree) (rest : List Token) → Begins (spelled e rest)
+spelled-begins : (e : SyntaxTree) (rest : List Token) → Begins (spelled e rest)
 spelled-begins (Number n) rest = tt
 spelled-begins (Text s) rest = tt
 spelled-begins True rest = tt
@@ -276,7 +276,7 @@ pub append_items-none : (xs : Trees) → append_items xs none ≡ xs
 append_items-none none = refl
 append_items-none (more x xs) = ap (more x) (append_items-none xs)
 
-pub append_items-snoc : (xs : Trees) (y : Tree) (ys : Trees) → append_items (snoc_item xs y) ys ≡ append_items xs (more y ys)
+pub append_items-snoc : (xs : Trees) (y : SyntaxTree) (ys : Trees) → append_items (snoc_item xs y) ys ≡ append_items xs (more y ys)
 append_items-snoc none y ys = refl
 append_items-snoc (more x xs) y ys = ap (more x) (append_items-snoc xs y ys)
 
@@ -294,16 +294,16 @@ no_items_complete = record {
   list_is = λ d rest one fits. absurd one;
 }
 
-items_are : (y : Tree) (ys : Trees) → Complete y → CompleteItems ys → (d : ℕ) (front : Trees) (rest : List Token) → FitItems (more y ys) d
+items_are : (y : SyntaxTree) (ys : Trees) → Complete y → CompleteItems ys → (d : ℕ) (front : Trees) (rest : List Token) → FitItems (more y ys) d
     → read (Items front) d (spelled y (spelled_more_items ys rest)) ≡ Ok (append_items front (more y ys), rest)
 items_are y ys Y Ys d front rest fits =
     let ts : List Token = spelled y (spelled_more_items ys rest) in
     read_step (Items front) d ts
-    ∙ ap (λ (o : Found Tree). o >>= λ z. items_on read d (snoc_item front z.0) z.1) (sym (read_step Whole d ts) ∙ Y.whole_is d (spelled_more_items ys rest) fits.0 (more_items-ends ys rest))
+    ∙ ap (λ (o : Found SyntaxTree). o >>= λ z. items_on read d (snoc_item front z.0) z.1) (sym (read_step Whole d ts) ∙ Y.whole_is d (spelled_more_items ys rest) fits.0 (more_items-ends ys rest))
     ∙ Ys.more_are d (snoc_item front y) rest fits.1
     ∙ ap (λ (xs : Trees). Ok (xs, rest)) (append_items-snoc front y ys)
 
-more_items_complete : (y : Tree) (ys : Trees) → Complete y → CompleteItems ys → CompleteItems (more y ys)
+more_items_complete : (y : SyntaxTree) (ys : Trees) → Complete y → CompleteItems ys → CompleteItems (more y ys)
 more_items_complete y ys Y Ys = record {
   more_are = λ d front rest fits. items_are y ys Y Ys d front rest fits;
   list_is = λ d rest one fits. items_are y ys Y Ys d none rest fits;
@@ -331,9 +331,9 @@ pub record CompleteArgument (x : Argument) : Type 0 where
   pub arg_is : (d : ℕ) (rest : List Token) → FitsArgument x d → Ends 0 rest → arg read d (spelled_argument x rest) ≡ Ok (x, rest)
   pub call_is : (d : ℕ) (rest : List Token) → call read d (spelled_argument x rest) ≡ read (Args no_argument) d (spelled_argument x rest)
 
-one_complete : (x : Tree) → Complete x → CompleteArgument (One x)
+one_complete : (x : SyntaxTree) → Complete x → CompleteArgument (One x)
 one_complete x X = record {
-  arg_is = λ d rest fits ends. arg_from d (spelled x rest) (spelled-begins x rest) ∙ ap (λ (o : Found Tree). o >>= λ y. Ok (One y.0, y.1)) (sym (read_step Whole d (spelled x rest)) ∙ X.whole_is d rest fits ends);
+  arg_is = λ d rest fits ends. arg_from d (spelled x rest) (spelled-begins x rest) ∙ ap (λ (o : Found SyntaxTree). o >>= λ y. Ok (One y.0, y.1)) (sym (read_step Whole d (spelled x rest)) ∙ X.whole_is d rest fits ends);
   call_is = λ d rest. call_from d (spelled x rest) (spelled-begins x rest);
 }
 
@@ -368,18 +368,18 @@ more_complete y ys Y Ys = record {
   list_is = λ d rest fits. Y.call_is d (spelled_more ys rest) ∙ args_are y ys Y Ys d no_argument rest fits;
 }
 
-call_complete : (x : Tree) (f : List ℕ) (xs : Arguments) → Complete x → CompleteAll xs → Complete (Call x f xs)
+call_complete : (x : SyntaxTree) (f : List ℕ) (xs : Arguments) → Complete x → CompleteAll xs → Complete (Call x f xs)
 call_complete x f xs X Xs = of_postfix (Call x f xs) (λ n m h d fits. (h, fits.1, fits.2, fits.3)) (λ d rest fits h.
     let us : List Token = spelled_arguments xs rest in
     X.postfix_is d (t.Dot ∷ t.Name f ∷ t.OpenParenthesis ∷ us) fits.2 tt
     ∙ read_step (After x) d (t.Dot ∷ t.Name f ∷ t.OpenParenthesis ∷ us)
     ∙ ap (λ (o : Found Arguments). deeper d (t.OpenParenthesis ∷ us) (o >>= λ ys. Ok (Call x f ys.0, ys.1)) >>= λ y. read (After y.0) d y.1) (Xs.list_is (suc d) rest fits.3)
-    ∙ ap (λ (o : Found Tree). o >>= λ y. read (After y.0) d y.1) (deeper_is d (t.OpenParenthesis ∷ us) (Ok (Call x f xs, rest)) fits.1))
+    ∙ ap (λ (o : Found SyntaxTree). o >>= λ y. read (After y.0) d y.1) (deeper_is d (t.OpenParenthesis ∷ us) (Ok (Call x f xs, rest)) fits.1))
 
 -- ---- every expression
 
 mutual
-  pub complete : (e : Tree) → Complete e
+  pub complete : (e : SyntaxTree) → Complete e
   complete (Number n) = number_complete n
   complete (Text s) = text_complete s
   complete True = true_complete
@@ -408,14 +408,14 @@ mutual
   complete_items (more x xs) = more_items_complete x xs (complete x) (complete_items xs)
 
 -- what is spelled is read
-pub printed_is_read : (ts : List Token) (x : Tree) → Printed ts x → read Whole 0 ts ≡ Ok (x, [])
+pub printed_is_read : (ts : List Token) (x : SyntaxTree) → Printed ts x → read Whole 0 ts ≡ Ok (x, [])
 printed_is_read ts x h = ap (read Whole 0) h.tokens_are ∙ (complete x).whole_is 0 [] h.fits tt
 
 -- tokens spell at most one expression
-pub one_tree : (ts : List Token) (x y : Tree) → Printed ts x → Printed ts y → x ≡ y
+pub one_tree : (ts : List Token) (x y : SyntaxTree) → Printed ts x → Printed ts y → x ≡ y
 one_tree ts x y h g =
-    let a : Tree × List Token = (x, []) in
-    let b : Tree × List Token = (y, []) in
+    let a : SyntaxTree × List Token = (x, []) in
+    let b : SyntaxTree × List Token = (y, []) in
     let e : Ok a ≡ Ok b = sym (printed_is_read ts x h) ∙ printed_is_read ts y g in
     let p : a ≡ b = cc in
-    ap (λ (z : Tree × List Token). z.0) p
+    ap (λ (z : SyntaxTree × List Token). z.0) p

@@ -6,7 +6,7 @@ use Rattle.expr_tokens.specs.declared.operator.Operator.TheVariants as b
 use Rattle.expr_tokens.specs.declared.token.Token.{Token}
 use Rattle.expr_tokens.specs.declared.token.Token.TheVariants as t
 use Rattle.expr_parser.specs.declared.parser.ParseFault.TheVariants.{Unexpected, Bracket, NoMemory}
-use Rattle.expr_parser.specs.Tree.{Tree, Trees, Arguments, Number, Text, True, False, Null, Variable, Capture, Group, Member, Call, Not, Negate, Operation, Choice, One, Listed, no_argument, none}
+use Rattle.expr_parser.specs.Tree.{SyntaxTree, Trees, Arguments, Number, Text, True, False, Null, Variable, Capture, Group, Member, Call, Not, Negate, Operation, Choice, One, Listed, no_argument, none}
 use Rattle.expr_parser.specs.Grammar.{level}
 use Rattle.expr_parser.specs.Working.Reading.{Mode, Whole, Climb, On, Unary, After, Args, Items, Found, Reader, ◌>>=◌, stop, deeper, snoc, snoc_item, closed, group, primary, items_on, args_on, call, named, dotted, after, postfix, unary, on, climb, otherwise, chosen, whole, items, arg, args, step, run, read}
 
@@ -51,7 +51,7 @@ ends_deeper d k ts o h = ends_if (nat_lt d MAX_LEVELS) k o (stop ts) (λ _. h) (
 ends_ok : {A : Type 0} (k : ℕ) (x : A) (ts : List Token) → length ts ≤ k → Ends {A = A} k (Ok (x, ts))
 ends_ok k x ts h = record { known = h }
 
-ends_closed : (k : ℕ) (x : Tree) (ts : List Token) → length ts ≤ k → Ends k (closed x ts)
+ends_closed : (k : ℕ) (x : SyntaxTree) (ts : List Token) → length ts ≤ k → Ends k (closed x ts)
 ends_closed k x (t.CloseParenthesis ∷ ts) h = ends_ok k (Group x) ts (omega arith)
 ends_closed k x ts h = ends_stop k ts
 
@@ -87,15 +87,15 @@ module _ (r : Reader) (n : ℕ) (ends : (m : Mode) (d : ℕ) (ts : List Token) �
   ends_call k d (t.CloseParenthesis ∷ ts) h le = ends_ok k no_argument ts (omega arith)
   ends_call k d ts h le = reads k (Args no_argument) d ts h le
 
-  ends_named : (k d : ℕ) (x : Tree) (f : List ℕ) (ts : List Token) → length ts < n → length ts ≤ k → Ends k (named r d x f ts)
+  ends_named : (k d : ℕ) (x : SyntaxTree) (f : List ℕ) (ts : List Token) → length ts < n → length ts ≤ k → Ends k (named r d x f ts)
   ends_named k d x f (t.OpenParenthesis ∷ ts) h le = ends_deeper d k (t.OpenParenthesis ∷ ts) _ (ends_bind {j = length ts} (ends_call (length ts) (suc d) ts (omega arith) (omega arith)) (λ xs g. ends_ok k (Call x f xs.0) xs.1 (omega arith)))
   ends_named k d x f ts h le = ends_ok k (Member x f) ts le
 
-  ends_dotted : (k d : ℕ) (x : Tree) (ts : List Token) → length ts < n → length ts ≤ k → Ends k (dotted r d x ts)
+  ends_dotted : (k d : ℕ) (x : SyntaxTree) (ts : List Token) → length ts < n → length ts ≤ k → Ends k (dotted r d x ts)
   ends_dotted k d x (t.Name f ∷ ts) h le = ends_named k d x f ts (omega arith) (omega arith)
   ends_dotted k d x ts h le = ends_stop k ts
 
-  ends_after : (k d : ℕ) (x : Tree) (ts : List Token) → length ts ≤ n → length ts ≤ k → Ends k (after r d x ts)
+  ends_after : (k d : ℕ) (x : SyntaxTree) (ts : List Token) → length ts ≤ n → length ts ≤ k → Ends k (after r d x ts)
   ends_after k d x (t.Dot ∷ ts) h le = ends_bind {j = length ts} (ends_dotted (length ts) d x ts (omega arith) (omega arith)) (λ y g. reads k (After y.0) d y.1 (omega arith) (omega arith))
   ends_after k d x (t.OpenBracket ∷ ts) h le = record { known = tt }
   ends_after k d x ts h le = ends_ok k x ts le
@@ -108,7 +108,7 @@ module _ (r : Reader) (n : ℕ) (ends : (m : Mode) (d : ℕ) (ts : List Token) �
   ends_unary k d (t.Operator b.Subtract ∷ ts) h le = ends_deeper d k (t.Operator b.Subtract ∷ ts) _ (ends_bind {j = length ts} (reads (length ts) Unary (suc d) ts (omega arith) (omega arith)) (λ x g. ends_ok k (Negate x.0) x.1 (omega arith)))
   ends_unary k d ts h le = ends_postfix k d ts h le
 
-  ends_on : (k l d : ℕ) (x : Tree) (ts : List Token) → length ts ≤ n → length ts ≤ k → Ends k (on r l d x ts)
+  ends_on : (k l d : ℕ) (x : SyntaxTree) (ts : List Token) → length ts ≤ n → length ts ≤ k → Ends k (on r l d x ts)
   ends_on k l d x (t.Operator op ∷ ts) h le = ends_if (nat_le l (level op)) k _ _
       (λ _. ends_bind {j = length ts} (reads (length ts) (Climb (suc (level op))) d ts (omega arith) (omega arith)) (λ y g. reads k (On l (Operation op x y.0)) d y.1 (omega arith) (omega arith)))
       (λ _. ends_ok k x (t.Operator op ∷ ts) le)
@@ -117,11 +117,11 @@ module _ (r : Reader) (n : ℕ) (ends : (m : Mode) (d : ℕ) (ts : List Token) �
   ends_climb : (k l d : ℕ) (ts : List Token) → length ts ≤ n → length ts ≤ k → Ends k (climb r l d ts)
   ends_climb k l d ts h le = ends_bind (ends_unary (length ts) d ts h (omega arith)) (λ x g. ends_on k l d x.0 x.1 (omega arith) (omega arith))
 
-  ends_otherwise : (k d : ℕ) (c x : Tree) (ts : List Token) → length ts ≤ n → length ts ≤ k → Ends k (otherwise r d c x ts)
+  ends_otherwise : (k d : ℕ) (c x : SyntaxTree) (ts : List Token) → length ts ≤ n → length ts ≤ k → Ends k (otherwise r d c x ts)
   ends_otherwise k d c x (t.Colon ∷ ts) h le = ends_bind {j = length ts} (reads (length ts) Whole (suc d) ts (omega arith) (omega arith)) (λ y g. ends_ok k (Choice c x y.0) y.1 (omega arith))
   ends_otherwise k d c x ts h le = ends_stop k ts
 
-  ends_chosen : (k d : ℕ) (c : Tree) (ts : List Token) → length ts ≤ n → length ts ≤ k → Ends k (chosen r d c ts)
+  ends_chosen : (k d : ℕ) (c : SyntaxTree) (ts : List Token) → length ts ≤ n → length ts ≤ k → Ends k (chosen r d c ts)
   ends_chosen k d c (t.Question ∷ ts) h le = ends_deeper d k (t.Question ∷ ts) _ (ends_bind {j = length ts} (reads (length ts) Whole (suc d) ts (omega arith) (omega arith)) (λ x g. ends_otherwise k d c x.0 x.1 (omega arith) (omega arith)))
   ends_chosen k d c ts h le = ends_ok k c ts le
 

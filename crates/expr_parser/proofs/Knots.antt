@@ -7,19 +7,19 @@ use Rattle.expr_tokens.specs.declared.token.Token.{Token}
 use Rattle.expr_parser.specs.declared.expr.Expr.{Expr, Call, Call', Row_of-Argument, end_of-Argument, more_of-Argument, items-the_row-Argument, items_hidden-the_row-Argument-1}
 use Rattle.expr_parser.specs.declared.expr.Argument.{Argument, List as Listing, List', Row_of-Expr, end_of-Expr, more_of-Expr, items-the_row-Expr, items_hidden-the_row-Expr-0}
 use Rattle.expr_parser.specs.Tree as tree
-use Rattle.expr_parser.specs.Tree.{Tree, Trees, Arguments}
+use Rattle.expr_parser.specs.Tree.{SyntaxTree, Trees, Arguments}
 use Rattle.expr_parser.specs.View.{view, view_argument, view_arguments, view_items, views, arguments}
 use Rattle.expr_parser.specs.Working.Reading.{Whole, Climb, Unary, Args, Items, Found, ◌>>=◌, snoc, snoc_item, items_on, on, otherwise, parts, chosen, read, arg, arg_behind, item_behind, args_on}
 use Rattle.expr_parser.proofs.Turns.{read_step}
 
 pub whole_is : (d : ℕ) (ts : List Token) → read Whole d ts ≡ (read (Climb 1) d ts >>= λ c. chosen read d c.0 c.1)
-whole_is d ts = read_step Whole d ts ∙ ap (λ (o : Found Tree). o >>= λ c. chosen read d c.0 c.1) (sym (read_step (Climb 1) d ts))
+whole_is d ts = read_step Whole d ts ∙ ap (λ (o : Found SyntaxTree). o >>= λ c. chosen read d c.0 c.1) (sym (read_step (Climb 1) d ts))
 
 pub climb_is : (n d : ℕ) (ts : List Token) → read (Climb n) d ts ≡ (read Unary d ts >>= λ x. on read n d x.0 x.1)
-climb_is n d ts = read_step (Climb n) d ts ∙ ap (λ (o : Found Tree). o >>= λ x. on read n d x.0 x.1) (sym (read_step Unary d ts))
+climb_is n d ts = read_step (Climb n) d ts ∙ ap (λ (o : Found SyntaxTree). o >>= λ x. on read n d x.0 x.1) (sym (read_step Unary d ts))
 
 pub items_is : (d : ℕ) (xs : Trees) (ts : List Token) → read (Items xs) d ts ≡ (read Whole d ts >>= λ x. items_on read d (snoc_item xs x.0) x.1)
-items_is d xs ts = read_step (Items xs) d ts ∙ ap (λ (o : Found Tree). o >>= λ x. items_on read d (snoc_item xs x.0) x.1) (sym (read_step Whole d ts))
+items_is d xs ts = read_step (Items xs) d ts ∙ ap (λ (o : Found SyntaxTree). o >>= λ x. items_on read d (snoc_item xs x.0) x.1) (sym (read_step Whole d ts))
 
 then_more : {A B C : Type 0} (o : Found A) (f : A → B) (g : B × List Token → Found C) → (o >>= λ x. g (f x.0, x.1)) ≡ ((o >>= λ x. Ok (f x.0, x.1)) >>= g)
 then_more (Ok x) f g = refl
@@ -33,8 +33,8 @@ args_by_one d xs ts = read_step (Args xs) d ts ∙ then_more (arg read d ts) (sn
 pub items_by_one : (d : ℕ) (xs : Trees) (ts : List Token) → read (Items xs) d ts ≡ (item_behind read d xs ts >>= λ x. items_on read d x.0 x.1)
 items_by_one d xs ts = items_is d xs ts ∙ then_more (read Whole d ts) (snoc_item xs) (λ x. items_on read d x.0 x.1)
 
-pub parts_are : (d n : ℕ) (c : Tree) (ts : List Token) (x : Tree) (us : List Token) → n ≡ suc d → read Whole n ts ≡ Ok (x, us) → parts read d c ts ≡ otherwise read d c x us
-parts_are d n c ts x us h e = ap (λ (o : Found Tree). o >>= λ y. otherwise read d c y.0 y.1) (ap (λ (m : ℕ). read Whole m ts) (sym h) ∙ e)
+pub parts_are : (d n : ℕ) (c : SyntaxTree) (ts : List Token) (x : SyntaxTree) (us : List Token) → n ≡ suc d → read Whole n ts ≡ Ok (x, us) → parts read d c ts ≡ otherwise read d c x us
+parts_are d n c ts x us h e = ap (λ (o : Found SyntaxTree). o >>= λ y. otherwise read d c y.0 y.1) (ap (λ (m : ℕ). read Whole m ts) (sym h) ∙ e)
 
 pub views-push : (xs : List Expr) (x : Expr) → views (xs ++ x ∷ []) ≡ snoc_item (views xs) (view x)
 views-push [] x = refl

@@ -10,7 +10,7 @@ use Rattle.expr_parser.specs.declared.parser.ParseFault.TheVariants.{Unexpected,
 use Rattle.expr_tokens.specs.declared.token.Token.{Token}
 use Rattle.expr_tokens.specs.Words.{past_blanks}
 use Rattle.expr_tokens.specs.Spelling.{Begins, SpellsTokens, PlaceAfter, ArePlaces}
-use Rattle.expr_parser.specs.Tree.{Tree}
+use Rattle.expr_parser.specs.Tree.{SyntaxTree}
 use Rattle.expr_parser.specs.Grammar.{Spells}
 use Rattle.expr_parser.specs.Stopping.{Refused}
 use Rattle.expr_parser.specs.Text.{SpellsExpression, RefusedText}
@@ -18,11 +18,11 @@ use Rattle.expr_tokens.proofs.Whole.{one_list}
 use Rattle.expr_parser.proofs.Top as top
 
 -- a text spells at most one expression
-pub one_expression : (text : List ℕ) (x y : Tree) → SpellsExpression text x → SpellsExpression text y → x ≡ y
+pub one_expression : (text : List ℕ) (x y : SyntaxTree) → SpellsExpression text x → SpellsExpression text y → x ≡ y
 one_expression text x y h g = top.one_expression h.tokens x y h.parsed (subst (λ (us : List Token). Spells us y) (one_list text g.tokens h.tokens g.scanned h.scanned) g.parsed)
 
 -- what the text spells is what its tokens spell
-pub of_tokens : (text : List ℕ) (us : List Token) (x : Tree) → SpellsTokens text us → SpellsExpression text x → Spells us x
+pub of_tokens : (text : List ℕ) (us : List Token) (x : SyntaxTree) → SpellsTokens text us → SpellsExpression text x → Spells us x
 of_tokens text us x h g = subst (λ (vs : List Token). Spells vs x) (one_list text g.tokens us g.scanned h) g.parsed
 
 -- where so many are left, one of the places is named

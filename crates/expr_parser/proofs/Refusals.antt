@@ -7,7 +7,7 @@ use Rattle.expr_tokens.specs.declared.fault.Excluded.TheVariants.{Slash, Number,
 use Rattle.expr_tokens.specs.declared.token.Token.{Token}
 use Rattle.expr_tokens.specs.Words.{past_blanks}
 use Rattle.expr_tokens.specs.Spelling.{Begins, is_dot, PlaceAfter}
-use Rattle.expr_parser.specs.Tree.{Tree}
+use Rattle.expr_parser.specs.Tree.{SyntaxTree}
 use Rattle.expr_parser.specs.Grammar.{Spells}
 use Rattle.expr_parser.specs.Stopping.{NoneGoesOn, StopsAt}
 use Rattle.expr_parser.specs.Text.{SpellsExpression, NamesPlace, IsOfGrammar, RefusedText}
@@ -61,7 +61,7 @@ split (u ∷ a) b (v ∷ c) d e = go (split a b c d tails)
 
 not_before : (ts l m : List Token) (a : StopsAt ts l) (b : StopsAt ts m) → Shorter a.before l b.before m → ⊥
 not_before ts l m a b s =
-    let never : (others : List Token) (x : Tree) → Spells (a.before ++ s.u ∷ others) x → ⊥ = subst (NoneGoesOn a.before) s.rest a.never in
+    let never : (others : List Token) (x : SyntaxTree) → Spells (a.before ++ s.u ∷ others) x → ⊥ = subst (NoneGoesOn a.before) s.rest a.never in
     let goes_on = subst (λ (z : List Token). Spells z b.tree) (ap (λ (z : List Token). z ++ b.others) s.longer ∙ append_assoc a.before (s.u ∷ s.mid) b.others) b.goes_on in
     never (s.mid ++ b.others) b.tree goes_on
 
@@ -110,11 +110,11 @@ one_refusal text f g (inr (inr a)) (inr (inr b)) n m = of_grammar text f g a b
 
 -- ---- none of what is spelled
 
-none_spelled : (ts before l : List Token) (x : Tree) → ts ≡ before ++ l → NoneGoesOn before l → Spells ts x → ⊥
+none_spelled : (ts before l : List Token) (x : SyntaxTree) → ts ≡ before ++ l → NoneGoesOn before l → Spells ts x → ⊥
 none_spelled ts before [] x p n h = n x (subst (λ (z : List Token). Spells z x) (p ∙ append-nil before) h)
 none_spelled ts before (u ∷ l) x p n h = n l x (subst (λ (z : List Token). Spells z x) p h)
 
-pub none_of_spelled : (text : List ℕ) (x : Tree) (f : ExprFault) → SpellsExpression text x → RefusedText text f → f ≡ NoMemory
+pub none_of_spelled : (text : List ℕ) (x : SyntaxTree) (f : ExprFault) → SpellsExpression text x → RefusedText text f → f ≡ NoMemory
 none_of_spelled text x f s (inl e) = e
 none_of_spelled text x f s (inr (inl a)) = absurd (spelled_no_fault text s.tokens f s.scanned a)
 none_of_spelled text x f s (inr (inr g)) = absurd (none_spelled g.tokens g.stops.before g.left x g.stops.parts g.stops.never (subst (λ (z : List Token). Spells z x) (one_list text s.tokens g.tokens s.scanned g.scanned) s.parsed))

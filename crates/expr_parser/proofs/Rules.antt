@@ -3,19 +3,19 @@ use Rattle.std.proofs.Common.{◌≡◌, ℕ, zero, suc, ◌+◌, ◌-◌, ◌�
 use Rattle.expr_tokens.specs.declared.operator.Operator.TheVariants.{Subtract}
 use Rattle.expr_tokens.specs.declared.token.Token.{Token}
 use Rattle.expr_tokens.specs.declared.token.Token.TheVariants as t
-use Rattle.expr_parser.specs.Tree.{Tree, Trees, Argument, Arguments, Number, Text, True, False, Null, Variable, Capture, Group, Member, Call, Not, Negate, Operation, Choice, One, Listed, no_argument, argument, none, more}
+use Rattle.expr_parser.specs.Tree.{SyntaxTree, Trees, Argument, Arguments, Number, Text, True, False, Null, Variable, Capture, Group, Member, Call, Not, Negate, Operation, Choice, One, Listed, no_argument, argument, none, more}
 use Rattle.expr_parser.specs.Grammar.{level, Derives, DerivesArgument, DerivesItems, DerivesArguments, DerivesMore, choice, operation, not, negate, member, call, number, text, true, false, null, variable, capture, group, next_level, one, listed, last_item, next_item, no_arguments, arguments, last_argument, next_argument, Spells}
 use Rattle.expr_parser.specs.Working.Printing.{spelled, spelled_argument, spelled_arguments, spelled_more, spelled_more_items, Fits, FitsArgument, FitArguments, FitItems, Printed}
 use Rattle.expr_parser.proofs.Complete.{level_below}
 use Rattle.expr_parser.proofs.Sound.{Fits-less}
 
 -- by the rules: it fits, and the tokens are its own
-pub record Spelled (n d : ℕ) (from to : List Token) (x : Tree) : Type 0 where
+pub record Spelled (n d : ℕ) (from to : List Token) (x : SyntaxTree) : Type 0 where
   pub fits : Fits x n d
   pub tokens : from ≡ spelled x to
 
 mutual
-  pub derived : (n d : ℕ) (from to : List Token) (x : Tree) → Derives n d from to x → Spelled n d from to x
+  pub derived : (n d : ℕ) (from to : List Token) (x : SyntaxTree) → Derives n d from to x → Spelled n d from to x
   derived _ d from to _ (choice {xs = xs} {ys = ys} {c = c} {x = x} {y = y} lt C X Y) =
       let p = derived 1 d from (t.Question ∷ xs) c C in
       let q = derived 0 (suc d) xs (t.Colon ∷ ys) x X in
@@ -76,15 +76,15 @@ mutual
       let q = derived_more d ys to xs Xs in
       ((p.0, q.0), ap (λ (us : List Token). t.Comma ∷ us) (p.1 ∙ ap (spelled_argument x) q.1))
 
-loosen : (k n m d : ℕ) (from to : List Token) (x : Tree) → m ≡ n + k → m ≤ 8 → Derives m d from to x → Derives n d from to x
+loosen : (k n m d : ℕ) (from to : List Token) (x : SyntaxTree) → m ≡ n + k → m ≤ 8 → Derives m d from to x → Derives n d from to x
 loosen zero n m d from to x e le D = subst (λ (l : ℕ). Derives l d from to x) (omega arith) D
 loosen (suc k) n m d from to x e le D = next_level (omega arith) (loosen k (suc n) m d from to x (omega arith) le D)
 
-looser : (n m d : ℕ) (from to : List Token) (x : Tree) → n ≤ m → m ≤ 8 → Derives m d from to x → Derives n d from to x
+looser : (n m d : ℕ) (from to : List Token) (x : SyntaxTree) → n ≤ m → m ≤ 8 → Derives m d from to x → Derives n d from to x
 looser n m d from to x le h D = loosen (m - n) n m d from to x (omega arith) h D
 
 mutual
-  pub derives : (x : Tree) (n d : ℕ) (to : List Token) → Fits x n d → Derives n d (spelled x to) to x
+  pub derives : (x : SyntaxTree) (n d : ℕ) (to : List Token) → Fits x n d → Derives n d (spelled x to) to x
   derives (Number k) n d to fits = looser n 8 d (t.Number k ∷ to) to (Number k) fits (omega arith) number
   derives (Text s) n d to fits = looser n 8 d (t.Text s ∷ to) to (Text s) fits (omega arith) text
   derives True n d to fits = looser n 8 d (t.True ∷ to) to True fits (omega arith) true
@@ -117,8 +117,8 @@ mutual
   derives_more no_argument d to fits = last_argument
   derives_more (argument x xs) d to fits = next_argument (derives_argument x d (spelled_more xs to) fits.0) (derives_more xs d to fits.1)
 
-pub by_rules : (ts : List Token) (x : Tree) → Printed ts x → Spells ts x
+pub by_rules : (ts : List Token) (x : SyntaxTree) → Printed ts x → Spells ts x
 by_rules ts x h = subst (λ (us : List Token). Derives 0 0 us [] x) (sym h.tokens_are) (derives x 0 0 [] h.fits)
 
-pub by_spelling : (ts : List Token) (x : Tree) → Spells ts x → Printed ts x
+pub by_spelling : (ts : List Token) (x : SyntaxTree) → Spells ts x → Printed ts x
 by_spelling ts x D = let h = derived 0 0 ts [] x D in record { fits = h.fits; tokens_are = h.tokens }

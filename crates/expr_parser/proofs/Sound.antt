@@ -10,7 +10,7 @@ use Rattle.expr_tokens.specs.declared.token.Token.{Token}
 use Rattle.expr_tokens.specs.declared.token.Token.TheVariants as t
 use Rattle.expr_parser.specs.declared.parser.ParseFault.{ParseFault}
 use Rattle.expr_parser.specs.declared.parser.ParseFault.TheVariants.{Unexpected, Bracket, NoMemory}
-use Rattle.expr_parser.specs.Tree.{Tree, Trees, Argument, Arguments, Number, Text, True, False, Null, Variable, Capture, Group, Member, Call, Not, Negate, Operation, Choice, One, Listed, no_argument, argument, none, more}
+use Rattle.expr_parser.specs.Tree.{SyntaxTree, Trees, Argument, Arguments, Number, Text, True, False, Null, Variable, Capture, Group, Member, Call, Not, Negate, Operation, Choice, One, Listed, no_argument, argument, none, more}
 use Rattle.expr_parser.specs.Grammar.{level}
 use Rattle.expr_parser.specs.Working.Printing.{spelled, spelled_argument, spelled_arguments, spelled_more, spelled_items, spelled_more_items, Fits, FitsArgument, FitArguments, FitItems}
 use Rattle.expr_parser.specs.Working.Reading.{Whole, Climb, On, Unary, After, Args, Items, Found, Reader, ◌>>=◌, stop, deeper, snoc, snoc_item, closed, group, primary, items_on, args_on, call, named, dotted, after, postfix, unary, on, climb, otherwise, chosen, whole, items, arg, args, step, run, read}
@@ -46,7 +46,7 @@ holds_deeper {A} Q W d ts o w h = holds_if Q W (nat_lt d MAX_LEVELS) o (stop {A 
 
 -- ---- pieces
 
-pub Fits-less : (e : Tree) (n m d : ℕ) → n ≤ m → Fits e m d → Fits e n d
+pub Fits-less : (e : SyntaxTree) (n m d : ℕ) → n ≤ m → Fits e m d → Fits e n d
 Fits-less (Number k) n m d h f = omega arith
 Fits-less (Text s) n m d h f = omega arith
 Fits-less True n m d h f = omega arith
@@ -64,7 +64,7 @@ Fits-less (Choice c x y) n m d h f = (omega (arith, f.0), f.1, f.2, f.3, f.4)
 
 -- what follows an expression stands behind its tokens
 mutual
-  pub spelled-append : (e : Tree) (us vs : List Token) → spelled e us ++ vs ≡ spelled e (us ++ vs)
+  pub spelled-append : (e : SyntaxTree) (us vs : List Token) → spelled e us ++ vs ≡ spelled e (us ++ vs)
   spelled-append (Number k) us vs = refl
   spelled-append (Text s) us vs = refl
   spelled-append True us vs = refl
@@ -111,7 +111,7 @@ pub record Piece {A : Type 0} (good : A → Type 0) (spell : A → List Token �
 pub record EndsOperand (tokens : List Token) : Type 0 where
   pub front : List Token
   pub levels : ℕ
-  pub operand : Tree
+  pub operand : SyntaxTree
   pub fits : Fits operand 8 levels
   pub parts : tokens ≡ front ++ spelled operand []
 
@@ -152,7 +152,7 @@ ends-append [] v vs = refl
 ends-append (u ∷ []) v vs = refl
 ends-append (u ∷ w ∷ us) v vs = ends-append (w ∷ us) v vs
 
-pub ends-spelled : (x : Tree) (v : Token) (vs : List Token) → ends (spelled x (v ∷ vs)) ≡ ends (v ∷ vs)
+pub ends-spelled : (x : SyntaxTree) (v : Token) (vs : List Token) → ends (spelled x (v ∷ vs)) ≡ ends (v ∷ vs)
 ends-spelled x v vs = ap ends (sym (spelled-append x [] (v ∷ vs))) ∙ ends-append (spelled x []) v vs
 
 mutual
@@ -182,7 +182,7 @@ mutual
       ∙ ends-more (front ++ t.Comma ∷ spelled_argument x []) xs
 
 -- the last token of a complete operand
-pub ends-operand : (x : Tree) (d : ℕ) → Fits x 8 d → ends (spelled x []) ≡ true
+pub ends-operand : (x : SyntaxTree) (d : ℕ) → Fits x 8 d → ends (spelled x []) ≡ true
 ends-operand (Number k) d f = refl
 ends-operand (Text s) d f = refl
 ends-operand True d f = refl
@@ -254,7 +254,7 @@ stuck_as good spell ts all e same s = record { before = s.before; left = s.left;
 
 -- ---- pieces that are expressions
 
-abbrev pub Is : ℕ → ℕ → List Token → Tree × List Token → Type 0
+abbrev pub Is : ℕ → ℕ → List Token → SyntaxTree × List Token → Type 0
 Is n d ts = Piece (λ x. Fits x n d) spelled ts
 
 abbrev pub Stays : ℕ → ℕ → List Token → ParseFault → Type 0
@@ -265,15 +265,15 @@ Stops n (t.Operator op ∷ ts) = level op < n
 Stops n _ = Unit {0}
 
 -- up to where no bracket stands
-abbrev pub Got : ℕ → ℕ → List Token → Tree × List Token → Type 0
+abbrev pub Got : ℕ → ℕ → List Token → SyntaxTree × List Token → Type 0
 Got n d ts x = Is n d ts x × Free x.1
 
 -- up to where no operator of the level n stands either
-abbrev Upto : ℕ → ℕ → List Token → Tree × List Token → Type 0
+abbrev Upto : ℕ → ℕ → List Token → SyntaxTree × List Token → Type 0
 Upto n d ts x = Is n d ts x × Stops n x.1 × Free x.1
 
 -- e can be the left side of the operator that stands here
-abbrev Joins : ℕ → ℕ → Tree → List Token → Type 0
+abbrev Joins : ℕ → ℕ → SyntaxTree → List Token → Type 0
 Joins n d e (t.Operator op ∷ ts) = n ≤ level op → Fits e (level op) d
 Joins n d e _ = Unit {0}
 
@@ -285,7 +285,7 @@ wanting : (n d : ℕ) (ts : List Token) → n ≤ 8 → Stays n d ts (Unexpected
 wanting n d ts le = record { before = []; left = ts; parts = refl; count = refl; kind = λ b h. cc; others = t.Number 1 ∷ []; it = Number 1; fits = le; goes_on = λ to. refl }
 
 -- behind an expression nothing is wanting
-behind : (n d : ℕ) (e : Tree) (ts : List Token) → Fits e n d → Free ts → Stays n d (spelled e ts) (Unexpected (length ts))
+behind : (n d : ℕ) (e : SyntaxTree) (ts : List Token) → Fits e n d → Free ts → Stays n d (spelled e ts) (Unexpected (length ts))
 behind n d e ts fits free = record { before = spelled e []; left = ts; parts = sym (spelled-append e [] ts); count = refl; kind = λ b h. free_not ts free b; others = []; it = e; fits = fits; goes_on = λ to. spelled-append e [] to }
 
 -- ---- pieces that are arguments and elements
@@ -319,14 +319,14 @@ pub record ArgsAfter (d : ℕ) (xs : Arguments) (ts : List Token) (x : Arguments
 abbrev GoodItems : ℕ → Trees → Type 0
 GoodItems d xs = FitItems xs d
 
-abbrev GoodElement : ℕ → Tree × Trees → Type 0
+abbrev GoodElement : ℕ → SyntaxTree × Trees → Type 0
 GoodElement d p = Fits p.0 0 d × FitItems p.1 d
 
-abbrev spelled_element : Tree × Trees → List Token → List Token
+abbrev spelled_element : SyntaxTree × Trees → List Token → List Token
 spelled_element p to = spelled p.0 (spelled_more_items p.1 to)
 
 pub record ItemsOn (d : ℕ) (xs : Trees) (ts : List Token) (x : Trees × List Token) : Type 0 where
-  pub all : Tree × Trees
+  pub all : SyntaxTree × Trees
   pub is : x.0 ≡ append_items xs (more all.0 all.1)
   pub fits : GoodElement d all
   pub tokens : ts ≡ spelled_element all x.1
@@ -357,22 +357,22 @@ argument_wanting d ts = record { before = []; left = ts; parts = refl; count = r
 pub record Sounds (r : Reader) : Type 0 where
   pub whole_is : (d : ℕ) (ts : List Token) → Holds (Got 0 d ts) (Stays 0 d ts) (r Whole d ts)
   pub climb_is : (n d : ℕ) (ts : List Token) → n ≤ 7 → Holds (Upto n d ts) (Stays n d ts) (r (Climb n) d ts)
-  pub on_is : (n d : ℕ) (e : Tree) (ts : List Token) → Fits e n d → Joins n d e ts → Free ts → Holds (Upto n d (spelled e ts)) (Stays n d (spelled e ts)) (r (On n e) d ts)
+  pub on_is : (n d : ℕ) (e : SyntaxTree) (ts : List Token) → Fits e n d → Joins n d e ts → Free ts → Holds (Upto n d (spelled e ts)) (Stays n d (spelled e ts)) (r (On n e) d ts)
   pub unary_is : (d : ℕ) (ts : List Token) → Holds (Got 7 d ts) (Stays 7 d ts) (r Unary d ts)
-  pub after_is : (d : ℕ) (e : Tree) (ts : List Token) → Fits e 8 d → Holds (Got 8 d (spelled e ts)) (Stays 8 d (spelled e ts)) (r (After e) d ts)
+  pub after_is : (d : ℕ) (e : SyntaxTree) (ts : List Token) → Fits e 8 d → Holds (Got 8 d (spelled e ts)) (Stays 8 d (spelled e ts)) (r (After e) d ts)
   pub args_is : (d : ℕ) (xs : Arguments) (ts : List Token) → Holds (ArgsOn d xs ts) (Stuck (GoodFirst d) spelled_first ts) (r (Args xs) d ts)
   pub items_is : (d : ℕ) (xs : Trees) (ts : List Token) → Holds (ItemsOn d xs ts) (Stuck (GoodElement d) spelled_element ts) (r (Items xs) d ts)
 
-Joins-tight : (n d : ℕ) (e : Tree) (us : List Token) → Fits e 7 d → Joins n d e us
+Joins-tight : (n d : ℕ) (e : SyntaxTree) (us : List Token) → Fits e 7 d → Joins n d e us
 Joins-tight n d e (t.Operator op ∷ us) f = λ _. Fits-less e (level op) 7 d (omega (arith, level_below op)) f
 Joins-tight n d e _ f = tt
 
-Joins-stops : (n d : ℕ) (op : Operator) (e y : Tree) (us : List Token) → Fits e (level op) d → Fits y (suc (level op)) d → Stops (suc (level op)) us → Joins n d (Operation op e y) us
+Joins-stops : (n d : ℕ) (op : Operator) (e y : SyntaxTree) (us : List Token) → Fits e (level op) d → Fits y (suc (level op)) d → Stops (suc (level op)) us → Joins n d (Operation op e y) us
 Joins-stops n d op e y (t.Operator p ∷ us) f g s = λ _. (omega arith, f, g)
 Joins-stops n d op e y _ f g s = tt
 
 -- behind the expression in a parenthesis
-closed_sound : (d : ℕ) (ts : List Token) (x : Tree) (us : List Token) → d < MAX_LEVELS → Got 0 (suc d) ts (x, us) → Holds (Is 8 d (t.OpenParenthesis ∷ ts)) (Stays 8 d (t.OpenParenthesis ∷ ts)) (closed x us)
+closed_sound : (d : ℕ) (ts : List Token) (x : SyntaxTree) (us : List Token) → d < MAX_LEVELS → Got 0 (suc d) ts (x, us) → Holds (Is 8 d (t.OpenParenthesis ∷ ts)) (Stays 8 d (t.OpenParenthesis ∷ ts)) (closed x us)
 closed_sound d ts x (t.CloseParenthesis ∷ vs) lt h = record { fits = (omega arith, lt, h.0.fits); tokens = ap (λ (us : List Token). t.OpenParenthesis ∷ us) h.0.tokens }
 closed_sound d ts x us lt h = record {
   before = t.OpenParenthesis ∷ spelled x [];
@@ -430,7 +430,7 @@ module _ (r : Reader) (s : Sounds r) where
 
   -- ---- a postfix: what stands behind the dot of e
 
-  named_sound : (d : ℕ) (e : Tree) (f : List ℕ) (ts : List Token) → Fits e 8 d → Holds (Is 8 d (spelled e (t.Dot ∷ t.Name f ∷ ts))) (Stays 8 d (spelled e (t.Dot ∷ t.Name f ∷ ts))) (named r d e f ts)
+  named_sound : (d : ℕ) (e : SyntaxTree) (f : List ℕ) (ts : List Token) → Fits e 8 d → Holds (Is 8 d (spelled e (t.Dot ∷ t.Name f ∷ ts))) (Stays 8 d (spelled e (t.Dot ∷ t.Name f ∷ ts))) (named r d e f ts)
   named_sound d e f (t.OpenParenthesis ∷ ts) fits =
       holds_deeper (Is 8 d (spelled e (t.Dot ∷ t.Name f ∷ t.OpenParenthesis ∷ ts))) (Stays 8 d (spelled e (t.Dot ∷ t.Name f ∷ t.OpenParenthesis ∷ ts))) d (t.OpenParenthesis ∷ ts) _ (behind 8 d (Member e f) (t.OpenParenthesis ∷ ts) (omega arith, fits) tt) (λ lt.
       holds_bind (Piece (GoodArguments (suc d)) spelled_arguments ts) (Stuck (GoodArguments (suc d)) spelled_arguments ts) (Is 8 d (spelled e (t.Dot ∷ t.Name f ∷ t.OpenParenthesis ∷ ts))) (Stays 8 d (spelled e (t.Dot ∷ t.Name f ∷ t.OpenParenthesis ∷ ts))) (call r (suc d) ts) (λ xs. Ok (Call e f xs.0, xs.1)) (call_sound (suc d) ts)
@@ -439,7 +439,7 @@ module _ (r : Reader) (s : Sounds r) where
       (λ xs h. record { fits = (omega arith, lt, fits, h.fits); tokens = ap (λ (us : List Token). spelled e (t.Dot ∷ t.Name f ∷ t.OpenParenthesis ∷ us)) h.tokens }))
   named_sound d e f ts fits = record { fits = (omega arith, fits); tokens = refl }
 
-  dotted_sound : (d : ℕ) (e : Tree) (ts : List Token) → Fits e 8 d → Holds (Is 8 d (spelled e (t.Dot ∷ ts))) (Stays 8 d (spelled e (t.Dot ∷ ts))) (dotted r d e ts)
+  dotted_sound : (d : ℕ) (e : SyntaxTree) (ts : List Token) → Fits e 8 d → Holds (Is 8 d (spelled e (t.Dot ∷ ts))) (Stays 8 d (spelled e (t.Dot ∷ ts))) (dotted r d e ts)
   dotted_sound d e (t.Name f ∷ ts) fits = named_sound d e f ts fits
   dotted_sound d e ts fits = record {
     before = spelled e (t.Dot ∷ []);
@@ -453,7 +453,7 @@ module _ (r : Reader) (s : Sounds r) where
     goes_on = λ to. spelled-append e (t.Dot ∷ []) (t.Name (97 ∷ []) ∷ to);
   }
 
-  after_sound : (d : ℕ) (e : Tree) (ts : List Token) → Fits e 8 d → Holds (Got 8 d (spelled e ts)) (Stays 8 d (spelled e ts)) (after r d e ts)
+  after_sound : (d : ℕ) (e : SyntaxTree) (ts : List Token) → Fits e 8 d → Holds (Got 8 d (spelled e ts)) (Stays 8 d (spelled e ts)) (after r d e ts)
   after_sound d e (t.Dot ∷ ts) fits = holds_bind (Is 8 d (spelled e (t.Dot ∷ ts))) (Stays 8 d (spelled e (t.Dot ∷ ts))) (Got 8 d (spelled e (t.Dot ∷ ts))) (Stays 8 d (spelled e (t.Dot ∷ ts))) (dotted r d e ts) (λ y. r (After y.0) d y.1) (dotted_sound d e ts fits)
       (λ p h. h)
       (λ y h. holds_map (Got 8 d (spelled y.0 y.1)) (Stays 8 d (spelled y.0 y.1)) (Got 8 d (spelled e (t.Dot ∷ ts))) (Stays 8 d (spelled e (t.Dot ∷ ts))) (r (After y.0) d y.1) (s.after_is d y.0 y.1 h.fits)
@@ -492,7 +492,7 @@ module _ (r : Reader) (s : Sounds r) where
       (λ x h. (record { fits = (omega arith, lt, h.0.fits); tokens = ap (λ (us : List Token). t.Operator b.Subtract ∷ us) h.0.tokens }, h.1)))
   unary_sound d ts = postfix_sound d ts
 
-  on_sound : (n d : ℕ) (e : Tree) (ts : List Token) → Fits e n d → Joins n d e ts → Free ts → Holds (Upto n d (spelled e ts)) (Stays n d (spelled e ts)) (on r n d e ts)
+  on_sound : (n d : ℕ) (e : SyntaxTree) (ts : List Token) → Fits e n d → Joins n d e ts → Free ts → Holds (Upto n d (spelled e ts)) (Stays n d (spelled e ts)) (on r n d e ts)
   on_sound n d e (t.Operator op ∷ ts) fits joins free = holds_if (Upto n d (spelled e (t.Operator op ∷ ts))) (Stays n d (spelled e (t.Operator op ∷ ts))) (nat_le n (level op)) _ _
       (λ is. let le : n ≤ level op = leb-true n (level op) is in
       holds_bind (Upto (suc (level op)) d ts) (Stays (suc (level op)) d ts) (Upto n d (spelled e (t.Operator op ∷ ts))) (Stays n d (spelled e (t.Operator op ∷ ts))) (r (Climb (suc (level op))) d ts) (λ y. r (On n (Operation op e y.0)) d y.1) (s.climb_is (suc (level op)) d ts (omega (arith, level_below op)))
@@ -516,7 +516,7 @@ module _ (r : Reader) (s : Sounds r) where
 
   -- ---- a choice: what stands behind the part for true, and behind the condition
 
-  otherwise_sound : (d : ℕ) (c x : Tree) (ts : List Token) → d < MAX_LEVELS → Fits c 1 d → Fits x 0 (suc d) → Free ts → Holds (Got 0 d (spelled c (t.Question ∷ spelled x ts))) (Stays 0 d (spelled c (t.Question ∷ spelled x ts))) (otherwise r d c x ts)
+  otherwise_sound : (d : ℕ) (c x : SyntaxTree) (ts : List Token) → d < MAX_LEVELS → Fits c 1 d → Fits x 0 (suc d) → Free ts → Holds (Got 0 d (spelled c (t.Question ∷ spelled x ts))) (Stays 0 d (spelled c (t.Question ∷ spelled x ts))) (otherwise r d c x ts)
   otherwise_sound d c x (t.Colon ∷ ts) lt f g free =
       let head : List Token = spelled c (t.Question ∷ spelled x (t.Colon ∷ [])) in
       let split : (us : List Token) → head ++ us ≡ spelled c (t.Question ∷ spelled x (t.Colon ∷ us)) = λ us. spelled-append c (t.Question ∷ spelled x (t.Colon ∷ [])) us ∙ ap (λ (vs : List Token). spelled c (t.Question ∷ vs)) (spelled-append x (t.Colon ∷ []) us) in
@@ -539,7 +539,7 @@ module _ (r : Reader) (s : Sounds r) where
         goes_on = λ to. split (t.Colon ∷ t.Number 1 ∷ to);
       }
 
-  chosen_sound : (d : ℕ) (c : Tree) (ts : List Token) → Fits c 1 d → Free ts → Holds (Got 0 d (spelled c ts)) (Stays 0 d (spelled c ts)) (chosen r d c ts)
+  chosen_sound : (d : ℕ) (c : SyntaxTree) (ts : List Token) → Fits c 1 d → Free ts → Holds (Got 0 d (spelled c ts)) (Stays 0 d (spelled c ts)) (chosen r d c ts)
   chosen_sound d c (t.Question ∷ ts) f free =
       let f0 : Fits c 0 d = Fits-less c 0 1 d (omega arith) f in
       holds_deeper (Got 0 d (spelled c (t.Question ∷ ts))) (Stays 0 d (spelled c (t.Question ∷ ts))) d (t.Question ∷ ts) _ (behind 0 d c (t.Question ∷ ts) f0 tt) (λ lt.

@@ -6,7 +6,7 @@ use Rattle.expr_tokens.specs.declared.token.Token.{Token}
 use Rattle.expr_tokens.specs.declared.token.Token.TheVariants as t
 use Rattle.expr_parser.specs.declared.parser.ParseFault.{ParseFault}
 use Rattle.expr_parser.specs.declared.parser.ParseFault.TheVariants.{NoMemory, Unexpected, Bracket}
-use Rattle.expr_parser.specs.Tree.{Tree}
+use Rattle.expr_parser.specs.Tree.{SyntaxTree}
 use Rattle.expr_parser.specs.Grammar.{Spells}
 use Rattle.expr_parser.specs.Stopping.{NoneGoesOn, StopsAt, Indexed, Refused}
 use Rattle.expr_parser.specs.Working.Printing.{spelled}
@@ -18,29 +18,29 @@ use Rattle.expr_parser.proofs.Sound.{Holds, Is, Got, Stays, EndsOperand, IsBrack
 use Rattle.expr_parser.proofs.Rules.{by_rules, by_spelling, derives, derived}
 use Rattle.expr_parser.proofs.Ahead.{stops_never, behind_never}
 
-spells_read : (ts : List Token) (x : Tree) → Spells ts x → read Whole 0 ts ≡ Ok (x, [])
+spells_read : (ts : List Token) (x : SyntaxTree) → Spells ts x → read Whole 0 ts ≡ Ok (x, [])
 spells_read ts x h = printed_is_read ts x (by_spelling ts x h)
 
 -- tokens spell at most one expression
-pub one_expression : (ts : List Token) (x y : Tree) → Spells ts x → Spells ts y → x ≡ y
+pub one_expression : (ts : List Token) (x y : SyntaxTree) → Spells ts x → Spells ts y → x ≡ y
 one_expression ts x y h g = one_tree ts x y (by_spelling ts x h) (by_spelling ts y g)
 
-read_piece : (ts : List Token) (x : Tree) (rest : List Token) → read Whole 0 ts ≡ Ok (x, rest) → Is 0 0 ts (x, rest)
+read_piece : (ts : List Token) (x : SyntaxTree) (rest : List Token) → read Whole 0 ts ≡ Ok (x, rest) → Is 0 0 ts (x, rest)
 read_piece ts x rest e = (subst (Holds (Got 0 0 ts) (Stays 0 0 ts)) e (read_sound ts)).0
 
-pub is_found : (ts : List Token) (x : Tree) (rest : List Token) → read Whole 0 ts ≡ Ok (x, rest) → length rest ≡ 0 → Spells ts x
+pub is_found : (ts : List Token) (x : SyntaxTree) (rest : List Token) → read Whole 0 ts ≡ Ok (x, rest) → length rest ≡ 0 → Spells ts x
 is_found ts x [] e h = let p = read_piece ts x [] e in by_rules ts x (record { fits = p.fits; tokens_are = p.tokens })
 is_found ts x (u ∷ us) e h = absurd (omega arith)
 
-pub is_only : (ts : List Token) (x y : Tree) (rest : List Token) → read Whole 0 ts ≡ Ok (x, rest) → Spells ts y → (x ≡ y) × (rest ≡ [])
+pub is_only : (ts : List Token) (x y : SyntaxTree) (rest : List Token) → read Whole 0 ts ≡ Ok (x, rest) → Spells ts y → (x ≡ y) × (rest ≡ [])
 is_only ts x y rest e h =
-    let a : Tree × List Token = (x, rest) in
-    let b : Tree × List Token = (y, []) in
+    let a : SyntaxTree × List Token = (x, rest) in
+    let b : SyntaxTree × List Token = (y, []) in
     let s : Ok a ≡ Ok b = sym e ∙ spells_read ts y h in
     let p : a ≡ b = cc in
-    (ap (λ (z : Tree × List Token). z.0) p, ap (λ (z : Tree × List Token). z.1) p)
+    (ap (λ (z : SyntaxTree × List Token). z.0) p, ap (λ (z : SyntaxTree × List Token). z.1) p)
 
-pub no_refusal : (ts : List Token) (r : ParseFault) (y : Tree) → Refuses r (read Whole 0 ts) → Spells ts y → r ≡ NoMemory
+pub no_refusal : (ts : List Token) (r : ParseFault) (y : SyntaxTree) → Refuses r (read Whole 0 ts) → Spells ts y → r ≡ NoMemory
 no_refusal ts NoMemory y e h = refl
 no_refusal ts (Unexpected n) y e h = let s = sym e ∙ spells_read ts y h in absurd cc
 no_refusal ts (Bracket n) y e h = let s = sym e ∙ spells_read ts y h in absurd cc
@@ -102,7 +102,7 @@ is_refused ts (Bracket n) h = let s = bracket ts n h in (s.left, s.count, stops_
 
 -- ---- what stands behind an expression
 
-pub left_over : (ts : List Token) (x : Tree) (rest : List Token) → read Whole 0 ts ≡ Ok (x, rest) → (length rest ≡ 0 → ⊥) → Refused ts (Unexpected (length rest))
+pub left_over : (ts : List Token) (x : SyntaxTree) (rest : List Token) → read Whole 0 ts ≡ Ok (x, rest) → (length rest ≡ 0 → ⊥) → Refused ts (Unexpected (length rest))
 left_over ts x [] e some = absurd (some refl)
 left_over ts x (u ∷ left) e some =
     let p = read_piece ts x (u ∷ left) e in

@@ -7,7 +7,7 @@ use Rattle.expr_tokens.specs.declared.token.Token.{Token}
 use Rattle.expr_tokens.specs.declared.token.Token.TheVariants as t
 use Rattle.expr_parser.specs.declared.parser.ParseFault.{ParseFault}
 use Rattle.expr_parser.specs.declared.parser.ParseFault.TheVariants.{Unexpected, Bracket, NoMemory}
-use Rattle.expr_parser.specs.Tree.{Tree, Trees, Arguments, Number, Text, True, False, Null, Variable, Capture, Group, Member, Call, Not, Negate, Operation, Choice, One, Listed, no_argument, none}
+use Rattle.expr_parser.specs.Tree.{SyntaxTree, Trees, Arguments, Number, Text, True, False, Null, Variable, Capture, Group, Member, Call, Not, Negate, Operation, Choice, One, Listed, no_argument, none}
 use Rattle.expr_parser.specs.Grammar.{level}
 use Rattle.expr_parser.specs.Working.Reading.{Mode, Whole, Climb, On, Unary, After, Args, Items, Found, Reader, ◌>>=◌, stop, deeper, snoc, snoc_item, closed, group, primary, items_on, args_on, call, named, dotted, after, postfix, unary, on, climb, otherwise, chosen, whole, items, arg, args, step, run, read}
 
@@ -56,7 +56,7 @@ pub record Alike (r s : Reader) (n : ℕ) : Type 0 where
   pub same : (m : Mode) (d : ℕ) (ts : List Token) → length ts < n → r m d ts ≡ s m d ts
   pub short : (m : Mode) (d : ℕ) (ts : List Token) → Within (length ts) (r m d ts)
 
-pub both_closed : (k : ℕ) (x : Tree) (ts : List Token) → length ts ≤ k → Both k (closed x ts) (closed x ts)
+pub both_closed : (k : ℕ) (x : SyntaxTree) (ts : List Token) → length ts ≤ k → Both k (closed x ts) (closed x ts)
 both_closed k x (t.CloseParenthesis ∷ ts) h = both_ok k (Group x) ts (omega arith)
 both_closed k x ts h = both_stop k ts h
 
@@ -92,15 +92,15 @@ module _ (r s : Reader) (n : ℕ) (alike : Alike r s n) where
   both_call k d (t.CloseParenthesis ∷ ts) h le = both_ok k no_argument ts (omega arith)
   both_call k d ts h le = reads k (Args no_argument) d ts h le
 
-  pub both_named : (k d : ℕ) (x : Tree) (f : List ℕ) (ts : List Token) → length ts < n → length ts ≤ k → Both k (named r d x f ts) (named s d x f ts)
+  pub both_named : (k d : ℕ) (x : SyntaxTree) (f : List ℕ) (ts : List Token) → length ts < n → length ts ≤ k → Both k (named r d x f ts) (named s d x f ts)
   both_named k d x f (t.OpenParenthesis ∷ ts) h le = both_deeper d k (t.OpenParenthesis ∷ ts) _ _ le (both_bind {j = length ts} (omega arith) (both_call (length ts) (suc d) ts (omega arith) (omega arith)) (λ xs g. both_ok k (Call x f xs.0) xs.1 (omega arith)))
   both_named k d x f ts h le = both_ok k (Member x f) ts le
 
-  pub both_dotted : (k d : ℕ) (x : Tree) (ts : List Token) → length ts < n → length ts ≤ k → Both k (dotted r d x ts) (dotted s d x ts)
+  pub both_dotted : (k d : ℕ) (x : SyntaxTree) (ts : List Token) → length ts < n → length ts ≤ k → Both k (dotted r d x ts) (dotted s d x ts)
   both_dotted k d x (t.Name f ∷ ts) h le = both_named k d x f ts (omega arith) (omega arith)
   both_dotted k d x ts h le = both_stop k ts le
 
-  pub both_after : (k d : ℕ) (x : Tree) (ts : List Token) → length ts ≤ n → length ts ≤ k → Both k (after r d x ts) (after s d x ts)
+  pub both_after : (k d : ℕ) (x : SyntaxTree) (ts : List Token) → length ts ≤ n → length ts ≤ k → Both k (after r d x ts) (after s d x ts)
   both_after k d x (t.Dot ∷ ts) h le = both_bind {j = length ts} (omega arith) (both_dotted (length ts) d x ts (omega arith) (omega arith)) (λ y g. reads k (After y.0) d y.1 (omega arith) (omega arith))
   both_after k d x (t.OpenBracket ∷ ts) h le = record { same = refl; within = le }
   both_after k d x ts h le = both_ok k x ts le
@@ -113,7 +113,7 @@ module _ (r s : Reader) (n : ℕ) (alike : Alike r s n) where
   both_unary k d (t.Operator b.Subtract ∷ ts) h le = both_deeper d k (t.Operator b.Subtract ∷ ts) _ _ le (both_bind {j = length ts} (omega arith) (reads (length ts) Unary (suc d) ts (omega arith) (omega arith)) (λ x g. both_ok k (Negate x.0) x.1 (omega arith)))
   both_unary k d ts h le = both_postfix k d ts h le
 
-  pub both_on : (k l d : ℕ) (x : Tree) (ts : List Token) → length ts ≤ n → length ts ≤ k → Both k (on r l d x ts) (on s l d x ts)
+  pub both_on : (k l d : ℕ) (x : SyntaxTree) (ts : List Token) → length ts ≤ n → length ts ≤ k → Both k (on r l d x ts) (on s l d x ts)
   both_on k l d x (t.Operator op ∷ ts) h le = both_if (nat_le l (level op)) k _ _ _ _
       (λ _. both_bind {j = length ts} (omega arith) (reads (length ts) (Climb (suc (level op))) d ts (omega arith) (omega arith)) (λ y g. reads k (On l (Operation op x y.0)) d y.1 (omega arith) (omega arith)))
       (λ _. both_ok k x (t.Operator op ∷ ts) le)
@@ -122,11 +122,11 @@ module _ (r s : Reader) (n : ℕ) (alike : Alike r s n) where
   pub both_climb : (k l d : ℕ) (ts : List Token) → length ts ≤ n → length ts ≤ k → Both k (climb r l d ts) (climb s l d ts)
   both_climb k l d ts h le = both_bind le (both_unary (length ts) d ts h (omega arith)) (λ x g. both_on k l d x.0 x.1 (omega arith) (omega arith))
 
-  pub both_otherwise : (k d : ℕ) (c x : Tree) (ts : List Token) → length ts ≤ n → length ts ≤ k → Both k (otherwise r d c x ts) (otherwise s d c x ts)
+  pub both_otherwise : (k d : ℕ) (c x : SyntaxTree) (ts : List Token) → length ts ≤ n → length ts ≤ k → Both k (otherwise r d c x ts) (otherwise s d c x ts)
   both_otherwise k d c x (t.Colon ∷ ts) h le = both_bind {j = length ts} (omega arith) (reads (length ts) Whole (suc d) ts (omega arith) (omega arith)) (λ y g. both_ok k (Choice c x y.0) y.1 (omega arith))
   both_otherwise k d c x ts h le = both_stop k ts le
 
-  pub both_chosen : (k d : ℕ) (c : Tree) (ts : List Token) → length ts ≤ n → length ts ≤ k → Both k (chosen r d c ts) (chosen s d c ts)
+  pub both_chosen : (k d : ℕ) (c : SyntaxTree) (ts : List Token) → length ts ≤ n → length ts ≤ k → Both k (chosen r d c ts) (chosen s d c ts)
   both_chosen k d c (t.Question ∷ ts) h le = both_deeper d k (t.Question ∷ ts) _ _ le (both_bind {j = length ts} (omega arith) (reads (length ts) Whole (suc d) ts (omega arith) (omega arith)) (λ x g. both_otherwise k d c x.0 x.1 (omega arith) (omega arith)))
   both_chosen k d c ts h le = both_ok k c ts le
 

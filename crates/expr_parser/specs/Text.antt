@@ -6,12 +6,12 @@ use Rattle.expr_tokens.specs.declared.fault.Excluded.TheVariants.{Slash, Number,
 use Rattle.expr_tokens.specs.declared.token.Token.{Token}
 use Rattle.expr_tokens.specs.Spelling.{SpellsTokens, PlaceAfter}
 use Rattle.expr_tokens.specs.Faults.{IsEarliest}
-use Rattle.expr_parser.specs.Tree.{Tree}
+use Rattle.expr_parser.specs.Tree.{SyntaxTree}
 use Rattle.expr_parser.specs.Grammar.{Spells}
 use Rattle.expr_parser.specs.Stopping.{StopsAt, Indexed}
 
 -- The text spells the expression: by its tokens. (Firebase Security Rules reference, expressions.)
-pub record SpellsExpression (text : List ℕ) (x : Tree) : Type 0 where
+pub record SpellsExpression (text : List ℕ) (x : SyntaxTree) : Type 0 where
   pub tokens : List Token
   pub scanned : SpellsTokens text tokens
   pub parsed : Spells tokens x

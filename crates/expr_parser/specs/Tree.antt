@@ -4,25 +4,25 @@ use Rattle.expr_tokens.specs.declared.operator.Operator.{Operator}
 
 mutual
   -- An expression, with one constructor for each alternative of the grammar. (Firebase Security Rules reference, expressions.)
-  pub data Tree : Type 0 where
-    Number : ℕ → Tree
-    Text : List ℕ → Tree
-    True : Tree
-    False : Tree
-    Null : Tree
-    Variable : List ℕ → Tree
-    Capture : List ℕ → Tree
-    Group : Tree → Tree
-    Member : Tree → List ℕ → Tree
-    Call : Tree → List ℕ → Arguments → Tree
-    Not : Tree → Tree
-    Negate : Tree → Tree
-    Operation : Operator → Tree → Tree → Tree
-    Choice : Tree → Tree → Tree → Tree
+  pub data SyntaxTree : Type 0 where
+    Number : ℕ → SyntaxTree
+    Text : List ℕ → SyntaxTree
+    True : SyntaxTree
+    False : SyntaxTree
+    Null : SyntaxTree
+    Variable : List ℕ → SyntaxTree
+    Capture : List ℕ → SyntaxTree
+    Group : SyntaxTree → SyntaxTree
+    Member : SyntaxTree → List ℕ → SyntaxTree
+    Call : SyntaxTree → List ℕ → Arguments → SyntaxTree
+    Not : SyntaxTree → SyntaxTree
+    Negate : SyntaxTree → SyntaxTree
+    Operation : Operator → SyntaxTree → SyntaxTree → SyntaxTree
+    Choice : SyntaxTree → SyntaxTree → SyntaxTree → SyntaxTree
 
   -- What a call is given: an expression, or a list of expressions. (Firebase Security Rules reference, expressions.)
   pub data Argument : Type 0 where
-    One : Tree → Argument
+    One : SyntaxTree → Argument
     Listed : Trees → Argument
 
   -- The arguments of a call, from left to right.
@@ -33,4 +33,4 @@ mutual
   -- The elements of a list, from left to right.
   pub data Trees : Type 0 where
     none : Trees
-    more : Tree → Trees → Trees
+    more : SyntaxTree → Trees → Trees

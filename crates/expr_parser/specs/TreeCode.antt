@@ -5,7 +5,7 @@ use base.Stored.{Gv, gnil, gnum, gcons}
 use denote.Struct.Codes.{itself}
 use Rattle.expr_tokens.specs.declared.operator.Operator.{Operator}
 use Rattle.expr_tokens.specs.declared.operator.Operator.TheVariants.{Or, And, Equal, NotEqual, Less, LessOrEqual, Greater, GreaterOrEqual, Add, Subtract, Multiply, Remainder}
-use Rattle.expr_parser.specs.Tree.{Tree, Trees, Argument, Arguments, Number, Text, True, False, Null, Variable, Capture, Group, Member, Call, Not, Negate, Operation, Choice, One, Listed, no_argument, argument, none, more}
+use Rattle.expr_parser.specs.Tree.{SyntaxTree, Trees, Argument, Arguments, Number, Text, True, False, Null, Variable, Capture, Group, Member, Call, Not, Negate, Operation, Choice, One, Listed, no_argument, argument, none, more}
 
 -- ---- a text: its bytes
 
@@ -71,7 +71,7 @@ operator_same Remainder = refl
 -- ---- a tree: its alternative by a number, and then its parts
 
 abbrev mutual
-  pub tree : Tree → Gv
+  pub tree : SyntaxTree → Gv
   tree (Number n) = gcons (gnum 0) (gnum n)
   tree (Text s) = gcons (gnum 1) (bytes s)
   tree True = gcons (gnum 2) gnil
@@ -102,7 +102,7 @@ abbrev mutual
 -- ---- and back; what is the code of no tree stands for null
 
 abbrev mutual
-  pub tree_back : Gv → Tree
+  pub tree_back : Gv → SyntaxTree
   tree_back (gcons (gnum zero) (gnum n)) = Number n
   tree_back (gcons (gnum (suc zero)) g) = Text (bytes_back g)
   tree_back (gcons (gnum (suc (suc zero))) g) = True
@@ -132,7 +132,7 @@ abbrev mutual
   trees_back _ = none
 
 mutual
-  pub tree_same : (x : Tree) → tree_back (tree x) ≡ x
+  pub tree_same : (x : SyntaxTree) → tree_back (tree x) ≡ x
   tree_same (Number n) = refl
   tree_same (Text s) = λ i. Text (bytes_same s i)
   tree_same True = refl
@@ -160,5 +160,5 @@ mutual
   trees_same none = refl
   trees_same (more x xs) = λ i. more (tree_same x i) (trees_same xs i)
 
-abbrev pub tree_code : Coded Tree
+abbrev pub tree_code : Coded SyntaxTree
 tree_code = code_by Gv itself tree tree_back tree_same

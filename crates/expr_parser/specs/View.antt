@@ -3,11 +3,11 @@ use Rattle.std.specs.Prelude.{List, [], ◌∷◌}
 use Rattle.expr_parser.specs.declared.expr.Expr.{Expr, Number, Text, True, False, Null, Variable, Capture, Group', Member', Call', Not', Negate', Operation', Choice', Row_of-Argument, end_of-Argument, more_of-Argument}
 use Rattle.expr_parser.specs.declared.expr.Argument.{Argument, One, List', Row_of-Expr, end_of-Expr, more_of-Expr}
 use Rattle.expr_parser.specs.Tree as tree
-use Rattle.expr_parser.specs.Tree.{Tree, Trees, Arguments}
+use Rattle.expr_parser.specs.Tree.{SyntaxTree, Trees, Arguments}
 
 abbrev mutual
   -- the tree of an expression
-  pub view : Expr → Tree
+  pub view : Expr → SyntaxTree
   view (Number n) = tree.Number n
   view (Text s) = tree.Text s
   view True = tree.True

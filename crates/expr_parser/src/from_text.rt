@@ -1,7 +1,7 @@
 //! From a text to its expression.
 ghost use Rattle.std.specs.Prelude.{◌≡◌, ◌≢◌, ◌⊎◌, ◌-◌, ◌<◌, ◌≤◌, ℕ, List, length, nat_eq, if◌then◌else◌, slice_index, IfOk, IfErr};
 ghost use Rattle.expr_tokens.specs.declared.fault.ExprFault.{ExprFault};
-ghost use Rattle.expr_parser.specs.Tree.{Tree};
+ghost use Rattle.expr_parser.specs.Tree.{SyntaxTree};
 ghost use Rattle.expr_parser.specs.Text.{SpellsExpression, RefusedText};
 ghost use Rattle.expr_tokens.specs.Answers.{AnswersThis};
 ghost use Rattle.expr_parser.specs.View.{view};
@@ -19,7 +19,7 @@ pub fn parse(alloc: Global, text: &str) -> Result<Expr, ExprFault>
     // What is found is spelled so.
     ensures found { IfOk result (λ expr. SpellsExpression text.now (view expr)) }
     // What is spelled so is found, unless memory is refused.
-    ensures only { (tree : Tree) → SpellsExpression text.now tree → AnswersThis ExprFault.NoMemory view tree result }
+    ensures only { (tree : SyntaxTree) → SpellsExpression text.now tree → AnswersThis ExprFault.NoMemory view tree result }
     // A fault is the earliest one of the tokens; else it has the place of the first token with which
     // no spelled expression goes on, or says that this is a bracket that is left out.
     ensures refused { IfErr result (λ fault. RefusedText text.now fault) }
@@ -38,19 +38,19 @@ pub fn parse(alloc: Global, text: &str) -> Result<Expr, ExprFault>
 
 /// A text spells at most one expression.
 pub fn one_expression()
-    ensures { (text : List ℕ) (x y : Tree) → SpellsExpression text x → SpellsExpression text y → x ≡ y }
+    ensures { (text : List ℕ) (x y : SyntaxTree) → SpellsExpression text x → SpellsExpression text y → x ≡ y }
 {}
 
 /// But for want of memory, a text is refused for at most one reason, and for none where it spells an
 /// expression.
 pub fn one_refusal()
     ensures one { (text : List ℕ) (one other : ExprFault) → RefusedText text one → RefusedText text other → one ≢ ExprFault.NoMemory → other ≢ ExprFault.NoMemory → one ≡ other }
-    ensures none { (text : List ℕ) (tree : Tree) (fault : ExprFault) → SpellsExpression text tree → RefusedText text fault → fault ≡ ExprFault.NoMemory }
+    ensures none { (text : List ℕ) (tree : SyntaxTree) (fault : ExprFault) → SpellsExpression text tree → RefusedText text fault → fault ≡ ExprFault.NoMemory }
 {}
 
 /// A text spells an expression, or is refused, and not for want of memory.
 pub fn each_text_is_read_or_refused()
-    ensures { (text : List ℕ) → ((tree : Tree) × SpellsExpression text tree) ⊎ ((fault : ExprFault) × RefusedText text fault × (fault ≢ ExprFault.NoMemory)) }
+    ensures { (text : List ℕ) → ((tree : SyntaxTree) × SpellsExpression text tree) ⊎ ((fault : ExprFault) × RefusedText text fault × (fault ≢ ExprFault.NoMemory)) }
 {}
 
 // Where the first of the tokens begins of which so many are left, or else where the text ends.

@@ -1,6 +1,6 @@
 //! Expressions of the rules language: from tokens to expressions.
 //!
-//! Contracts see an [`Expr`] as a tree of `specs/Tree`, and state what is read by the grammar of
+//! Contracts see an [`Expr`] as a tree of `specs/SyntaxTree`, and state what is read by the grammar of
 //! `specs/Grammar`. What the layers above need is [`parse`]: it gives the one expression that a text
 //! spells, or says where the text stops being one.
 #![tactic(auto)]

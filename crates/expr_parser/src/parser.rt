@@ -6,7 +6,7 @@ ghost use Rattle.std.specs.Prelude.{◌≡◌, ◌≢◌, ◌<◌, ◌≤◌, �
 ghost use Rattle.expr_parser.specs.Grammar.{level, Spells};
 ghost use Rattle.expr_parser.specs.Stopping.{Refused};
 ghost use Rattle.expr_parser.specs.Working.Reading.{Whole, Climb, Unary, Items, read, arg_behind, item_behind, call, dotted, group, parts, postfix, primary};
-ghost use Rattle.expr_parser.specs.Tree.{Tree, none};
+ghost use Rattle.expr_parser.specs.Tree.{SyntaxTree, none};
 ghost use Rattle.expr_parser.specs.View.{view, views, arguments};
 ghost use Rattle.expr_parser.specs.Working.Gives.{Gives};
 ghost use Rattle.expr_tokens.specs.Answers.{AnswersThis};
@@ -69,7 +69,7 @@ pub fn expression(alloc: Global, tokens: &[Token]) -> Result<Expr, ParseFault>
     // What is found is spelled so.
     ensures found { IfOk result (λ expr. Spells tokens.now (view expr)) }
     // What is spelled so is found, unless memory is refused.
-    ensures only { (tree : Tree) → Spells tokens.now tree → AnswersThis no_memory view tree result }
+    ensures only { (tree : SyntaxTree) → Spells tokens.now tree → AnswersThis no_memory view tree result }
     // A fault names the first token that no spelled expression has after the tokens before it.
     ensures refused { IfErr result (λ fault. Refused tokens.now fault) }
 {
@@ -83,12 +83,12 @@ pub fn expression(alloc: Global, tokens: &[Token]) -> Result<Expr, ParseFault>
 
 /// Tokens spell at most one expression.
 pub fn one_expression_of_tokens()
-    ensures { (tokens : List Token) (x y : Tree) → Spells tokens x → Spells tokens y → x ≡ y }
+    ensures { (tokens : List Token) (x y : SyntaxTree) → Spells tokens x → Spells tokens y → x ≡ y }
 {}
 
 /// Tokens spell an expression, or are refused, and not for want of memory.
 pub fn each_list_of_tokens_is_read_or_refused()
-    ensures { (tokens : List Token) → ((tree : Tree) × Spells tokens tree) ⊎ ((fault : ParseFault) × Refused tokens fault × (fault ≢ no_memory)) }
+    ensures { (tokens : List Token) → ((tree : SyntaxTree) × Spells tokens tree) ⊎ ((fault : ParseFault) × Refused tokens fault × (fault ≢ no_memory)) }
 {}
 
 // expr := or [ '?' expr ':' expr ]

@@ -1,7 +1,7 @@
 -- What the answer of the function says of the whole expression.
 use Rattle.std.proofs.Common.{◌≡◌, ◌⊎◌, inl, inr, ℕ, List, Bool, true, false, refl, sym, ap, subst, ◌∙◌}
 use Rattle.std.specs.Prelude.{Result, Ok, Err}
-use Rattle.expr_parser.specs.Tree.{Tree}
+use Rattle.expr_parser.specs.Tree.{SyntaxTree}
 use Rattle.expr_types.specs.declared.fault.TypeFault.{TypeFault}
 use Rattle.expr_types.specs.declared.fault.TypeFault.TheVariants.{NotInProfile, TypeError, UnknownName, NoMemory}
 use Rattle.expr_types.specs.declared.place.Place.{Place}
@@ -13,7 +13,7 @@ use Rattle.expr_types.specs.Working.Gives.{Refuses, FindsName}
 use Rattle.expr_types.proofs.Sorts.{sound, complete}
 use Rattle.expr_types.proofs.Firsts.{fault_sound, fault_complete}
 
-module _ (p : Place) (ns : List (List ℕ)) (x : Tree) where
+module _ (p : Place) (ns : List (List ℕ)) (x : SyntaxTree) where
   pub never_refused : {C : Type 0} (e : TypeFault) → Refuses {A = Sort} e (sort_of p ns x) → HasValue p ns x → C
   never_refused NoMemory r h = absurd (subst FindsName (complete h.1) r)
   never_refused (NotInProfile f) r h = let c = complete h.1 in cc

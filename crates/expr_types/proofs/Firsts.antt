@@ -2,7 +2,7 @@
 use Rattle.std.proofs.Common.{◌≡◌, ◌⊎◌, inl, inr, ℕ, List, [], ◌∷◌, ◌++◌, Bool, true, false, ◌&&◌, Option, Some, None, refl, ap, subst, ◌∙◌}
 use Rattle.std.specs.Prelude.{Result, Ok, Err, codes, if◌then◌else◌}
 use Rattle.std.specs.List.{AllByRecursion}
-use Rattle.expr_parser.specs.Tree.{Tree, Trees, Arguments, Number, Text, True, False, Null, Variable, Capture, Group, Member, Call, Not, Negate, Operation, Choice, One, Listed, no_argument, argument, none, more}
+use Rattle.expr_parser.specs.Tree.{SyntaxTree, Trees, Arguments, Number, Text, True, False, Null, Variable, Capture, Group, Member, Call, Not, Negate, Operation, Choice, One, Listed, no_argument, argument, none, more}
 use Rattle.expr_types.specs.declared.fault.TypeFault.{TypeFault}
 use Rattle.expr_types.specs.declared.fault.TypeFault.TheVariants.{TypeError, UnknownName}
 use Rattle.expr_types.specs.declared.place.Place.{Place}
@@ -69,7 +69,7 @@ itself (Ok s) e = inl (s, refl)
 itself (Err d) e = refl
 
 module _ (p : Place) (ns : List (List ℕ)) where
-  abbrev pub first : List Tree → Option TypeFault
+  abbrev pub first : List SyntaxTree → Option TypeFault
   first [] = None
   first (x ∷ xs) = or_else (sort_of p ns x) (first xs)
 
@@ -77,7 +77,7 @@ module _ (p : Place) (ns : List (List ℕ)) where
   next_else (Ok x) o q = refl
   next_else (Err e) o q = refl
 
-  pub first-append : (xs ys : List Tree) → first (xs ++ ys) ≡ or_next (first xs) (first ys)
+  pub first-append : (xs ys : List SyntaxTree) → first (xs ++ ys) ≡ or_next (first xs) (first ys)
   first-append [] ys = refl
   first-append (x ∷ xs) ys = ap (or_else (sort_of p ns x)) (first-append xs ys) ∙ next_else (sort_of p ns x) (first xs) (first ys)
 
@@ -99,7 +99,7 @@ module _ (p : Place) (ns : List (List ℕ)) where
       listed (Some e) m f = rw f
 
   -- an expression gives the first fault of its parts, or else its own or a sort
-  pub by_parts : (x : Tree) → Gives (first (parts x)) (own_fault x) (sort_of p ns x)
+  pub by_parts : (x : SyntaxTree) → Gives (first (parts x)) (own_fault x) (sort_of p ns x)
   by_parts (Number n) = inl (Value, refl)
   by_parts (Text s) = inl (Value, refl)
   by_parts True = inl (Value, refl)
@@ -118,26 +118,26 @@ module _ (p : Place) (ns : List (List ℕ)) where
   -- ---- from the function to the rules
 
   -- a fault that the function gives is the first
-  abbrev IsFirst : Tree → Type 0
+  abbrev IsFirst : SyntaxTree → Type 0
   IsFirst x = (e : TypeFault) → sort_of p ns x ≡ Err e → FirstFault p ns x e
 
-  record Found (xs : List Tree) (e : TypeFault) : Type 0 where
-    before : List Tree
-    part : Tree
-    after : List Tree
+  record Found (xs : List SyntaxTree) (e : TypeFault) : Type 0 where
+    before : List SyntaxTree
+    part : SyntaxTree
+    after : List SyntaxTree
     split : xs ≡ before ++ part ∷ after
     sorted : AllByRecursion (HasSomeSort p ns) before
     faulty : FirstFault p ns part e
 
-  found : (xs : List Tree) (e : TypeFault) → AllByRecursion IsFirst xs → first xs ≡ Some e → Found xs e
+  found : (xs : List SyntaxTree) (e : TypeFault) → AllByRecursion IsFirst xs → first xs ≡ Some e → Found xs e
   found [] e k d = absurd cc
   found (x ∷ xs) e k d = by (sort_of p ns x) refl d (λ c. found xs e k.1 c)
     where
       by : (m : Result Sort TypeFault) → sort_of p ns x ≡ m → or_else m (first xs) ≡ Some e → (first xs ≡ Some e → Found xs e) → Found (x ∷ xs) e
-      by (Ok s) i c later = let f = later c in record { before = x ∷ f.before; part = f.part; after = f.after; split = ap (λ (ys : List Tree). x ∷ ys) f.split; sorted = ((s, sound p ns x s i), f.sorted); faulty = f.faulty }
+      by (Ok s) i c later = let f = later c in record { before = x ∷ f.before; part = f.part; after = f.after; split = ap (λ (ys : List SyntaxTree). x ∷ ys) f.split; sorted = ((s, sound p ns x s i), f.sorted); faulty = f.faulty }
       by (Err b) i c later = let z : b ≡ e = cc in record { before = []; part = x; after = xs; split = refl; sorted = tt; faulty = k.0 e (i ∙ ap Err z) }
 
-  none_found : (xs : List Tree) → first xs ≡ None → AllByRecursion (HasSomeSort p ns) xs
+  none_found : (xs : List SyntaxTree) → first xs ≡ None → AllByRecursion (HasSomeSort p ns) xs
   none_found [] d = tt
   none_found (x ∷ xs) d = by (sort_of p ns x) refl d (λ c. none_found xs c)
     where
@@ -145,7 +145,7 @@ module _ (p : Place) (ns : List (List ℕ)) where
       by (Ok s) i c later = ((s, sound p ns x s i), later c)
       by (Err b) i c later = absurd cc
 
-  from_parts : (x : Tree) → AllByRecursion IsFirst (parts x) → IsFirst x
+  from_parts : (x : SyntaxTree) → AllByRecursion IsFirst (parts x) → IsFirst x
   from_parts x k e d = by (first (parts x)) refl (by_parts x)
     where
       by : (o : Option TypeFault) → first (parts x) ≡ o → Gives o (own_fault x) (sort_of p ns x) → FirstFault p ns x e
@@ -153,12 +153,12 @@ module _ (p : Place) (ns : List (List ℕ)) where
       by None i (inl g) = absurd (let z : sort_of p ns x ≡ Ok g.0 = g.1 in cc)
       by None i (inr g) = let z : own_fault x ≡ e = cc in subst (FirstFault p ns x) z (of_own (none_found (parts x) i) (λ s h. let w = complete h in cc))
 
-  all-append : (P : Tree → Type 0) (xs ys : List Tree) → AllByRecursion P xs → AllByRecursion P ys → AllByRecursion P (xs ++ ys)
+  all-append : (P : SyntaxTree → Type 0) (xs ys : List SyntaxTree) → AllByRecursion P xs → AllByRecursion P ys → AllByRecursion P (xs ++ ys)
   all-append P [] ys a b = b
   all-append P (x ∷ xs) ys a b = (a.0, all-append P xs ys a.1 b)
 
   mutual
-    pub fault_sound : (x : Tree) (e : TypeFault) → sort_of p ns x ≡ Err e → FirstFault p ns x e
+    pub fault_sound : (x : SyntaxTree) (e : TypeFault) → sort_of p ns x ≡ Err e → FirstFault p ns x e
     fault_sound (Group x) e d = from_parts (Group x) ((λ b. fault_sound x b), tt) e d
     fault_sound (Member x f) e d = from_parts (Member x f) ((λ b. fault_sound x b), tt) e d
     fault_sound (Call x f xs) e d = from_parts (Call x f xs) ((λ b. fault_sound x b), all_given xs) e d
@@ -185,22 +185,22 @@ module _ (p : Place) (ns : List (List ℕ)) where
 
   -- ---- from the rules to the function
 
-  sorted_none : (xs : List Tree) → AllByRecursion (HasSomeSort p ns) xs → first xs ≡ None
+  sorted_none : (xs : List SyntaxTree) → AllByRecursion (HasSomeSort p ns) xs → first xs ≡ None
   sorted_none [] a = refl
   sorted_none (x ∷ xs) a = rw (complete a.0.1) (sorted_none xs a.1)
 
-  sorted_some : (before : List Tree) (y : Tree) (after : List Tree) (e : TypeFault) → AllByRecursion (HasSomeSort p ns) before → sort_of p ns y ≡ Err e → first (before ++ y ∷ after) ≡ Some e
+  sorted_some : (before : List SyntaxTree) (y : SyntaxTree) (after : List SyntaxTree) (e : TypeFault) → AllByRecursion (HasSomeSort p ns) before → sort_of p ns y ≡ Err e → first (before ++ y ∷ after) ≡ Some e
   sorted_some [] y after e a d = rw d
   sorted_some (x ∷ before) y after e a d = rw (complete a.0.1) (sorted_some before y after e a.1 d)
 
-  gives_some : (x : Tree) (e : TypeFault) → first (parts x) ≡ Some e → sort_of p ns x ≡ Err e
+  gives_some : (x : SyntaxTree) (e : TypeFault) → first (parts x) ≡ Some e → sort_of p ns x ≡ Err e
   gives_some x e d = by (first (parts x)) d (by_parts x)
     where
       by : (o : Option TypeFault) → o ≡ Some e → Gives o (own_fault x) (sort_of p ns x) → sort_of p ns x ≡ Err e
       by None i g = absurd cc
       by (Some b) i g = let z : b ≡ e = cc in g ∙ ap Err z
 
-  gives_own : (x : Tree) → first (parts x) ≡ None → ((s : Sort) → HasSort p ns x s → ⊥) → sort_of p ns x ≡ Err (own_fault x)
+  gives_own : (x : SyntaxTree) → first (parts x) ≡ None → ((s : Sort) → HasSort p ns x s → ⊥) → sort_of p ns x ≡ Err (own_fault x)
   gives_own x d n = by (first (parts x)) d (by_parts x)
     where
       by : (o : Option TypeFault) → o ≡ None → Gives o (own_fault x) (sort_of p ns x) → sort_of p ns x ≡ Err (own_fault x)
@@ -209,6 +209,6 @@ module _ (p : Place) (ns : List (List ℕ)) where
       by (Some b) i g = absurd cc
 
 module _ {p : Place} {ns : List (List ℕ)} where
-  pub fault_complete : {x : Tree} {e : TypeFault} → FirstFault p ns x e → sort_of p ns x ≡ Err e
+  pub fault_complete : {x : SyntaxTree} {e : TypeFault} → FirstFault p ns x e → sort_of p ns x ≡ Err e
   fault_complete {x} {e} (in_part before y after split a d) = gives_some p ns x e (ap (first p ns) split ∙ sorted_some p ns before y after e a (fault_complete d))
   fault_complete {x} (of_own a n) = gives_own p ns x (sorted_none p ns (parts x) a) n

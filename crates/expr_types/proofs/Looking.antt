@@ -3,7 +3,7 @@ use Rattle.std.proofs.Common.{◌≡◌, ◌⊎◌, inl, inr, ℕ, List, [], ◌
 use Rattle.std.specs.Prelude.{Contains, codes}
 use Rattle.std.proofs.lemmas.List.Elements.{Contains-append_cases, Contains-push_cases}
 use Rattle.expr_parser.specs.Tree as t
-use Rattle.expr_parser.specs.Tree.{Tree, Trees, Arguments, Member, Call}
+use Rattle.expr_parser.specs.Tree.{SyntaxTree, Trees, Arguments, Member, Call}
 use Rattle.expr_types.specs.declared.place.Place.{Place}
 use Rattle.expr_types.specs.declared.sort.Sort.{Sort}
 use Rattle.expr_types.specs.declared.sort.Sort.TheVariants.{Value, Snapshot, Auth, Token, Query}
@@ -16,11 +16,11 @@ use Rattle.expr_types.specs.Wanted.{WantsValue, LooksInto, asked_of_auth, asked_
 use Rattle.expr_types.proofs.Wider.{among_left}
 use Rattle.expr_types.proofs.Sorts.{complete}
 
-nothing_in : (y : Tree) → Contains [] y → ⊥
+nothing_in : (y : SyntaxTree) → Contains [] y → ⊥
 nothing_in y (k, less, is) = omega arith
 
 -- an element of a list is its first, or one of the others
-first_or : (x y : Tree) (xs : List Tree) → Contains (x ∷ xs) y → (x ≡ y) ⊎ Contains xs y
+first_or : (x y : SyntaxTree) (xs : List SyntaxTree) → Contains (x ∷ xs) y → (x ≡ y) ⊎ Contains xs y
 first_or x y xs in_all = elim (Contains-append_cases (x ∷ []) xs y in_all) [
   | inl here ↦ elim (Contains-push_cases [] x y here) [
     | inl nowhere ↦ absurd (nothing_in y nowhere)
@@ -33,26 +33,26 @@ module _ {p : Place} {ns : List (List ℕ)} where
   -- ---- where a value is wanted
 
   -- each of these is a value, if its first is, and the others are
-  front : (x y : Tree) (xs : List Tree) → HasValue p ns x → (Contains xs y → HasValue p ns y) → Contains (x ∷ xs) y → HasValue p ns y
+  front : (x y : SyntaxTree) (xs : List SyntaxTree) → HasValue p ns x → (Contains xs y → HasValue p ns y) → Contains (x ∷ xs) y → HasValue p ns y
   front x y xs is others in_all = elim (first_or x y xs in_all) [
     | inl same ↦ subst (HasValue p ns) same is
     | inr there ↦ others there
   ]
 
-  alone : (x y : Tree) → HasValue p ns x → Contains (x ∷ []) y → HasValue p ns y
+  alone : (x y : SyntaxTree) → HasValue p ns x → Contains (x ∷ []) y → HasValue p ns y
   alone x y is in_all = front x y [] is (λ n. absurd (nothing_in y n)) in_all
 
-  listed : (y : Tree) {vs : Trees} → AreValues p ns vs → Contains (elements vs) y → HasValue p ns y
+  listed : (y : SyntaxTree) {vs : Trees} → AreValues p ns vs → Contains (elements vs) y → HasValue p ns y
   listed y h.no_value n = absurd (nothing_in y n)
   listed y (h.value {v} {vs} {s} d i g) in_all = front v y (elements vs) (s, d, i) (listed y g) in_all
 
-  in_list : (y : Tree) {vs : Trees} → AreValues p ns vs → Contains (elements vs ++ []) y → HasValue p ns y
+  in_list : (y : SyntaxTree) {vs : Trees} → AreValues p ns vs → Contains (elements vs ++ []) y → HasValue p ns y
   in_list y {vs} g in_all = elim (Contains-append_cases (elements vs) [] y in_all) [
     | inl here ↦ listed y g here
     | inr nowhere ↦ absurd (nothing_in y nowhere)
   ]
 
-  handed : {x y : Tree} {f : List ℕ} {xs : Arguments} {s : Sort} → HasSort p ns (Call x f xs) s → Contains (given xs) y → HasValue p ns y
+  handed : {x y : SyntaxTree} {f : List ℕ} {xs : Arguments} {s : Sort} → HasSort p ns (Call x f xs) s → Contains (given xs) y → HasValue p ns y
   handed {y = y} (h.text_test {v = v} {s = s} i d g j) c = alone v y (s, g, j) c
   handed {y = y} (h.replace {v = v} {w = w} {r = r} {s = s} i d g k j l) c = front v y (w ∷ []) (r, g, j) (alone w y (s, k, l)) c
   handed {y = y} (h.snapshot_test i d) c = absurd (nothing_in y c)
@@ -61,7 +61,7 @@ module _ {p : Place} {ns : List (List ℕ)} where
   handed {y = y} (h.child {v = v} {s = s} i d g j) c = alone v y (s, g, j) c
   handed {y = y} (h.parent i d) c = absurd (nothing_in y c)
 
-  pub wanted : {x y : Tree} {s : Sort} → HasSort p ns x s → WantsValue x y → HasValue p ns y
+  pub wanted : {x y : SyntaxTree} {s : Sort} → HasSort p ns x s → WantsValue x y → HasValue p ns y
   wanted (h.not {s = s} d i) w.negated = (s, d, i)
   wanted (h.negate {s = s} d i) w.minus_of = (s, d, i)
   wanted (h.operation {r = r} d g i j) w.left = (r, d, i)
@@ -72,7 +72,7 @@ module _ {p : Place} {ns : List (List ℕ)} where
   wanted d (w.handed_over c) = handed d c
 
   -- a value is of no other sort
-  pub wanted_sort : {x y : Tree} {s r : Sort} → HasSort p ns x s → WantsValue x y → HasSort p ns y r → is_value r ≡ true
+  pub wanted_sort : {x y : SyntaxTree} {s r : Sort} → HasSort p ns x s → WantsValue x y → HasSort p ns y r → is_value r ≡ true
   wanted_sort {r = r} d at is =
       let found = wanted d at in
       let a = complete found.1 in
@@ -82,20 +82,20 @@ module _ {p : Place} {ns : List (List ℕ)} where
 
   -- ---- what is looked into
 
-  pub member_into : {x : Tree} {f : List ℕ} {s : Sort} → HasSort p ns (Member x f) s → (r : Sort) × HasSort p ns x r × LooksInto (Member x f) x r
+  pub member_into : {x : SyntaxTree} {f : List ℕ} {s : Sort} → HasSort p ns (Member x f) s → (r : Sort) × HasSort p ns x r × LooksInto (Member x f) x r
   member_into {f = f} (h.auth_text i d) = (Auth, d, w.into_auth (among_left f auth_names (codes "token" ∷ []) i))
   member_into (h.auth_token i d) = (Auth, d, w.into_auth (ap (λ n. is_among n asked_of_auth) i))
   member_into (h.claim d) = (Token, d, w.into_token)
   member_into (h.query_field i d) = (Query, d, w.into_query i)
   member_into {x} (h.length i d) = (Value, d, subst (λ n. LooksInto (Member x n) x Value) (sym i) w.into_length)
 
-  by_text : {x : Tree} {f : List ℕ} {xs : Arguments} → HasSort p ns x Value → is_among f asked_of_text ≡ true → (r : Sort) × HasSort p ns x r × LooksInto (Call x f xs) x r
+  by_text : {x : SyntaxTree} {f : List ℕ} {xs : Arguments} → HasSort p ns x Value → is_among f asked_of_text ≡ true → (r : Sort) × HasSort p ns x r × LooksInto (Call x f xs) x r
   by_text d i = (Value, d, w.into_text i)
 
-  by_snapshot : {x : Tree} {f : List ℕ} {xs : Arguments} → HasSort p ns x Snapshot → is_among f asked_of_snapshot ≡ true → (r : Sort) × HasSort p ns x r × LooksInto (Call x f xs) x r
+  by_snapshot : {x : SyntaxTree} {f : List ℕ} {xs : Arguments} → HasSort p ns x Snapshot → is_among f asked_of_snapshot ≡ true → (r : Sort) × HasSort p ns x r × LooksInto (Call x f xs) x r
   by_snapshot d i = (Snapshot, d, w.into_snapshot i)
 
-  pub call_into : {x : Tree} {f : List ℕ} {xs : Arguments} {s : Sort} → HasSort p ns (Call x f xs) s → (r : Sort) × HasSort p ns x r × LooksInto (Call x f xs) x r
+  pub call_into : {x : SyntaxTree} {f : List ℕ} {xs : Arguments} {s : Sort} → HasSort p ns (Call x f xs) s → (r : Sort) × HasSort p ns x r × LooksInto (Call x f xs) x r
   call_into {f = f} (h.text_test i d g j) = by_text d (among_left f text_tests (codes "replace" ∷ []) i)
   call_into (h.replace i d g k j l) = by_text d (ap (λ n. is_among n asked_of_text) i)
   call_into {f = f} (h.snapshot_test i d) = by_snapshot d (among_left f snapshot_tests (codes "hasChild" ∷ codes "child" ∷ codes "parent" ∷ []) i)
@@ -108,23 +108,23 @@ module _ {p : Place} {ns : List (List ℕ)} where
 
 module _ (p : Place) (ns : List (List ℕ)) where
   -- a value is wanted of the part, something is asked of it, or it stands in parentheses
-  abbrev LookedAt : Tree → Tree → Type 0
+  abbrev LookedAt : SyntaxTree → SyntaxTree → Type 0
   LookedAt x y = WantsValue x y ⊎ ((r : Sort) × HasSort p ns y r × LooksInto x y r) ⊎ (x ≡ t.Group y)
 
   -- the only part, or the first of several
-  sole : (x : Tree) {y z : Tree} → LookedAt x z → Contains (z ∷ []) y → LookedAt x y
+  sole : (x : SyntaxTree) {y z : SyntaxTree} → LookedAt x z → Contains (z ∷ []) y → LookedAt x y
   sole x {y} {z} at in_all = elim (first_or z y [] in_all) [
     | inl same ↦ subst (LookedAt x) same at
     | inr nowhere ↦ absurd (nothing_in y nowhere)
   ]
 
-  head : (x : Tree) (zs : List Tree) {y z : Tree} → LookedAt x z → (Contains zs y → LookedAt x y) → Contains (z ∷ zs) y → LookedAt x y
+  head : (x : SyntaxTree) (zs : List SyntaxTree) {y z : SyntaxTree} → LookedAt x z → (Contains zs y → LookedAt x y) → Contains (z ∷ zs) y → LookedAt x y
   head x zs {y} {z} at others in_all = elim (first_or z y zs in_all) [
     | inl same ↦ subst (LookedAt x) same at
     | inr there ↦ others there
   ]
 
-  pub each_part : (x : Tree) {y : Tree} {s : Sort} → HasSort p ns x s → Contains (parts x) y → LookedAt x y
+  pub each_part : (x : SyntaxTree) {y : SyntaxTree} {s : Sort} → HasSort p ns x s → Contains (parts x) y → LookedAt x y
   each_part (t.Number n) {y} d i = absurd (nothing_in y i)
   each_part (t.Text s) {y} d i = absurd (nothing_in y i)
   each_part t.True {y} d i = absurd (nothing_in y i)

@@ -3,7 +3,7 @@ use Rattle.std.proofs.Common.{◌≡◌, ℕ, List, ◌∷◌, Bool, true, false
 use Rattle.std.specs.Prelude.{Contains, if◌then◌else◌}
 use Rattle.std.proofs.lemmas.List.Elements.{Contains-append_right}
 use Rattle.expr_parser.specs.Tree as t
-use Rattle.expr_parser.specs.Tree.{Tree, Arguments}
+use Rattle.expr_parser.specs.Tree.{SyntaxTree, Arguments}
 use Rattle.expr_types.specs.declared.fault.TypeFault.{TypeFault}
 use Rattle.expr_types.specs.declared.fault.TypeFault.TheVariants.{NotInProfile, TypeError, UnknownName, NoMemory}
 use Rattle.expr_types.specs.declared.place.Place.{Place}
@@ -27,7 +27,7 @@ about_use g f k = by (is_among g excluded_names) (is_spelled g) k
     by false true e = absurd e
     by false false e = e
 
-own_named : (x : Tree) (f : List ℕ) → About (own_fault x) f → StandsIn f x
+own_named : (x : SyntaxTree) (f : List ℕ) → About (own_fault x) f → StandsIn f x
 own_named (t.Variable g) f k = subst (λ n. StandsIn n (t.Variable g)) k faults.variable
 own_named (t.Capture g) f k = faults.capture g (sym k)
 own_named (t.Member x g) f k = subst (λ n. StandsIn n (t.Member x g)) (about_use g f k) faults.member
@@ -43,15 +43,15 @@ own_named (t.Negate x) f k = absurd k
 own_named (t.Operation op x y) f k = absurd k
 own_named (t.Choice c x y) f k = absurd k
 
-Contains-here : (y : Tree) (ys : List Tree) → Contains (y ∷ ys) y
+Contains-here : (y : SyntaxTree) (ys : List SyntaxTree) → Contains (y ∷ ys) y
 Contains-here y ys = (zero, grind (arith), refl)
 
 module _ {p : Place} {ns : List (List ℕ)} where
-  named : {x : Tree} {e : TypeFault} → FirstFault p ns x e → (f : List ℕ) → About e f → StandsIn f x
+  named : {x : SyntaxTree} {e : TypeFault} → FirstFault p ns x e → (f : List ℕ) → About e f → StandsIn f x
   named {x} (in_part before y after split a d) f k = faults.in_part {y = y} (subst (λ zs. Contains zs y) (sym split) (Contains-append_right before (y ∷ after) y (Contains-here y after))) (named d f k)
   named {x} (of_own a n) f k = own_named x f k
 
-module _ (p : Place) (ns : List (List ℕ)) (x : Tree) (f : List ℕ) where
+module _ (p : Place) (ns : List (List ℕ)) (x : SyntaxTree) (f : List ℕ) where
   pub unknown_named : FirstFault p ns x (UnknownName f) → StandsIn f x
   unknown_named d = named d f refl
 

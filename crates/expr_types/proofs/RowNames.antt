@@ -1,6 +1,6 @@
 -- Some row spells the name of each use that is a row, but for a claim's.
 use Rattle.std.proofs.Common.{◌≡◌, ◌⊎◌, inl, inr, ℕ, List, Bool, true, false, ◌||◌, refl, ap}
-use Rattle.expr_parser.specs.Tree.{Tree, Arguments, Member, Call}
+use Rattle.expr_parser.specs.Tree.{SyntaxTree, Arguments, Member, Call}
 use Rattle.expr_types.specs.declared.place.Place.{Place}
 use Rattle.expr_types.specs.declared.sort.Sort.{Sort}
 use Rattle.expr_types.specs.declared.sort.Sort.TheVariants.{Token}
@@ -43,14 +43,14 @@ module _ (f : List ℕ) where
   by_snapshot : is_among f snapshot_tests ≡ true → is_spelled f ≡ true
   by_snapshot i = fourth (is_among f auth_names) (is_among f query_names) (is_among f text_tests) (is_among f snapshot_tests) (is_among f lone_names) i
 
-pub member_spelled : {p : Place} {ns : List (List ℕ)} {x : Tree} {f : List ℕ} {s : Sort} → HasSort p ns (Member x f) s → HasSort p ns x Token ⊎ (is_spelled f ≡ true)
+pub member_spelled : {p : Place} {ns : List (List ℕ)} {x : SyntaxTree} {f : List ℕ} {s : Sort} → HasSort p ns (Member x f) s → HasSort p ns x Token ⊎ (is_spelled f ≡ true)
 member_spelled {f = f} (h.auth_text i d) = inr (by_auth f i)
 member_spelled (h.auth_token i d) = inr (ap is_spelled i)
 member_spelled (h.claim d) = inl d
 member_spelled {f = f} (h.query_field i d) = inr (by_query f i)
 member_spelled (h.length i d) = inr (ap is_spelled i)
 
-pub call_spelled : {p : Place} {ns : List (List ℕ)} {x : Tree} {f : List ℕ} {xs : Arguments} {s : Sort} → HasSort p ns (Call x f xs) s → is_spelled f ≡ true
+pub call_spelled : {p : Place} {ns : List (List ℕ)} {x : SyntaxTree} {f : List ℕ} {xs : Arguments} {s : Sort} → HasSort p ns (Call x f xs) s → is_spelled f ≡ true
 call_spelled {f = f} (h.text_test i d e j) = by_text f i
 call_spelled (h.replace i d e g j k) = ap is_spelled i
 call_spelled {f = f} (h.snapshot_test i d) = by_snapshot f i

@@ -4,7 +4,7 @@ use Rattle.std.specs.Prelude.{Result, Ok, Err, codes, if◌then◌else◌}
 use Rattle.std.specs.Str.{bytes_eq}
 use Rattle.std.proofs.lemmas.Slice.Eq.{bytes_eq-Decides}
 use Rattle.expr_parser.specs.Tree as t
-use Rattle.expr_parser.specs.Tree.{Tree, Trees, Arguments, Argument, One, Listed, no_argument, argument, none, more}
+use Rattle.expr_parser.specs.Tree.{SyntaxTree, Trees, Arguments, Argument, One, Listed, no_argument, argument, none, more}
 use Rattle.expr_types.specs.declared.fault.TypeFault.{TypeFault}
 use Rattle.expr_types.specs.declared.fault.TypeFault.TheVariants.{UnknownName}
 use Rattle.expr_types.specs.declared.place.Place.{Place}
@@ -78,7 +78,7 @@ module _ (p : Place) (ns : List (List ℕ)) where
       (guarded P (bytes_eq f (codes "query")) s _ _ (λ q. asked p P s (h.query (name_is f _ q)))
       (no_row s))))))
 
-  member_sound : (x : Tree) (r : Sort) (f : List ℕ) (s : Sort) → HasSort p ns x r → member_sort r f ≡ Some s → HasSort p ns (t.Member x f) s
+  member_sound : (x : SyntaxTree) (r : Sort) (f : List ℕ) (s : Sort) → HasSort p ns x r → member_sort r f ≡ Some s → HasSort p ns (t.Member x f) s
   unfolding member_sort
   member_sound x Value f s d = let P : Sort → Type 0 = HasSort p ns (t.Member x f) in row P (bytes_eq f (codes "length")) Value s _ (λ q. h.length (name_is f _ q) d) (no_row s)
   member_sound x Snapshot f s d = no_row s
@@ -89,12 +89,12 @@ module _ (p : Place) (ns : List (List ℕ)) where
   -- what is given, with the sorts of it
   abbrev Shows : Given → Arguments → Type 0
   Shows Nothing xs = xs ≡ no_argument
-  Shows OneValue xs = (v : Tree) × HasValue p ns v × (xs ≡ argument (One v) no_argument)
-  Shows TwoValues xs = (v : Tree) × (w : Tree) × HasValue p ns v × HasValue p ns w × (xs ≡ argument (One v) (argument (One w) no_argument))
+  Shows OneValue xs = (v : SyntaxTree) × HasValue p ns v × (xs ≡ argument (One v) no_argument)
+  Shows TwoValues xs = (v : SyntaxTree) × (w : SyntaxTree) × HasValue p ns v × HasValue p ns w × (xs ≡ argument (One v) (argument (One w) no_argument))
   Shows OneList xs = (vs : Trees) × AreValues p ns vs × (xs ≡ argument (Listed vs) no_argument)
   Shows Other xs = Unit {0}
 
-  call_sound : (x : Tree) (r : Sort) (f : List ℕ) (xs : Arguments) (g : Given) (s : Sort) → HasSort p ns x r → Shows g xs → call_sort r f g ≡ Some s → HasSort p ns (t.Call x f xs) s
+  call_sound : (x : SyntaxTree) (r : Sort) (f : List ℕ) (xs : Arguments) (g : Given) (s : Sort) → HasSort p ns x r → Shows g xs → call_sort r f g ≡ Some s → HasSort p ns (t.Call x f xs) s
   unfolding call_sort
   call_sound x Value f xs Nothing s d k = no_row s
   call_sound x Value f xs OneValue s d k = let P : Sort → Type 0 = HasSort p ns (t.Call x f xs) in row P (is_among f text_tests) Value s _ (λ q. rw k.2 (h.text_test q d k.1.1 k.1.2)) (no_row s)
@@ -137,10 +137,10 @@ module _ (p : Place) (ns : List (List ℕ)) where
   nothing_shown : (k : Given) → given_of p ns Nothing no_argument ≡ Ok k → Shows k no_argument
   nothing_shown k e = let z : Nothing ≡ k = cc in subst (λ g. Shows g no_argument) z refl
 
-  Sound : Tree → Type 0
+  Sound : SyntaxTree → Type 0
   Sound v = (s : Sort) → sort_of p ns v ≡ Ok s → HasSort p ns v s
 
-  value_given : (g : Given) (v : Tree) (k : Given) → Sound v → with_argument p ns g (One v) ≡ Ok k → (HasValue p ns v × (k ≡ with_value g)) ⊎ (k ≡ Other)
+  value_given : (g : Given) (v : SyntaxTree) (k : Given) → Sound v → with_argument p ns g (One v) ≡ Ok k → (HasValue p ns v × (k ≡ with_value g)) ⊎ (k ≡ Other)
   unfolding Sound
   value_given g v k sound e = let q = then_ok (sort_of p ns v) _ k e in by q.0 q.1 (is_value q.0) refl cc
     where
@@ -155,7 +155,7 @@ module _ (p : Place) (ns : List (List ℕ)) where
       by true d z = inl (sound d, sym z)
       by false d z = inr (sym z)
 
-  one_shown : (v : Tree) (k : Given) → Sound v → given_of p ns Nothing (argument (One v) no_argument) ≡ Ok k → Shows k (argument (One v) no_argument)
+  one_shown : (v : SyntaxTree) (k : Given) → Sound v → given_of p ns Nothing (argument (One v) no_argument) ≡ Ok k → Shows k (argument (One v) no_argument)
   one_shown v k sound e =
       let q = then_ok (with_argument p ns Nothing (One v)) _ k e in
       let z : q.0 ≡ k = cc in
@@ -173,7 +173,7 @@ module _ (p : Place) (ns : List (List ℕ)) where
         | inr o ↦ other_shown k _ (sym z ∙ o)
       ]
 
-  two_shown : (v w : Tree) (k : Given) → Sound v → Sound w → given_of p ns Nothing (argument (One v) (argument (One w) no_argument)) ≡ Ok k → Shows k (argument (One v) (argument (One w) no_argument))
+  two_shown : (v w : SyntaxTree) (k : Given) → Sound v → Sound w → given_of p ns Nothing (argument (One v) (argument (One w) no_argument)) ≡ Ok k → Shows k (argument (One v) (argument (One w) no_argument))
   two_shown v w k sound_v sound_w e =
       let q = then_ok (with_argument p ns Nothing (One v)) _ k e in
       let r = then_ok (with_argument p ns q.0 (One w)) _ k q.2 in
@@ -186,7 +186,7 @@ module _ (p : Place) (ns : List (List ℕ)) where
         ]
       ]
 
-  three_shown : (v w : Tree) (x : Argument) (xs : Arguments) (k : Given) → Sound v → Sound w → given_of p ns Nothing (argument (One v) (argument (One w) (argument x xs))) ≡ Ok k → Shows k (argument (One v) (argument (One w) (argument x xs)))
+  three_shown : (v w : SyntaxTree) (x : Argument) (xs : Arguments) (k : Given) → Sound v → Sound w → given_of p ns Nothing (argument (One v) (argument (One w) (argument x xs))) ≡ Ok k → Shows k (argument (One v) (argument (One w) (argument x xs)))
   three_shown v w x xs k sound_v sound_w e =
       let q = then_ok (with_argument p ns Nothing (One v)) _ k e in
       let r = then_ok (with_argument p ns q.0 (One w)) _ k q.2 in
@@ -198,7 +198,7 @@ module _ (p : Place) (ns : List (List ℕ)) where
         ]
       ]
 
-  list_second : (v : Tree) (ws : Trees) (xs : Arguments) (k : Given) → Sound v → (are_values p ns true ws ≡ Ok true → AreValues p ns ws) → given_of p ns Nothing (argument (One v) (argument (Listed ws) xs)) ≡ Ok k → Shows k (argument (One v) (argument (Listed ws) xs))
+  list_second : (v : SyntaxTree) (ws : Trees) (xs : Arguments) (k : Given) → Sound v → (are_values p ns true ws ≡ Ok true → AreValues p ns ws) → given_of p ns Nothing (argument (One v) (argument (Listed ws) xs)) ≡ Ok k → Shows k (argument (One v) (argument (Listed ws) xs))
   list_second v ws xs k sound_v sound_w e =
       let q = then_ok (with_argument p ns Nothing (One v)) _ k e in
       let r = then_ok (with_argument p ns q.0 (Listed ws)) _ k q.2 in
@@ -222,7 +222,7 @@ module _ (p : Place) (ns : List (List ℕ)) where
   still b none e = cc
   still b (more v vs) e = let q = then_ok (sort_of p ns v) _ true e in (both b (is_value q.0) (still (b && is_value q.0) vs q.2)).0
 
-  value_is : (x : Tree) (s : Sort) → HasSort p ns x Value → Ok Value ≡ sort_of p ns x → sort_of p ns x ≡ Ok s → HasSort p ns x s
+  value_is : (x : SyntaxTree) (s : Sort) → HasSort p ns x Value → Ok Value ≡ sort_of p ns x → sort_of p ns x ≡ Ok s → HasSort p ns x s
   value_is x s d o e = let z : Value ≡ s = cc in subst (HasSort p ns x) z d
 
   capture_sound : (f : List ℕ) (s : Sort) (b : Bool) → is_among f ns ≡ b → (if b then Ok Value else Err (UnknownName (codes "$" ++ f))) ≡ Ok s → HasSort p ns (t.Capture f) s
@@ -232,7 +232,7 @@ module _ (p : Place) (ns : List (List ℕ)) where
   mutual
     unfolding Sound
 
-    pub sound : (x : Tree) (s : Sort) → sort_of p ns x ≡ Ok s → HasSort p ns x s
+    pub sound : (x : SyntaxTree) (s : Sort) → sort_of p ns x ≡ Ok s → HasSort p ns x s
     sound (t.Number n) s e = value_is (t.Number n) s h.number refl e
     sound (t.Text f) s e = value_is (t.Text f) s h.text refl e
     sound t.True s e = value_is t.True s h.truth refl e
@@ -296,7 +296,7 @@ module _ {p : Place} {ns : List (List ℕ)} where
   mutual
     unfolding variable_sort member_sort call_sort
 
-    pub complete : {x : Tree} {s : Sort} → HasSort p ns x s → sort_of p ns x ≡ Ok s
+    pub complete : {x : SyntaxTree} {s : Sort} → HasSort p ns x s → sort_of p ns x ≡ Ok s
     complete h.number = refl
     complete h.text = refl
     complete h.truth = refl

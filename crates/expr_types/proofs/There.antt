@@ -3,7 +3,7 @@ use Rattle.std.proofs.Common.{◌≡◌, ◌⊎◌, inl, inr, ℕ, List, [], ◌
 use Rattle.std.specs.Str.{bytes_eq}
 use Rattle.std.proofs.lemmas.Slice.Eq.{bytes_eq-Decides}
 use Rattle.std.proofs.lemmas.List.Folds.{list_any-append}
-use Rattle.expr_parser.specs.Tree.{Tree, Trees}
+use Rattle.expr_parser.specs.Tree.{SyntaxTree, Trees}
 use Rattle.expr_types.specs.declared.place.Place.{Place}
 use Rattle.expr_types.specs.declared.sort.Sort.{Sort}
 use Rattle.expr_types.specs.Names.{is_among}
@@ -34,7 +34,7 @@ module _ (ns : List (List ℕ)) (f : List ℕ) where
   front xs h e = both xs [] h (λ n. absurd cc) e
 
   mutual
-    pub there : {p : Place} {x : Tree} {s : Sort} → HasSort p ns x s → is_among f (captures_in x) ≡ true → is_among f ns ≡ true
+    pub there : {p : Place} {x : SyntaxTree} {s : Sort} → HasSort p ns x s → is_among f (captures_in x) ≡ true → is_among f ns ≡ true
     there h.number e = absurd cc
     there h.text e = absurd cc
     there h.truth e = absurd cc

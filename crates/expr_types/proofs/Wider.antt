@@ -3,7 +3,7 @@ use Rattle.std.proofs.Common.{◌≡◌, ℕ, List, [], ◌∷◌, ◌++◌, Boo
 use Rattle.std.specs.Str.{bytes_eq}
 use Rattle.std.proofs.lemmas.Slice.Eq.{bytes_eq-Decides}
 use Rattle.std.proofs.lemmas.List.Folds.{list_any-append}
-use Rattle.expr_parser.specs.Tree.{Tree, Trees}
+use Rattle.expr_parser.specs.Tree.{SyntaxTree, Trees}
 use Rattle.expr_types.specs.declared.place.Place.{Place}
 use Rattle.expr_types.specs.declared.sort.Sort.{Sort}
 use Rattle.expr_types.specs.Names.{is_among}
@@ -41,7 +41,7 @@ module _ (ns ms : List (List ℕ)) where
   right xs ys k f e = k f (among_right f xs ys e)
 
   mutual
-    pub kept : {p : Place} {x : Tree} {s : Sort} → Keeps (captures_in x) → HasSort p ns x s → HasSort p ms x s
+    pub kept : {p : Place} {x : SyntaxTree} {s : Sort} → Keeps (captures_in x) → HasSort p ns x s → HasSort p ms x s
     kept k h.number = h.number
     kept k h.text = h.text
     kept k h.truth = h.truth
@@ -81,5 +81,5 @@ module _ (ns ms : List (List ℕ)) where
     all_kept k (h.value {v} {vs} d i e) = h.value (kept (left (captures_in v) (captures_listed vs) k) d) i (all_kept (right (captures_in v) (captures_listed vs) k) e)
 
 -- it may stand below the captures that it names
-pub own_captures : {p : Place} {ns : List (List ℕ)} {x : Tree} → HasValue p ns x → HasValue p (captures_in x) x
+pub own_captures : {p : Place} {ns : List (List ℕ)} {x : SyntaxTree} → HasValue p ns x → HasValue p (captures_in x) x
 own_captures {p} {ns} {x} v = (v.0, kept ns (captures_in x) (λ f e i. e) v.1, v.2)

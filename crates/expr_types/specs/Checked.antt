@@ -1,7 +1,7 @@
 -- A checked expression: an expression that may stand in rules for a place.
 use Rattle.std.specs.Prelude.{◌≡◌, ℕ, zero, suc, List, [], ◌∷◌, ◌++◌, refl}
 use Rattle.std.specs.Coded.{Coded, code_by, coded×, coded_ℕ}
-use Rattle.expr_parser.specs.Tree.{Tree, Trees, Arguments, Number, Text, True, False, Null, Variable, Capture, Group, Member, Call, Not, Negate, Operation, Choice, One, Listed, no_argument, argument, none, more}
+use Rattle.expr_parser.specs.Tree.{SyntaxTree, Trees, Arguments, Number, Text, True, False, Null, Variable, Capture, Group, Member, Call, Not, Negate, Operation, Choice, One, Listed, no_argument, argument, none, more}
 use Rattle.expr_parser.specs.TreeCode.{tree_code}
 use Rattle.expr_types.specs.declared.place.Place.{Place}
 use Rattle.expr_types.specs.declared.place.Place.TheVariants.{ReadRule, WriteRule, ValidateRule}
@@ -9,7 +9,7 @@ use Rattle.expr_types.specs.HasSort.{HasValue}
 
 -- the captures that an expression names, each without its $
 abbrev mutual
-  pub captures_in : Tree → List (List ℕ)
+  pub captures_in : SyntaxTree → List (List ℕ)
   captures_in (Number n) = []
   captures_in (Text s) = []
   captures_in True = []
@@ -36,7 +36,7 @@ abbrev mutual
 
 -- an expression, and the place that it was checked for
 pub record Checked : Type 0 where
-  pub tree : Tree
+  pub tree : SyntaxTree
   pub place : Place
 
 -- it may stand where a value is wanted in a rule for this place, below the captures that it names
@@ -64,4 +64,4 @@ abbrev pub place_code : Coded Place
 place_code = code_by ℕ coded_ℕ place_number numbered_place numbered_place-place_number
 
 abbrev pub checked_code : Coded Checked
-checked_code = code_by (Tree × Place) (coded× tree_code place_code) (λ c. (c.tree, c.place)) (λ t. record { tree = t.0; place = t.1 }) (λ _. refl)
+checked_code = code_by (SyntaxTree × Place) (coded× tree_code place_code) (λ c. (c.tree, c.place)) (λ t. record { tree = t.0; place = t.1 }) (λ _. refl)

@@ -1,7 +1,7 @@
 -- What the meaning of an expression can depend on, beside who asks, the captures and the query.
 use Rattle.std.specs.Prelude.{ℕ, List, codes, if◌then◌else◌, ◌||◌}
 use Rattle.std.specs.Str.{bytes_eq}
-use Rattle.expr_parser.specs.Tree.{Tree, Trees, Arguments, Argument, Number, Text, True, False, Null, Variable, Capture, Group, Member, Call, Not, Negate, Operation, Choice, One, Listed, no_argument, argument, none, more}
+use Rattle.expr_parser.specs.Tree.{SyntaxTree, Trees, Arguments, Argument, Number, Text, True, False, Null, Variable, Capture, Group, Member, Call, Not, Negate, Operation, Choice, One, Listed, no_argument, argument, none, more}
 use Rattle.expr_types.specs.declared.scope.Scope.{Scope}
 use Rattle.expr_types.specs.declared.scope.Scope.TheVariants.{Request, Location, Database}
 
@@ -22,7 +22,7 @@ scope_of_variable f =
 
 abbrev mutual
   -- an expression: the widest of its parts; but a call of `parent` leaves the location. (This project's profile; Reference, `RuleDataSnapshot.parent`.)
-  pub scope_of : Tree → Scope
+  pub scope_of : SyntaxTree → Scope
   scope_of (Number n) = Request
   scope_of (Text s) = Request
   scope_of True = Request

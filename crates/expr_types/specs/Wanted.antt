@@ -1,30 +1,30 @@
 -- What an expression wants of its parts: a value, or what is asked of a part behind a dot.
 use Rattle.std.specs.Prelude.{◌≡◌, ℕ, List, [], ◌∷◌, true, codes, Contains}
 use Rattle.expr_tokens.specs.declared.operator.Operator.{Operator}
-use Rattle.expr_parser.specs.Tree.{Tree, Arguments, Member, Call, Not, Negate, Operation, Choice}
+use Rattle.expr_parser.specs.Tree.{SyntaxTree, Arguments, Member, Call, Not, Negate, Operation, Choice}
 use Rattle.expr_types.specs.declared.sort.Sort.{Sort}
 use Rattle.expr_types.specs.declared.sort.Sort.TheVariants.{Value, Snapshot, Auth, Token, Query}
 use Rattle.expr_types.specs.Names.{is_among}
 use Rattle.expr_types.specs.Faults.{given}
 
 -- The expression wants a value of the part. (Reference, operators and methods.)
-pub data WantsValue : Tree → Tree → Type 0 where
+pub data WantsValue : SyntaxTree → SyntaxTree → Type 0 where
   -- what stands behind a `!`
-  negated : {x : Tree} → WantsValue (Not x) x
+  negated : {x : SyntaxTree} → WantsValue (Not x) x
   -- what stands behind a minus
-  minus_of : {x : Tree} → WantsValue (Negate x) x
+  minus_of : {x : SyntaxTree} → WantsValue (Negate x) x
   -- what stands before an operator
-  left : {op : Operator} {x y : Tree} → WantsValue (Operation op x y) x
+  left : {op : Operator} {x y : SyntaxTree} → WantsValue (Operation op x y) x
   -- what stands behind an operator
-  right : {op : Operator} {x y : Tree} → WantsValue (Operation op x y) y
+  right : {op : Operator} {x y : SyntaxTree} → WantsValue (Operation op x y) y
   -- what stands before the `?`
-  condition : {c x y : Tree} → WantsValue (Choice c x y) c
+  condition : {c x y : SyntaxTree} → WantsValue (Choice c x y) c
   -- what stands before the `:`
-  chosen : {c x y : Tree} → WantsValue (Choice c x y) x
+  chosen : {c x y : SyntaxTree} → WantsValue (Choice c x y) x
   -- what stands behind the `:`
-  otherwise : {c x y : Tree} → WantsValue (Choice c x y) y
+  otherwise : {c x y : SyntaxTree} → WantsValue (Choice c x y) y
   -- an argument of a call, or an element of a list that is one
-  handed_over : {x y : Tree} {f : List ℕ} {xs : Arguments} → Contains (given xs) y → WantsValue (Call x f xs) y
+  handed_over : {x y : SyntaxTree} {f : List ℕ} {xs : Arguments} → Contains (given xs) y → WantsValue (Call x f xs) y
 
 -- what is asked of who is signed in
 abbrev pub asked_of_auth : List (List ℕ)
@@ -43,16 +43,16 @@ abbrev pub asked_of_snapshot : List (List ℕ)
 asked_of_snapshot = codes "val" ∷ codes "exists" ∷ codes "hasChildren" ∷ codes "isNumber" ∷ codes "isString" ∷ codes "isBoolean" ∷ codes "hasChild" ∷ codes "child" ∷ codes "parent" ∷ []
 
 -- The expression looks into a part, by a name behind a dot, as into one of this sort. (Reference, variables, RuleDataSnapshot methods, String properties and methods.)
-pub data LooksInto : Tree → Tree → Sort → Type 0 where
+pub data LooksInto : SyntaxTree → SyntaxTree → Sort → Type 0 where
   -- who is signed in
-  into_auth : {x : Tree} {f : List ℕ} → is_among f asked_of_auth ≡ true → LooksInto (Member x f) x Auth
+  into_auth : {x : SyntaxTree} {f : List ℕ} → is_among f asked_of_auth ≡ true → LooksInto (Member x f) x Auth
   -- its claims, by any name
-  into_token : {x : Tree} {f : List ℕ} → LooksInto (Member x f) x Token
+  into_token : {x : SyntaxTree} {f : List ℕ} → LooksInto (Member x f) x Token
   -- what a read asks for
-  into_query : {x : Tree} {f : List ℕ} → is_among f asked_of_query ≡ true → LooksInto (Member x f) x Query
+  into_query : {x : SyntaxTree} {f : List ℕ} → is_among f asked_of_query ≡ true → LooksInto (Member x f) x Query
   -- a text, for its length
-  into_length : {x : Tree} → LooksInto (Member x (codes "length")) x Value
+  into_length : {x : SyntaxTree} → LooksInto (Member x (codes "length")) x Value
   -- a text, by a method
-  into_text : {x : Tree} {f : List ℕ} {xs : Arguments} → is_among f asked_of_text ≡ true → LooksInto (Call x f xs) x Value
+  into_text : {x : SyntaxTree} {f : List ℕ} {xs : Arguments} → is_among f asked_of_text ≡ true → LooksInto (Call x f xs) x Value
   -- a location, by a method
-  into_snapshot : {x : Tree} {f : List ℕ} {xs : Arguments} → is_among f asked_of_snapshot ≡ true → LooksInto (Call x f xs) x Snapshot
+  into_snapshot : {x : SyntaxTree} {f : List ℕ} {xs : Arguments} → is_among f asked_of_snapshot ≡ true → LooksInto (Call x f xs) x Snapshot

@@ -17,8 +17,8 @@ use Rattle.json_lines.specs.Tokens.{tokens_at, BeginsWith, MayBegin, MayClose, i
 use Rattle.json_lines.specs.MemberName.{name_text, in_quotes, IsBegun, IsNamed}
 use Rattle.json_lines.specs.declared.member_name.MemberName.{MemberName}
 use Rattle.json_lines.specs.declared.member_name.MemberName.TheVariants.{Do, Now, Session, Path, Query, Value, Values, Id, Token as TokenName, Rules}
-use Rattle.json_lines.specs.declared.plain_tokens.Place.{Place}
-use Rattle.json_lines.specs.declared.plain_tokens.Place.TheVariants.{Fresh, AfterValue, AfterComma}
+use Rattle.json_lines.specs.declared.plain_tokens.TokenPlace.{TokenPlace}
+use Rattle.json_lines.specs.declared.plain_tokens.TokenPlace.TheVariants.{Fresh, AfterValue, AfterComma}
 
 -- ---- a byte
 
@@ -83,23 +83,23 @@ lex_quoted s rest h = λ i. token (string_token (content_plain s rest h i)) ∷ 
 
 -- ---- keys
 
-abbrev punctuate_at : Place → List Lexeme → List Token
+abbrev punctuate_at : TokenPlace → List Lexeme → List Token
 punctuate_at Fresh ls = punctuate fresh ls
 punctuate_at AfterValue ls = punctuate after_value ls
 punctuate_at AfterComma ls = punctuate after_comma ls
 
-is_punctuated : (place : Place) (text : List ℕ) → tokens_at place text ≡ punctuate_at place (lex between text)
+is_punctuated : (place : TokenPlace) (text : List ℕ) → tokens_at place text ≡ punctuate_at place (lex between text)
 is_punctuated Fresh text = refl
 is_punctuated AfterValue text = refl
 is_punctuated AfterComma text = refl
 
-before_colon : (place : Place) (s : List ℕ) (ls : List Lexeme) → MayBegin place → punctuate_at place (token (tokens.string s) ∷ colon ∷ ls) ≡ tokens.key s ∷ punctuate fresh ls
+before_colon : (place : TokenPlace) (s : List ℕ) (ls : List Lexeme) → MayBegin place → punctuate_at place (token (tokens.string s) ∷ colon ∷ ls) ≡ tokens.key s ∷ punctuate fresh ls
 unfolding punctuate
 before_colon Fresh s ls h = refl
 before_colon AfterValue s ls h = absurd h
 before_colon AfterComma s ls h = refl
 
-pub key_first : (place : Place) (text s rest : List ℕ) → MayBegin place → IsQuoted text s (58 ∷ rest) → tokens_at place text ≡ tokens.key s ∷ tokens_at Fresh rest
+pub key_first : (place : TokenPlace) (text s rest : List ℕ) → MayBegin place → IsQuoted text s (58 ∷ rest) → tokens_at place text ≡ tokens.key s ∷ tokens_at Fresh rest
 unfolding lex
 key_first place text s rest may q =
     is_punctuated place text
@@ -139,13 +139,13 @@ pub object_first : (text rest : List ℕ) → text ≡ 123 ∷ rest → tokens_a
 unfolding lex
 object_first text rest is = ap (λ t. punctuate fresh (lex between t)) is ∙ opened_at (lex between rest)
 
-closed_at : (place : Place) (ls : List Lexeme) → MayClose place → punctuate_at place (token tokens.end_object ∷ ls) ≡ tokens.end_object ∷ punctuate after_value ls
+closed_at : (place : TokenPlace) (ls : List Lexeme) → MayClose place → punctuate_at place (token tokens.end_object ∷ ls) ≡ tokens.end_object ∷ punctuate after_value ls
 unfolding punctuate
 closed_at Fresh ls h = refl
 closed_at AfterValue ls h = refl
 closed_at AfterComma ls h = absurd h
 
-pub end_first : (place : Place) (text rest : List ℕ) → MayClose place → text ≡ 125 ∷ rest → tokens_at place text ≡ tokens.end_object ∷ tokens_at AfterValue rest
+pub end_first : (place : TokenPlace) (text rest : List ℕ) → MayClose place → text ≡ 125 ∷ rest → tokens_at place text ≡ tokens.end_object ∷ tokens_at AfterValue rest
 unfolding lex
 end_first place text rest may is = is_punctuated place text ∙ ap (λ t. punctuate_at place (lex between t)) is ∙ closed_at place (lex between rest) may
 
@@ -157,7 +157,7 @@ pub comma_first : (text rest : List ℕ) → text ≡ 44 ∷ rest → tokens_at 
 unfolding lex
 comma_first text rest is = ap (λ t. punctuate after_value (lex between t)) is ∙ comma_at (lex between rest)
 
-pub same_tokens : (place : Place) (a b : List ℕ) → lex between a ≡ lex between b → tokens_at place a ≡ tokens_at place b
+pub same_tokens : (place : TokenPlace) (a b : List ℕ) → lex between a ≡ lex between b → tokens_at place a ≡ tokens_at place b
 same_tokens place a b same = is_punctuated place a ∙ ap (punctuate_at place) same ∙ sym (is_punctuated place b)
 
 nothing_at : punctuate after_value [] ≡ []
@@ -188,11 +188,11 @@ begins_text text h =
 
 -- ---- keys that are read
 
-pub key_read : (all : List Token) (place : Place) (text s behind rest : List ℕ) → all ≡ tokens_at place text → MayBegin place → IsQuoted text s behind → behind ≡ 58 ∷ rest → read_key all ≡ Some (Some s, tokens_at Fresh rest)
+pub key_read : (all : List Token) (place : TokenPlace) (text s behind rest : List ℕ) → all ≡ tokens_at place text → MayBegin place → IsQuoted text s behind → behind ≡ 58 ∷ rest → read_key all ≡ Some (Some s, tokens_at Fresh rest)
 key_read all place text s behind rest are may q colon_comes =
     ap read_key (are ∙ key_first place text s rest may (record { whole = q.whole ∙ ap (λ b. 34 ∷ (s ++ 34 ∷ b)) colon_comes; bytes = q.bytes }))
 
-pub end_read : (all : List Token) (place : Place) (text rest : List ℕ) → all ≡ tokens_at place text → MayClose place → text ≡ 125 ∷ rest → read_key all ≡ Some (None, tokens_at AfterValue rest)
+pub end_read : (all : List Token) (place : TokenPlace) (text rest : List ℕ) → all ≡ tokens_at place text → MayClose place → text ≡ 125 ∷ rest → read_key all ≡ Some (None, tokens_at AfterValue rest)
 end_read all place text rest are may is = ap read_key (are ∙ end_first place text rest may is)
 
 -- what comes first, and what follows
@@ -394,7 +394,7 @@ named_plain Id = refl
 named_plain TokenName = refl
 named_plain Rules = refl
 
-pub name_read : (all : List Token) (place : Place) (text : List ℕ) (name : MemberName) (rest : List ℕ) → all ≡ tokens_at place text → MayBegin place → IsNamed text name rest → read_key all ≡ Some (Some (name_text name), tokens_at Fresh rest)
+pub name_read : (all : List Token) (place : TokenPlace) (text : List ℕ) (name : MemberName) (rest : List ℕ) → all ≡ tokens_at place text → MayBegin place → IsNamed text name rest → read_key all ≡ Some (Some (name_text name), tokens_at Fresh rest)
 name_read all place text name rest are may named =
     let whole : text ≡ 34 ∷ (name_text name ++ 34 ∷ 58 ∷ rest) = named ∙ ap (λ t. 34 ∷ t) (append_assoc (name_text name) (34 ∷ 58 ∷ []) rest) in
     key_read all place text (name_text name) (58 ∷ rest) rest are may (record { whole = whole; bytes = named_plain name }) refl

@@ -8,8 +8,8 @@ use Rattle.serde_json.specs.Read.{of_json, of_members, converted}
 use Rattle.serde_json.specs.View.{view}
 use Rattle.json_lines.specs.declared.outline.Said.{Said}
 use Rattle.json_lines.specs.declared.outline.Said.TheVariants as says
-use Rattle.json_lines.specs.declared.outline.Part.{Part}
-use Rattle.json_lines.specs.declared.outline.Part.TheVariants as parts
+use Rattle.json_lines.specs.declared.outline.MemberValue.{MemberValue}
+use Rattle.json_lines.specs.declared.outline.MemberValue.TheVariants as parts
 use Rattle.json_lines.specs.declared.outline.Member.{Member}
 use Rattle.json_lines.specs.declared.source.Message.{Message}
 use Rattle.json_lines.specs.declared.source.Message.TheVariants as messages
@@ -31,7 +31,7 @@ said_data (says.Negative z) = number (of_integer z)
 said_data (says.Words s) = string s.now
 said_data (says.Trees es) = object (members_named es)
 
-abbrev pub part_data : Part → Data
+abbrev pub part_data : MemberValue → Data
 part_data parts.Null = null
 part_data (parts.Truth b) = boolean b
 part_data (parts.Whole n) = number (unsigned n)

@@ -5,13 +5,13 @@ use Rattle.std.specs.List.{list_all}
 use Rattle.json.specs.Token.{Token}
 use Rattle.json.specs.Word.{is_space}
 use Rattle.json.specs.Lex.{between, lex, fresh, after_value, after_comma, punctuate}
-use Rattle.json_lines.specs.declared.plain_tokens.Place.{Place}
-use Rattle.json_lines.specs.declared.plain_tokens.Place.TheVariants as places
+use Rattle.json_lines.specs.declared.plain_tokens.TokenPlace.{TokenPlace}
+use Rattle.json_lines.specs.declared.plain_tokens.TokenPlace.TheVariants as places
 
 -- ---- tokens
 
 -- the tokens of a text that stands there
-abbrev pub tokens_at : Place → List ℕ → List Token
+abbrev pub tokens_at : TokenPlace → List ℕ → List Token
 tokens_at places.Fresh text = punctuate fresh (lex between text)
 tokens_at places.AfterValue text = punctuate after_value (lex between text)
 tokens_at places.AfterComma text = punctuate after_comma (lex between text)
@@ -21,13 +21,13 @@ abbrev pub BeginsWith : Token → List ℕ → List ℕ → Type 0
 BeginsWith token text rest = tokens_at places.Fresh text ≡ token ∷ tokens_at places.AfterValue rest
 
 -- a key or a value may begin there
-abbrev pub MayBegin : Place → Type 0
+abbrev pub MayBegin : TokenPlace → Type 0
 MayBegin places.Fresh = ⊤
 MayBegin places.AfterValue = ⊥
 MayBegin places.AfterComma = ⊤
 
 -- an object may end there
-abbrev pub MayClose : Place → Type 0
+abbrev pub MayClose : TokenPlace → Type 0
 MayClose places.Fresh = ⊤
 MayClose places.AfterValue = ⊤
 MayClose places.AfterComma = ⊥

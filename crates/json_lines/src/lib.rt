@@ -24,7 +24,7 @@ mod writes;
 pub use fault::MessageFault;
 pub use limits::{MAX_MESSAGE_BYTES, the_limit_of_messages};
 pub use member_name::MemberName;
-pub use outline::{Member, Outline, Part, outline_of};
+pub use outline::{Member, MemberValue, Outline, outline_of};
 pub use runs::plain_run;
 pub use source::{Message, Object, Source};
 pub use tree_members::TreeMembers;

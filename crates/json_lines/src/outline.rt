@@ -44,7 +44,7 @@ pub(crate) enum Said<'a> {
 
 /// What a member of a message is, borrowed.
 #[derive(Clone, Copy)]
-pub enum Part<'a> {
+pub enum MemberValue<'a> {
     Null,
     Truth(bool),
     /// A whole number from 0 to 2^64 - 1.
@@ -59,16 +59,16 @@ pub enum Part<'a> {
 }
 
 impl Said<'_> {
-    fn part(&self) -> Part<'_>
+    fn part(&self) -> MemberValue<'_>
         ensures { part_data result ≡ said_data self.now }
     {
         match self {
-            Said::Null => Part::Null,
-            Said::Truth(truth) => Part::Truth(*truth),
-            Said::Whole(whole) => Part::Whole(*whole),
-            Said::Negative(negative) => Part::Negative(*negative),
-            Said::Words(text) => Part::Words(text),
-            Said::Trees(named) => Part::Trees(named),
+            Said::Null => MemberValue::Null,
+            Said::Truth(truth) => MemberValue::Truth(*truth),
+            Said::Whole(whole) => MemberValue::Whole(*whole),
+            Said::Negative(negative) => MemberValue::Negative(*negative),
+            Said::Words(text) => MemberValue::Words(text),
+            Said::Trees(named) => MemberValue::Trees(named),
         }
     }
 }
@@ -167,7 +167,7 @@ fn said_from<'a>(alloc: Global, reader: &mut TokenReader<'a>, token: Token<'a>) 
 }
 
 /// What the last member of this name is: a look at each from the last one on, up to it.
-pub(crate) fn part_at<'a>(members: &'a [Member<'a>], name: MemberName) -> Option<Part<'a>>
+pub(crate) fn part_at<'a>(members: &'a [Member<'a>], name: MemberName) -> Option<MemberValue<'a>>
     ensures { option_map part_data result ≡ get_member (name_text name) (put_all members.now no_members) }
 {
     let mut left = members.len();

@@ -14,21 +14,21 @@ use std::marker::Model;
 
 /// Where a text stands among the commas and values around it.
 #[derive(Clone, Copy, Debug, Drop)]
-pub(crate) enum Place {
+pub(crate) enum TokenPlace {
     /// Where a text begins, after a brace that opens, and after a colon.
     Fresh,
     AfterValue,
     AfterComma,
 }
 
-impl Place {
+impl TokenPlace {
     // Whether a key or a value may begin there.
     fn may_begin(self) -> bool
         ensures { result ≡ true ↔ MayBegin self }
     {
         match self {
-            Place::Fresh | Place::AfterComma => true,
-            Place::AfterValue => false,
+            TokenPlace::Fresh | TokenPlace::AfterComma => true,
+            TokenPlace::AfterValue => false,
         }
     }
 
@@ -37,8 +37,8 @@ impl Place {
         ensures { result ≡ true ↔ MayClose self }
     {
         match self {
-            Place::Fresh | Place::AfterValue => true,
-            Place::AfterComma => false,
+            TokenPlace::Fresh | TokenPlace::AfterValue => true,
+            TokenPlace::AfterComma => false,
         }
     }
 }
@@ -48,7 +48,7 @@ impl Place {
 #[derive(Drop)]
 pub(crate) struct PlainTokens<'a> {
     rest: &'a str,
-    place: Place,
+    place: TokenPlace,
 }
 
 impl<'a> Model for PlainTokens<'a> {
@@ -70,7 +70,7 @@ impl<'a> PlainTokens<'a> {
     {
         PlainTokens {
             rest: text,
-            place: Place::Fresh,
+            place: TokenPlace::Fresh,
         }
     }
 
@@ -96,7 +96,7 @@ impl<'a> PlainTokens<'a> {
             return None;
         };
         self.rest = past_first(behind);
-        self.place = Place::Fresh;
+        self.place = TokenPlace::Fresh;
         Some(Some(text))
     }
 
@@ -115,7 +115,7 @@ impl<'a> PlainTokens<'a> {
         }
         let (name, behind) = MemberName::in_front(self.rest)?;
         self.rest = behind;
-        self.place = Place::Fresh;
+        self.place = TokenPlace::Fresh;
         Some(Some(name))
     }
 
@@ -126,7 +126,7 @@ impl<'a> PlainTokens<'a> {
         ensures some { IfSome result (λ token. self.old ≡ token_of token ∷ self.new) }
         ensures none { IfNone result (self.new ≡ self.old) }
     {
-        let Place::Fresh = self.place else {
+        let TokenPlace::Fresh = self.place else {
             return None;
         };
         let rest = past_blanks(self.rest);
@@ -136,7 +136,7 @@ impl<'a> PlainTokens<'a> {
         }
         let (token, behind) = plain_scalar(rest)?;
         self.rest = behind;
-        self.place = Place::AfterValue;
+        self.place = TokenPlace::AfterValue;
         Some(token)
     }
 
@@ -145,7 +145,7 @@ impl<'a> PlainTokens<'a> {
         ensures { result ≡ true → self.now ≡ [] }
     {
         match self.place {
-            Place::AfterValue => past_blanks(self.rest).is_empty(),
+            TokenPlace::AfterValue => past_blanks(self.rest).is_empty(),
             _ => false,
         }
     }
@@ -155,12 +155,12 @@ impl<'a> PlainTokens<'a> {
         ensures { IfSome result (λ text. tokens text.now ≡ self.now) }
     {
         match self.place {
-            Place::Fresh => Some(self.rest),
-            Place::AfterComma => match self.rest.as_bytes() {
+            TokenPlace::Fresh => Some(self.rest),
+            TokenPlace::AfterComma => match self.rest.as_bytes() {
                 [b'"', ..] => Some(self.rest),
                 _ => None,
             },
-            Place::AfterValue => None,
+            TokenPlace::AfterValue => None,
         }
     }
 
@@ -170,11 +170,11 @@ impl<'a> PlainTokens<'a> {
         ensures { self.new ≡ self.old }
     {
         self.rest = past_blanks(self.rest);
-        if let Place::AfterValue = self.place
+        if let TokenPlace::AfterValue = self.place
             && let [b',', ..] = self.rest.as_bytes()
         {
             self.rest = past_blanks(past_first(self.rest));
-            self.place = Place::AfterComma;
+            self.place = TokenPlace::AfterComma;
         }
     }
 
@@ -191,7 +191,7 @@ impl<'a> PlainTokens<'a> {
             return false;
         }
         self.rest = past_first(self.rest);
-        self.place = Place::AfterValue;
+        self.place = TokenPlace::AfterValue;
         true
     }
 }

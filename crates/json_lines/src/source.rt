@@ -1,7 +1,7 @@
 //! Where the members of a message are read: in its outline, or in the value that its bytes are.
 //!
 //! A message is an [`Outline`], of which each member owns what is [`Said`], or one JSON value ([`Message`]).
-//! [`Source`] is either, borrowed; [`Part`] a member of either; [`Object`] a member that is an object.
+//! [`Source`] is either, borrowed; [`MemberValue`] a member of either; [`Object`] a member that is an object.
 ghost use Rattle.std.specs.Prelude.{◌≡◌, option_map, option_and_then, unwrap_or};
 ghost use Rattle.serde_json.specs.Data.{null, no_members};
 ghost use Rattle.serde_json.specs.Find.{get, as_str, as_number, as_u64, as_object};
@@ -12,7 +12,7 @@ ghost use Rattle.json_lines.specs.Outline.{part_data, object_data, source_data, 
 
 use crate::fault::MessageFault;
 use crate::member_name::MemberName;
-use crate::outline::{Member, Outline, Part, Said, part_at};
+use crate::outline::{Member, MemberValue, Outline, Said, part_at};
 use crate::tree_members::TreeMembers;
 use crate::writes::{tree_of, tree_of_value, writes_below};
 use json_tree::Node;
@@ -95,12 +95,12 @@ pub enum Object<'a> {
 
 impl<'a> Source<'a> {
     /// The member of this name, the last one where several have it.
-    pub fn get(self, name: MemberName) -> Option<Part<'a>>
+    pub fn get(self, name: MemberName) -> Option<MemberValue<'a>>
         ensures { option_map part_data result ≡ get (name_text name) (source_data self.entry) }
     {
         match self {
             Source::Outline(members) => part_at(members, name),
-            Source::Held(value) => Some(Part::Held(value.get(name.text())?)),
+            Source::Held(value) => Some(MemberValue::Held(value.get(name.text())?)),
         }
     }
 
@@ -112,16 +112,19 @@ impl<'a> Source<'a> {
     }
 }
 
-impl<'a> Part<'a> {
+impl<'a> MemberValue<'a> {
     /// The text that it is.
     pub fn as_str(self) -> Option<&'a str>
         ensures { option_map (λ text. text.now) result ≡ as_str (part_data self.entry) }
     {
         match self {
-            Part::Words(text) => Some(text),
-            Part::Held(value) => value.as_str(),
-            Part::Null | Part::Truth(_) | Part::Whole(_) | Part::Negative(_) | Part::Trees(_) =>
-                None,
+            MemberValue::Words(text) => Some(text),
+            MemberValue::Held(value) => value.as_str(),
+            MemberValue::Null
+            | MemberValue::Truth(_)
+            | MemberValue::Whole(_)
+            | MemberValue::Negative(_)
+            | MemberValue::Trees(_) => None,
         }
     }
 
@@ -130,10 +133,13 @@ impl<'a> Part<'a> {
         ensures { result ≡ option_and_then as_u64 (as_number (part_data self.entry)) }
     {
         match self {
-            Part::Whole(whole) => Some(whole),
-            Part::Negative(negative) => Value::from(negative).as_u64(),
-            Part::Held(value) => value.as_u64(),
-            Part::Null | Part::Truth(_) | Part::Words(_) | Part::Trees(_) => None,
+            MemberValue::Whole(whole) => Some(whole),
+            MemberValue::Negative(negative) => Value::from(negative).as_u64(),
+            MemberValue::Held(value) => value.as_u64(),
+            MemberValue::Null
+            | MemberValue::Truth(_)
+            | MemberValue::Words(_)
+            | MemberValue::Trees(_) => None,
         }
     }
 
@@ -142,14 +148,17 @@ impl<'a> Part<'a> {
         ensures { option_map object_data result ≡ option_map (λ members. part_data self.entry) (as_object (part_data self.entry)) }
     {
         match self {
-            Part::Trees(named) => Some(Object::Trees(named)),
-            Part::Held(value) => if value.is_object() {
+            MemberValue::Trees(named) => Some(Object::Trees(named)),
+            MemberValue::Held(value) => if value.is_object() {
                 Some(Object::Held(value))
             } else {
                 None
             },
-            Part::Null | Part::Truth(_) | Part::Whole(_) | Part::Negative(_) | Part::Words(_) =>
-                None,
+            MemberValue::Null
+            | MemberValue::Truth(_)
+            | MemberValue::Whole(_)
+            | MemberValue::Negative(_)
+            | MemberValue::Words(_) => None,
         }
     }
 }

@@ -12,11 +12,11 @@ use Rattle.tree_model.proofs.Lawful.{path_length}
 use Rattle.json_tree.specs.declared.leaf.Leaf.{Leaf}
 use Rattle.json_tree.specs.Leaf.{primitive_of}
 use Rattle.json_tree.specs.Node.{tree_of, IsKind, IsSize, IsSized, AreLawfulChildren}
-use Rattle.json_tree.specs.declared.node.Kind.{Kind}
-use Rattle.json_tree.specs.declared.node.Kind.TheVariants.{Primitive, Parent}
+use Rattle.json_tree.specs.declared.node.NodeKind.{NodeKind}
+use Rattle.json_tree.specs.declared.node.NodeKind.TheVariants.{Primitive, Parent}
 use Rattle.json_tree.proofs.Lists.{weaker, all_from_recursion}
 
-pub kind≢null : (k : Kind) → IsKind k → tree_of k ≢ null
+pub kind≢null : (k : NodeKind) → IsKind k → tree_of k ≢ null
 kind≢null (Primitive leaf) h = lone≢null (primitive_of leaf)
 kind≢null (Parent cs deep many) h = graft≢null cs.items h.0
 
@@ -24,17 +24,17 @@ pub depth_within : (t : Tree) → IsLawful t → depth t ≤ MAX_DEPTH
 depth_within t h = depth_le t MAX_DEPTH (λ q there. path_length q (h.paths q there))
 
 -- a node that is a primitive, and one that has children
-pub at_primitive : {k : Kind} {t : Tree} {leaf : Leaf} → tree_of k ≡ t → k ≡ Primitive leaf → t ≡ lone (primitive_of leaf)
+pub at_primitive : {k : NodeKind} {t : Tree} {leaf : Leaf} → tree_of k ≡ t → k ≡ Primitive leaf → t ≡ lone (primitive_of leaf)
 at_primitive view_is is = sym view_is ∙ ap tree_of is
 
-pub at_parent : {k : Kind} {t : Tree} {cs : Vec (Key × Tree) Global} {deep many : ℕ} → tree_of k ≡ t → k ≡ Parent cs deep many → t ≡ graft cs.items
+pub at_parent : {k : NodeKind} {t : Tree} {cs : Vec (Key × Tree) Global} {deep many : ℕ} → tree_of k ≡ t → k ≡ Parent cs deep many → t ≡ graft cs.items
 at_parent view_is is = sym view_is ∙ ap tree_of is
 
-pub parts_at_parent : {k : Kind} {cs : Vec (Key × Tree) Global} {deep many : ℕ} → IsKind k → k ≡ Parent cs deep many → AreLawfulChildren cs.items
+pub parts_at_parent : {k : NodeKind} {cs : Vec (Key × Tree) Global} {deep many : ℕ} → IsKind k → k ≡ Parent cs deep many → AreLawfulChildren cs.items
 parts_at_parent h is = subst IsKind is h
 
 -- and the size of one that has children
-pub size_at_parent : {k : Kind} {cs : Vec (Key × Tree) Global} {deep many : ℕ} → IsSized k → k ≡ Parent cs deep many → IsSize (graft cs.items) deep many
+pub size_at_parent : {k : NodeKind} {cs : Vec (Key × Tree) Global} {deep many : ℕ} → IsSized k → k ≡ Parent cs deep many → IsSize (graft cs.items) deep many
 size_at_parent h is = subst IsSized is h
 
 -- lawful children leave room for their keys

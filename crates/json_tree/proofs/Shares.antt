@@ -12,8 +12,8 @@ use Rattle.tree_model.proofs.Grafts.{depth-graft}
 use Rattle.json_tree.specs.Node.{AreLawfulChildren, IsNode}
 use Rattle.json_tree.specs.Working.Share.{deepest, IsSizeOf, Exchanges}
 use Rattle.json_tree.specs.declared.share.Exchange.{Exchange}
-use Rattle.json_tree.specs.declared.node.Kind.{Kind}
-use Rattle.json_tree.specs.declared.node.Kind.TheVariants.{Parent}
+use Rattle.json_tree.specs.declared.node.NodeKind.{NodeKind}
+use Rattle.json_tree.specs.declared.node.NodeKind.TheVariants.{Parent}
 use Rattle.json_tree.proofs.Nodes.{parts_at_parent, size_at_parent}
 
 -- ---- the greatest of a list of which one element changes
@@ -131,7 +131,7 @@ set_there cs i c x h is = is ∙ get_or-set_same cs i c x h
 -- ---- what the parent has then
 
 -- what a parent keeps beside its children
-pub size_of_node : {k : Kind} {cs : Vec (Key × Tree) Global} {deep many : ℕ} → IsNode k → k ≡ Parent cs deep many → IsSizeOf cs.items deep many
+pub size_of_node : {k : NodeKind} {cs : Vec (Key × Tree) Global} {deep many : ℕ} → IsNode k → k ≡ Parent cs deep many → IsSizeOf cs.items deep many
 size_of_node {cs = cs} node is =
     let parts = parts_at_parent node.parts is in
     let size = size_at_parent node.sized is in

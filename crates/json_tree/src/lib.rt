@@ -26,6 +26,6 @@ pub use json_value::{ValueFault, from_json, from_value, to_json};
 pub use key::{Key, KeyFault, copy_keys, is_lawful_key, key_front};
 pub use leaf::{Leaf, LeafText, Number};
 pub use memory::NoMemory;
-pub use node::{Child, Node, Place};
+pub use node::{Child, ChildPlace, Node};
 pub use puts::put;
 pub use undo::{Undo, put_with_undo};

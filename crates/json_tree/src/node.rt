@@ -30,12 +30,12 @@ const AROUND_A_KEY: usize = 4;
 #[cycle(node)]
 #[derive(Debug, Drop)]
 pub struct Node {
-    pub(crate) kind: Kind,
+    pub(crate) kind: NodeKind,
 }
 
 #[cycle(node)]
 #[derive(Debug, Drop)]
-pub(crate) enum Kind {
+pub(crate) enum NodeKind {
     Primitive(Leaf),
     Parent {
         // Ascending by the bytes of the keys, at least one.
@@ -59,7 +59,7 @@ pub struct Child {
 
 /// Where a key stands among the children of a node.
 #[derive(Clone, Copy)]
-pub struct Place<'a> {
+pub struct ChildPlace<'a> {
     /// The child of the key, if there is one.
     pub child: Option<&'a Node>,
     /// How many children stand before the key, whether there is one at it or not.
@@ -193,7 +193,7 @@ impl Node {
     {
         leaf.law();
         Ok(Node {
-            kind: Kind::Primitive(leaf),
+            kind: NodeKind::Primitive(leaf),
         })
     }
 
@@ -207,7 +207,7 @@ impl Node {
     {
         let (depth, count) = sizes_of(&children);
         Ok(Node {
-            kind: Kind::Parent {
+            kind: NodeKind::Parent {
                 children,
                 depth,
                 count,
@@ -220,8 +220,8 @@ impl Node {
         ensures { option_map (λ leaf. primitive_of leaf.now) result ≡ get self.now [] }
     {
         match &self.kind {
-            Kind::Primitive(leaf) => Some(leaf),
-            Kind::Parent { .. } => None,
+            NodeKind::Primitive(leaf) => Some(leaf),
+            NodeKind::Parent { .. } => None,
         }
     }
 
@@ -231,25 +231,25 @@ impl Node {
             ≡ non_null (sub self.now (name.now ∷ [])) }
     {
         match &self.kind {
-            Kind::Primitive(_) => None,
-            Kind::Parent { children, .. } => place_of(children, name).child,
+            NodeKind::Primitive(_) => None,
+            NodeKind::Parent { children, .. } => place_of(children, name).child,
         }
     }
 
     /// The child of this key with how many children stand before the key, by one binary search: log w
     /// of w children.
-    pub fn place(&self, name: &str) -> Place<'_>
+    pub fn place(&self, name: &str) -> ChildPlace<'_>
         ensures child { option_map (λ node. node.now) result.child
             ≡ non_null (sub self.now (name.now ∷ [])) }
         ensures before { result.before
             ≡ count_by (λ key. is_lt (key_cmp key name.now)) (child_keys self.now) }
     {
         match &self.kind {
-            Kind::Primitive(_) => Place {
+            NodeKind::Primitive(_) => ChildPlace {
                 child: None,
                 before: 0,
             },
-            Kind::Parent { children, .. } => place_of(children, name),
+            NodeKind::Parent { children, .. } => place_of(children, name),
         }
     }
 
@@ -258,8 +258,8 @@ impl Node {
         ensures { result ≡ length (child_keys self.now) }
     {
         match &self.kind {
-            Kind::Primitive(_) => 0,
-            Kind::Parent { children, .. } => children.len(),
+            NodeKind::Primitive(_) => 0,
+            NodeKind::Parent { children, .. } => children.len(),
         }
     }
 
@@ -268,8 +268,8 @@ impl Node {
         ensures { option_map (λ key. key.now) result ≡ slice_get (child_keys self.now) i }
     {
         match &self.kind {
-            Kind::Primitive(_) => None,
-            Kind::Parent { children, .. } => key_of(children, i),
+            NodeKind::Primitive(_) => None,
+            NodeKind::Parent { children, .. } => key_of(children, i),
         }
     }
 
@@ -287,8 +287,8 @@ impl Node {
         ensures { result ≡ depth self.now }
     {
         match &self.kind {
-            Kind::Primitive(_) => 0,
-            Kind::Parent { depth, .. } => *depth,
+            NodeKind::Primitive(_) => 0,
+            NodeKind::Parent { depth, .. } => *depth,
         }
     }
 
@@ -298,8 +298,8 @@ impl Node {
         ensures { result ≡ min (count self.now) usize.MAX }
     {
         match &self.kind {
-            Kind::Primitive(_) => 1,
-            Kind::Parent { count, .. } => *count,
+            NodeKind::Primitive(_) => 1,
+            NodeKind::Parent { count, .. } => *count,
         }
     }
 
@@ -310,12 +310,12 @@ impl Node {
         ensures { IfOk result (λ node. node ≡ self.now) }
     {
         let kind = match &self.kind {
-            Kind::Primitive(leaf) => Kind::Primitive(leaf.copy(alloc)?),
-            Kind::Parent {
+            NodeKind::Primitive(leaf) => NodeKind::Primitive(leaf.copy(alloc)?),
+            NodeKind::Parent {
                 children,
                 depth,
                 count,
-            } => Kind::Parent {
+            } => NodeKind::Parent {
                 children: copy_of(alloc, children)?,
                 depth: *depth,
                 count: *count,
@@ -329,8 +329,8 @@ impl Node {
     #[cycle(room)]
     pub(crate) fn text_room(&self) -> usize {
         match &self.kind {
-            Kind::Primitive(leaf) => leaf.text_room(),
-            Kind::Parent { children, .. } => {
+            NodeKind::Primitive(leaf) => leaf.text_room(),
+            NodeKind::Parent { children, .. } => {
                 let keys = room_of_keys(children);
                 keys.saturating_add(room_below(children))
             }
@@ -344,8 +344,8 @@ impl Node {
         ensures graft { get self.now [] ≡ None → self.now ≡ graft result.now }
     {
         match &self.kind {
-            Kind::Primitive(_) => &[],
-            Kind::Parent { children, .. } => children.as_slice(),
+            NodeKind::Primitive(_) => &[],
+            NodeKind::Parent { children, .. } => children.as_slice(),
         }
     }
 
@@ -381,7 +381,7 @@ pub(crate) fn sizes_of(children: &Vec<Child>) -> (usize, usize)
     (depth, count)
 }
 
-fn place_of<'a>(children: &'a Vec<Child>, name: &str) -> Place<'a>
+fn place_of<'a>(children: &'a Vec<Child>, name: &str) -> ChildPlace<'a>
     requires { AreChildren children.now.items }
     ensures child { option_map (λ node. node.now) result.child
         ≡ non_null (sub (graft children.now.items) (name.now ∷ [])) }
@@ -389,11 +389,11 @@ fn place_of<'a>(children: &'a Vec<Child>, name: &str) -> Place<'a>
         (map (λ child. child.0) children.now.items) }
 {
     match index_of(children, name) {
-        Ok(index) => Place {
+        Ok(index) => ChildPlace {
             child: Some(children[index].node()),
             before: index,
         },
-        Err(index) => Place {
+        Err(index) => ChildPlace {
             child: None,
             before: index,
         },

@@ -13,7 +13,7 @@ ghost use Rattle.json_tree.specs.Working.Share.{Exchanges};
 use crate::key::Key;
 use crate::leaf::Leaf;
 use crate::memory::NoMemory;
-use crate::node::{Child, Kind, Node, index_of};
+use crate::node::{Child, Node, NodeKind, index_of};
 use crate::share::{Exchange, NO_EXCHANGE, NO_SHARE, share_of, sizes_after};
 use std::alloc::Global;
 use std::mem::{replace, swap};
@@ -119,13 +119,13 @@ fn insert(
         return Ok(true);
     };
     match &mut node.kind {
-        Kind::Primitive(_) => {
+        NodeKind::Primitive(_) => {
             value.law();
             let parent = only_child(alloc, key, chain(alloc, rest, taken(value))?)?;
             *value = replace(node, parent);
             Ok(true)
         }
-        Kind::Parent {
+        NodeKind::Parent {
             children,
             depth,
             count,
@@ -193,7 +193,7 @@ fn taken(value: &mut Node) -> Node
     ensures { result ≡ value.old }
 {
     let nothing = Node {
-        kind: Kind::Primitive(Leaf::Truth(false)),
+        kind: NodeKind::Primitive(Leaf::Truth(false)),
     };
     replace(value, nothing)
 }
@@ -245,7 +245,7 @@ fn remove(node: &mut Node, path: &[Key]) -> bool
     let [key, rest @ ..] = path else {
         return true;
     };
-    let Kind::Parent {
+    let NodeKind::Parent {
         children,
         depth,
         count,

@@ -15,9 +15,9 @@ use Rattle.listeners.specs.Selection.{Child, beside, is_within}
 use Rattle.listeners.specs.declared.item.Item.{Item}
 use Rattle.listeners.specs.Working.Items.{item_seen, rank_seen}
 use Rattle.listeners.specs.Working.Ranks.{Rank, Marks, rank_of, mark_of, mark_cmp, marks_of, is_between, numbered, ranked}
-use Rattle.listeners.specs.declared.reach.Part.{Part}
+use Rattle.listeners.specs.declared.reach.Stretch.{Stretch}
 use Rattle.listeners.specs.declared.reach.Reach.{Reach}
-use Rattle.listeners.specs.Working.Reach.{is_looked_at, ranks_between, IsPart}
+use Rattle.listeners.specs.Working.Reach.{is_looked_at, ranks_between, IsStretch}
 
 -- ---- bounds, as ranks stand beside them
 
@@ -129,15 +129,15 @@ module _ (query : Query) (cs : List Child) where
         ∙ append_assoc (looked_upto i) (between i (i + k)) (one)
         ∙ ap (λ rs. looked_upto i ++ rs) (sym (between_next i (i + k) d (omega arith) (omega arith)) ∙ ap (between i) (sym sum))
 
-    -- a part of the walk
-    pub looked_part : (from : ℕ) (part : Part) → IsPart reach from (length cs) part → looked_upto part.end ≡ looked_upto from ++ between part.from part.to
-    looked_part from part is =
+    -- a stretch of the walk
+    pub looked_stretch : (from : ℕ) (stretch : Stretch) → IsStretch reach from (length cs) stretch → looked_upto stretch.end ≡ looked_upto from ++ between stretch.from stretch.to
+    looked_stretch from stretch is =
         let start = is.start in let order = is.order in let end = is.end in let within = is.within in
-        let sum : part.from + (part.to - part.from) ≡ part.to = omega arith in
-        listed_past query.order cs looked part.to part.end end within (λ k d low high. and_left (is_looked_at reach k) (is_within query (get_or cs k d)) (is.behind k low high))
+        let sum : stretch.from + (stretch.to - stretch.from) ≡ stretch.to = omega arith in
+        listed_past query.order cs looked stretch.to stretch.end end within (λ k d low high. and_left (is_looked_at reach k) (is_within query (get_or cs k d)) (is.behind k low high))
         ∙ ap looked_upto (sym sum)
-        ∙ looked_between part.from (part.to - part.from) (omega arith) (λ j low high. is.inside j low (omega arith))
-        ∙ (λ i. listed_past query.order cs looked from part.from start (omega arith) (λ k d low high. and_left (is_looked_at reach k) (is_within query (get_or cs k d)) (is.before k low high)) i ++ between part.from (sum i))
+        ∙ looked_between stretch.from (stretch.to - stretch.from) (omega arith) (λ j low high. is.inside j low (omega arith))
+        ∙ (λ i. listed_past query.order cs looked from stretch.from start (omega arith) (λ k d low high. and_left (is_looked_at reach k) (is_within query (get_or cs k d)) (is.before k low high)) i ++ between stretch.from (sum i))
 
 -- ---- a turn of the loop
 

@@ -10,7 +10,7 @@ use Rattle.tree_model.specs.Key.{Key, key_cmp}
 use Rattle.tree_model.specs.Primitive.{Primitive, truth, whole, words}
 use Rattle.tree_model.proofs.Orders.{keys_total, exact_keys}
 use Rattle.listeners.specs.Working.Ranks.{Rank, keyed, keyed_cmp, rank_cmp}
-use Rattle.listeners.specs.Order.{number_of, numbered_cmp, length_cmp, list_cmp, Place, nothing, value, location, place_cmp, primitive_cmp}
+use Rattle.listeners.specs.Order.{number_of, numbered_cmp, length_cmp, list_cmp, SortPlace, nothing, value, location, place_cmp, primitive_cmp}
 
 -- two orders in one place are one
 pub same_total : {X : Type 0} (R S : X → X → Ordering) → ((x y : X) → R x y ≡ S x y) → IsTotalOrder S → IsTotalOrder R
@@ -71,14 +71,14 @@ list_exact k l h = exact_keys k l (then_tied _ _ (then_tied (numbered_cmp (numbe
 
 -- ---- values
 
-abbrev kind : Place → ℕ
+abbrev kind : SortPlace → ℕ
 kind nothing = 0
 kind (value (truth b)) = 1
 kind (value (whole z)) = 2
 kind (value (words s)) = 3
 kind location = 4
 
-abbrev bit : Place → ℕ
+abbrev bit : SortPlace → ℕ
 bit nothing = 0
 bit (value (truth false)) = 0
 bit (value (truth true)) = 1
@@ -86,21 +86,21 @@ bit (value (whole z)) = 0
 bit (value (words s)) = 0
 bit location = 0
 
-abbrev whole_in : Place → ℤ
+abbrev whole_in : SortPlace → ℤ
 whole_in nothing = pos 0
 whole_in (value (truth b)) = pos 0
 whole_in (value (whole z)) = z
 whole_in (value (words s)) = pos 0
 whole_in location = pos 0
 
-abbrev words_in : Place → List ℕ
+abbrev words_in : SortPlace → List ℕ
 words_in nothing = []
 words_in (value (truth b)) = []
 words_in (value (whole z)) = []
 words_in (value (words s)) = s
 words_in location = []
 
-abbrev place_by : Place → Place → Ordering
+abbrev place_by : SortPlace → SortPlace → Ordering
 place_by = then_cmp (on kind nat_cmp) (then_cmp (on bit nat_cmp) (then_cmp (on whole_in int_cmp) (on words_in key_cmp)))
 
 then_equal : (o : Ordering) → o ≡ ordering_then o Equal
@@ -108,7 +108,7 @@ then_equal Less = refl
 then_equal Equal = refl
 then_equal Greater = refl
 
-place_cmp-by : (p q : Place) → place_cmp p q ≡ place_by p q
+place_cmp-by : (p q : SortPlace) → place_cmp p q ≡ place_by p q
 unfolding place_cmp
 place_cmp-by nothing nothing = refl
 place_cmp-by nothing (value (truth b)) = refl

@@ -14,14 +14,14 @@ use Rattle.listeners.specs.Selection.{Child, is_within}
 use Rattle.listeners.specs.declared.item.Item.{Item}
 use Rattle.listeners.specs.declared.order.Limit.{Limit}
 use Rattle.listeners.specs.declared.order.Limit.TheVariants.{First, Last}
-use Rattle.listeners.specs.declared.reach.Part.{Part}
+use Rattle.listeners.specs.declared.reach.Stretch.{Stretch}
 use Rattle.listeners.specs.declared.reach.Reach.{Reach}
 use Rattle.listeners.specs.Working.Ahead.{number_in, is_ahead, count_ahead}
 use Rattle.listeners.specs.Working.Items.{item_seen, rank_seen}
 use Rattle.listeners.specs.Working.Parts.{first_of, last_of}
 use Rattle.listeners.specs.Working.Ranks.{Rank, Marks, rank_of, marks_of, is_between, is_among, ranked, count_before, count_behind, is_kept_of}
-use Rattle.listeners.specs.Working.Reach.{ranks_between, IsPart}
-use Rattle.listeners.proofs.Listing.{listed_upto, listed_next, is_within-between, looked_part, looked_upto}
+use Rattle.listeners.specs.Working.Reach.{ranks_between, IsStretch}
+use Rattle.listeners.proofs.Listing.{listed_upto, listed_next, is_within-between, looked_stretch, looked_upto}
 
 -- ---- by a limit
 
@@ -132,14 +132,14 @@ module _ (query : Query) (cs : List Child) (limit : Limit) (r : Rank) (i : ℕ) 
   pub tested_from : (from : ℕ) (b : Bool) → from ≤ i → b ≡ is_within query child && is_ahead limit r (rank_of query.order child) → b ≡ (nat_le from i && is_within query child) && is_ahead limit r (rank_of query.order child)
   tested_from from b past is = is ∙ ap (λ c. (c && is_within query child) && is_ahead limit r (rank_of query.order child)) (sym (le-leb from i past))
 
--- ---- part by part
+-- ---- stretch by stretch
 
-pub part_counted : (query : Query) (cs : List Child) (limit : Limit) (r : Rank) (reach : Reach) (from : ℕ) (part : Part) (room left : ℕ) → IsPart reach from (length cs) part
+pub stretch_counted : (query : Query) (cs : List Child) (limit : Limit) (r : Rank) (reach : Reach) (from : ℕ) (stretch : Stretch) (room left : ℕ) → IsStretch reach from (length cs) stretch
     → room ≡ number_in limit - count_ahead limit r (looked_upto query cs reach from)
-    → left ≡ room - count_ahead limit r (ranks_between query cs part.from part.to)
-    → left ≡ number_in limit - count_ahead limit r (looked_upto query cs reach part.end)
-part_counted query cs limit r reach from part room left is so_far here =
-    let sum = ap (count_ahead limit r) (looked_part query cs reach from part is) ∙ count-append limit r (looked_upto query cs reach from) (ranks_between query cs part.from part.to) in
+    → left ≡ room - count_ahead limit r (ranks_between query cs stretch.from stretch.to)
+    → left ≡ number_in limit - count_ahead limit r (looked_upto query cs reach stretch.end)
+stretch_counted query cs limit r reach from stretch room left is so_far here =
+    let sum = ap (count_ahead limit r) (looked_stretch query cs reach from stretch is) ∙ count-append limit r (looked_upto query cs reach from) (ranks_between query cs stretch.from stretch.to) in
     omega (arith, sum, so_far, here)
 
 -- ---- a child that is not among the others

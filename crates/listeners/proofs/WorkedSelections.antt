@@ -18,7 +18,7 @@ use Rattle.tree_model.proofs.Orders.{keys_total, paths_total}
 use Rattle.tree_model.proofs.WorkedValues.{in_order, tree_of_pairs-entries, same_listed}
 use Rattle.arena_snapshot.specs.Working.Change.{entries_of}
 use Rattle.listeners.specs.Query.{Query}
-use Rattle.listeners.specs.Order.{Place, nothing, value, location, place_cmp, list_cmp}
+use Rattle.listeners.specs.Order.{SortPlace, nothing, value, location, place_cmp, list_cmp}
 use Rattle.listeners.specs.Selection.{Child, place_of, child_cmp, beside, is_within, within, is_kept, selected}
 use Rattle.listeners.proofs.Counts.{filter-map, count-map}
 
@@ -82,7 +82,7 @@ null-listed : (es : Pairs) → is_null (tree_of_pairs es) ≡ (length (in_order 
 null-listed es = ap (λ n. n == 0) (map_of.len-entries (tree_of_pairs es) ∙ ap length (tree_of_pairs-entries es))
 
 -- what stands at the root of a tree that is written out
-abbrev pub place_listed : Pairs → Place
+abbrev pub place_listed : Pairs → SortPlace
 place_listed es = option_map_or (λ v. value v) (find path_cmp [] es) (cond (length (in_order path_cmp es) == 0) nothing location)
 
 pub place-listed : (es : Pairs) → place_of (tree_of_pairs es) ≡ place_listed es
@@ -91,7 +91,7 @@ place-listed es = λ i. option_map_or (λ v. value v) (map_of.get-from_entries p
 pub place-below : (es : Pairs) (p : Path) → place_of (sub (tree_of_pairs es) p) ≡ place_listed (pairs_below es p)
 place-below es p = ap place_of (sub-listed es p) ∙ place-listed (pairs_below es p)
 
-module _ (query : Query) (place : Key × Pairs → Place) (cs : List (Key × Pairs)) where
+module _ (query : Query) (place : Key × Pairs → SortPlace) (cs : List (Key × Pairs)) where
   abbrev pub cmp_listed : Key × Pairs → Key × Pairs → Ordering
   cmp_listed c d = ordering_then (place_cmp (place c) (place d)) (list_cmp c.0 d.0)
 

@@ -59,10 +59,10 @@ list_cmp k l = ordering_then (numbered_cmp (number_of k) (number_of l)) (orderin
 -- ---- value order. (The same section: orderByChild and orderByValue.)
 
 -- an order value that is no key: nothing, a primitive, or a location with children
-pub data Place : Type 0 where
-  nothing : Place
-  value : Primitive → Place
-  location : Place
+pub data SortPlace : Type 0 where
+  nothing : SortPlace
+  value : Primitive → SortPlace
+  location : SortPlace
 
 -- false, then true
 abbrev pub bool_cmp : Bool → Bool → Ordering
@@ -84,7 +84,7 @@ primitive_cmp (words s) (whole y) = Greater
 primitive_cmp (words s) (words t) = key_cmp s t
 
 -- nothing, then primitives, then locations with children, which are all equal
-unfoldable pub place_cmp : Place → Place → Ordering
+unfoldable pub place_cmp : SortPlace → SortPlace → Ordering
 place_cmp nothing nothing = Equal
 place_cmp nothing (value w) = Less
 place_cmp nothing location = Less

@@ -9,7 +9,7 @@ use Rattle.tree_model.specs.PathMap.{get, is_null, sub}
 use Rattle.tree_model.specs.Primitive.{Primitive, truth, whole, words}
 use Rattle.tree_model.specs.Tree.{Tree, children}
 use Rattle.tree_model.specs.Children.{graft}
-use Rattle.listeners.specs.Order.{Place, nothing, value, location, place_cmp, list_cmp}
+use Rattle.listeners.specs.Order.{SortPlace, nothing, value, location, place_cmp, list_cmp}
 use Rattle.listeners.specs.Query.{Order, by_key, by_value, by_child, Query}
 
 -- a child: its key and its subtree
@@ -19,7 +19,7 @@ Child = Key × Tree
 -- ---- the order of children. (Guide "Work with Lists of Data", how query data is ordered.)
 
 -- what stands at the root of a tree, as an order value
-abbrev pub place_of : Tree → Place
+abbrev pub place_of : Tree → SortPlace
 place_of t = option_map_or (λ v. value v) (get t []) (if is_null t then nothing else location)
 
 -- by their order values in this order, children of equal ones by their keys, of which numbers come first (this project's profile); without an order, by their keys

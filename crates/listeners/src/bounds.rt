@@ -10,7 +10,7 @@ ghost use Rattle.listeners.specs.Working.Ranks.{key_in, mark_of, mark_cmp, is_be
 use crate::item::Item;
 use crate::list_key::ListKey;
 use crate::order::Order;
-use crate::place::{Place, compare, is_value};
+use crate::place::{SortPlace, compare, is_value};
 use json_tree::Leaf;
 use std::cmp::Ordering;
 
@@ -75,7 +75,7 @@ fn beside(item: &Item<'_>, mark: &Mark<'_>) -> Ordering
 {
     match mark {
         Mark::Key(key) => item.key.compare(key),
-        Mark::Value(leaf) => compare(&item.place, &Place::Value(leaf)),
+        Mark::Value(leaf) => compare(&item.place, &SortPlace::Value(leaf)),
     }
 }
 

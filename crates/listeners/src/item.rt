@@ -9,7 +9,7 @@ ghost use Rattle.listeners.specs.Working.Ranks.{place_by, rank_of, ranked};
 
 use crate::list_key::ListKey;
 use crate::order::Order;
-use crate::place::{Place, compare, place_of};
+use crate::place::{SortPlace, compare, place_of};
 use arena_snapshot::View;
 use std::cmp::Ordering;
 
@@ -17,7 +17,7 @@ use std::cmp::Ordering;
 #[derive(Clone, Copy)]
 pub(crate) struct Item<'a> {
     pub(crate) index: usize,
-    pub(crate) place: Place<'a>,
+    pub(crate) place: SortPlace<'a>,
     pub(crate) key: ListKey<'a>,
 }
 
@@ -56,20 +56,20 @@ impl<'a> Item<'a> {
 }
 
 // By what a child is ordered. By keys all children are in one place.
-fn place_by<'a>(child: &View<'a>, order: &Option<Order>) -> Place<'a>
+fn place_by<'a>(child: &View<'a>, order: &Option<Order>) -> SortPlace<'a>
     ensures { (key : KeyBytes) → place_seen result ≡ place_by (option_map order_seen order.now) (key, child.now) }
 {
     match order {
         Some(order) => place_in(child, order),
-        None => Place::Nothing,
+        None => SortPlace::Nothing,
     }
 }
 
-fn place_in<'a>(child: &View<'a>, order: &Order) -> Place<'a>
+fn place_in<'a>(child: &View<'a>, order: &Order) -> SortPlace<'a>
     ensures { (key : KeyBytes) → place_seen result ≡ place_by (Some (order_seen order.now)) (key, child.now) }
 {
     match order {
-        Order::Key => Place::Nothing,
+        Order::Key => SortPlace::Nothing,
         Order::Value => place_of(Some(child.share())),
         Order::Child(below) => place_of(child.at(&below.path)),
     }

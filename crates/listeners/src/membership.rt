@@ -17,7 +17,7 @@ use crate::bounds::Bounds;
 use crate::item::Item;
 use crate::order::Limit;
 use crate::query::Query;
-use crate::reach::Part;
+use crate::reach::Stretch;
 use arena_snapshot::View;
 
 /// Whether a query selects the child of a key, if one stands there. The child is found by a binary search, and
@@ -115,29 +115,29 @@ fn are_few_ahead(view: &View<'_>, query: &Query, limit: Limit, item: &Item<'_>) 
     let mut room = limit.number();
     let mut from = 0;
     while from < view.width() {
-        let part = reach.part(from, view.width());
-        room = room_left(view, query, limit, item, part, room);
-        from = part.end;
+        let stretch = reach.stretch(from, view.width());
+        room = room_left(view, query, limit, item, stretch, room);
+        from = stretch.end;
     }
     room > 0
 }
 
-// What is left of the room where each child of a part takes some that is within the bounds and stands ahead.
+// What is left of the room where each child of a stretch takes some that is within the bounds and stands ahead.
 fn room_left(
     view: &View<'_>,
     query: &Query,
     limit: Limit,
     item: &Item<'_>,
-    part: Part,
+    stretch: Stretch,
     room: usize,
 ) -> usize
-    requires order { part.from ≤ part.to }
-    requires within { part.to ≤ length (child_keys view.now) }
-    ensures { result ≡ room - count_ahead limit (rank_seen item.now) (ranks_between query.now (entries_of view.now) part.from part.to) }
+    requires order { stretch.from ≤ stretch.to }
+    requires within { stretch.to ≤ length (child_keys view.now) }
+    ensures { result ≡ room - count_ahead limit (rank_seen item.now) (ranks_between query.now (entries_of view.now) stretch.from stretch.to) }
 {
     let bounds = query.bounds();
     let mut left = room;
-    for i in part.from..part.to {
+    for i in stretch.from..stretch.to {
         if left == 0 {
             return 0;
         }

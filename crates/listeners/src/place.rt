@@ -14,49 +14,50 @@ use std::cmp::Ordering;
 
 // Nothing, a primitive, or children.
 #[derive(Clone, Copy)]
-pub(crate) enum Place<'a> {
+pub(crate) enum SortPlace<'a> {
     Nothing,
     Value(&'a Leaf),
     Location,
 }
 
 // What stands at the root of a tree.
-pub(crate) fn place_of<'a>(view: Option<View<'a>>) -> Place<'a>
+pub(crate) fn place_of<'a>(view: Option<View<'a>>) -> SortPlace<'a>
     ensures { place_seen result ≡ place_of (tree_or_null view.entry) }
 {
     match view {
         Some(view) => {
             view.law();
             match view.leaf() {
-                Some(leaf) => Place::Value(leaf),
-                None => Place::Location,
+                Some(leaf) => SortPlace::Value(leaf),
+                None => SortPlace::Location,
             }
         }
-        None => Place::Nothing,
+        None => SortPlace::Nothing,
     }
 }
 
 // Whether it is this primitive, which takes less than to find where it stands beside it.
 #[tactic(auto, unfolding(crate::specs::Order::place_cmp), using(crate::proofs::Orders::same_place))]
-pub(crate) fn is_value(place: &Place<'_>, leaf: &Leaf) -> bool
+pub(crate) fn is_value(place: &SortPlace<'_>, leaf: &Leaf) -> bool
     ensures { result ≡ is_eq (place_cmp (place_seen place.now) (orders.value (primitive_of leaf.now))) }
 {
     match place {
-        Place::Value(own) => is_same_leaf(own, leaf),
-        Place::Nothing | Place::Location => false,
+        SortPlace::Value(own) => is_same_leaf(own, leaf),
+        SortPlace::Nothing | SortPlace::Location => false,
     }
 }
 
 // Nothing comes first, then primitives, then locations with children, which are all equal.
 #[tactic(auto, unfolding(crate::specs::Order::place_cmp))]
-pub(crate) fn compare(place: &Place<'_>, other: &Place<'_>) -> Ordering
+pub(crate) fn compare(place: &SortPlace<'_>, other: &SortPlace<'_>) -> Ordering
     ensures { result ≡ place_cmp (place_seen place.now) (place_seen other.now) }
 {
     match (place, other) {
-        (Place::Nothing, Place::Nothing) | (Place::Location, Place::Location) => Ordering::Equal,
-        (Place::Value(leaf), Place::Value(other)) => compare_leaves(leaf, other),
-        (Place::Nothing, _) | (_, Place::Location) => Ordering::Less,
-        (Place::Location, _) | (_, Place::Nothing) => Ordering::Greater,
+        (SortPlace::Nothing, SortPlace::Nothing) | (SortPlace::Location, SortPlace::Location) =>
+            Ordering::Equal,
+        (SortPlace::Value(leaf), SortPlace::Value(other)) => compare_leaves(leaf, other),
+        (SortPlace::Nothing, _) | (_, SortPlace::Location) => Ordering::Less,
+        (SortPlace::Location, _) | (_, SortPlace::Nothing) => Ordering::Greater,
     }
 }
 

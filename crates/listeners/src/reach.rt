@@ -1,7 +1,7 @@
 //! Which children are looked at for a query.
 ghost use Rattle.std.specs.Prelude.{◌≡◌, ◌<◌, ◌≤◌, ◌+◌, ◌↔◌, ℕ, true, option_map, IfSome, IsTrue};
 ghost use Rattle.arena_snapshot.specs.Working.Change.{entries_of};
-ghost use Rattle.listeners.specs.Working.Reach.{is_looked_at, passes, IsStart, IsEnd, IsEqual, IsReach, IsTextSpan, IsTextRun, IsUpToFirst, IsFromLast, IsLimited, IsPart};
+ghost use Rattle.listeners.specs.Working.Reach.{is_looked_at, passes, IsStart, IsEnd, IsEqual, IsReach, IsTextSpan, IsTextRun, IsUpToFirst, IsFromLast, IsLimited, IsStretch};
 ghost use Rattle.listeners.specs.Working.Parts.{first_of, last_of};
 
 use crate::digits::Digits;
@@ -19,7 +19,7 @@ pub(crate) struct Span {
 
 // A stretch of children up to `end`, of which those from `from` up to `to` are looked at.
 #[derive(Clone, Copy)]
-pub(crate) struct Part {
+pub(crate) struct Stretch {
     pub(crate) from: usize,
     pub(crate) to: usize,
     pub(crate) end: usize,
@@ -185,9 +185,9 @@ impl Reach {
     }
 
     // The children from an index on, up to where keys begin or cease to be numbers.
-    pub(crate) fn part(&self, from: usize, width: usize) -> Part
+    pub(crate) fn stretch(&self, from: usize, width: usize) -> Stretch
         requires { from < width }
-        ensures { IsPart self.now from width result }
+        ensures { IsStretch self.now from width result }
     {
         let end = self.digits.stretch_end(from, width);
         let first = self.from.max(from).min(end);
@@ -196,7 +196,7 @@ impl Reach {
         } else {
             self.to
         };
-        Part {
+        Stretch {
             from: first,
             to: to.min(end).max(first),
             end,

@@ -85,9 +85,9 @@ fn within<'s, 'a>(
     let mut items = Vec::new(scratch);
     let mut from = 0;
     while from < view.width() {
-        let part = reach.part(from, view.width());
-        add_within(&mut items, view, query, part.from, part.to)?;
-        from = part.end;
+        let stretch = reach.stretch(from, view.width());
+        add_within(&mut items, view, query, stretch.from, stretch.to)?;
+        from = stretch.end;
     }
     Ok(items)
 }

@@ -14,7 +14,7 @@ use Rattle.atomic_table.specs.Table.{State as TableState, Me, step, Act, keeps, 
 use Rattle.atomic_table.proofs.Lists.{at_set, at_snoc, at_longer, set_else, set_again, exchanged}
 use Rattle.rtdb_model.specs.State.{State}
 use Rattle.locked_server.specs.declared.entry.Entry.{Entry}
-use Rattle.locked_server.specs.declared.view.Part.{Part}
+use Rattle.locked_server.specs.declared.view.HistoryPart.{HistoryPart}
 use Rattle.locked_server.specs.declared.content.LastCall.{LastCall}
 use Rattle.locked_server.specs.declared.content.Content.{Content}
 use Rattle.locked_server.specs.declared.view.View.{View}
@@ -29,11 +29,11 @@ use Rattle.locked_server.proofs.Histories.{stands}
 pub empty_fits : (log : List Entry) (next : ℕ) (owner : ℕ → ℕ × Bool) (at : ℕ × Bool) (seen : List Entry) → IsPrefix seen log → PartFits log next owner at (part seen [])
 empty_fits log next owner at seen pre = record { begins = pre; whole = calls_of-none log ∙ sym (calls_of-none seen); owns = λ n h. absurd (cc h) }
 
-part_owned : (log : List Entry) (next next' : ℕ) (owner owner' : ℕ → ℕ × Bool) (at : ℕ × Bool) (p : Part) → next ≤ next' → ((n : ℕ) → IsTrue (is_in p.numbers n) → n < next → owner n ≡ at → owner' n ≡ at)
+part_owned : (log : List Entry) (next next' : ℕ) (owner owner' : ℕ → ℕ × Bool) (at : ℕ × Bool) (p : HistoryPart) → next ≤ next' → ((n : ℕ) → IsTrue (is_in p.numbers n) → n < next → owner n ≡ at → owner' n ≡ at)
     → PartFits log next owner at p → PartFits log next' owner' at p
 part_owned log next next' owner owner' at p le same f = record { begins = f.begins; whole = f.whole; owns = λ n h. let o = f.owns n h in let a : n < next = o.0 in (omega arith, same n h a o.1) }
 
-part_longer : (log : List Entry) (next : ℕ) (owner : ℕ → ℕ × Bool) (at : ℕ × Bool) (p : Part) (e : Entry) → (owner e.seat ≢ at) → PartFits log next owner at p → PartFits (log ++ e ∷ []) next owner at p
+part_longer : (log : List Entry) (next : ℕ) (owner : ℕ → ℕ × Bool) (at : ℕ × Bool) (p : HistoryPart) (e : Entry) → (owner e.seat ≢ at) → PartFits log next owner at p → PartFits (log ++ e ∷ []) next owner at p
 part_longer log next owner at p e other f =
     record { begins = prefix_longer p.seen log (e ∷ []) f.begins; whole = calls_of-other p.numbers log e (false_from_ne_true (is_in p.numbers e.seat) (λ h. other (f.owns e.seat h).1)) ∙ f.whole; owns = f.owns }
 

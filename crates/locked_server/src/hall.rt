@@ -114,8 +114,9 @@ impl Hall {
     /// Waits for its turn, and lets the database answer an event of a session, at a moment in milliseconds since 1970,
     /// as [`Core::step`] does: that is the next entry of the history, a refusal too. Where 2^62 tickets have been
     /// taken, it waits until the history has that many entries, and answers [`Refusal::Spent`], which no step does, and
-    /// which is no entry. The arena is for what the step needs. The call takes no memory of its own, and costs, beside the step, four steps on the
-    /// words that all seats share, and more where another seat comes first.
+    /// which is no entry. The arena is for what the step needs. The call takes no memory of its own, and costs, beside
+    /// the step, two looks at the words that all seats share and three steps on them, and more where another seat comes
+    /// first.
     pub fn call<R: Wait>(
         &self,
         rt: &R,

@@ -4,7 +4,7 @@ use rtdb_core::Core;
 use std::collections::LinkedList;
 
 /// A beginning of the history, and numbers of seats: of each it has all calls.
-pub(crate) struct Part {
+pub(crate) struct HistoryPart {
     pub(crate) seen: LinkedList<Entry>,
     pub(crate) numbers: LinkedList<u64>,
 }
@@ -25,7 +25,7 @@ pub(crate) enum Stage {
 /// in, until it looks at the history again.
 pub(crate) struct View {
     pub(crate) opening: Core,
-    pub(crate) first: Part,
-    pub(crate) second: Part,
+    pub(crate) first: HistoryPart,
+    pub(crate) second: HistoryPart,
     pub(crate) stage: Stage,
 }

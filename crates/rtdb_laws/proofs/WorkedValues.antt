@@ -14,7 +14,7 @@ use Rattle.tree_model.specs.PathMap.{sub, exists}
 use Rattle.tree_model.specs.Tree.{Tree, non_null, count}
 use Rattle.tree_model.specs.Write.{Write, location, proposed}
 use Rattle.tree_model.proofs.Orders.{paths_total}
-use Rattle.expr_parser.specs.Tree.{Tree as Expression}
+use Rattle.expr_parser.specs.Tree.{SyntaxTree as Expression}
 use Rattle.expr_types.specs.Checked.{Checked}
 use Rattle.expr_types.specs.declared.place.Place.TheVariants.{ReadRule, WriteRule}
 use Rattle.rules_reader.specs.Part.{PartText, Pattern}

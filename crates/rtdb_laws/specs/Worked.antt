@@ -2,7 +2,7 @@
 use Rattle.std.specs.Prelude.{List, [], ◌∷◌, Some, None}
 use Rattle.std.specs.FinMap as map_of
 use Rattle.tree_model.specs.Tree.{Tree}
-use Rattle.expr_parser.specs.Tree.{Tree as Expression}
+use Rattle.expr_parser.specs.Tree.{SyntaxTree as Expression}
 use Rattle.expr_types.specs.declared.place.Place.TheVariants.{ReadRule, WriteRule}
 use Rattle.rules_reader.specs.Book.{Book}
 use Rattle.judge.specs.declared.verdict.Named.{Named}

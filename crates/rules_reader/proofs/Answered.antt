@@ -14,7 +14,7 @@ use Rattle.serde_json.specs.Data.{Data}
 use Rattle.expr_tokens.specs.declared.fault.ExprFault.{ExprFault}
 use Rattle.expr_tokens.specs.declared.fault.ExprFault.TheVariants as text_fault
 use Rattle.expr_parser.specs.Tree as t
-use Rattle.expr_parser.specs.Tree.{Tree}
+use Rattle.expr_parser.specs.Tree.{SyntaxTree}
 use Rattle.expr_parser.specs.Text.{SpellsExpression, RefusedText}
 use Rattle.expr_parser.proofs.Answered.{each_text}
 use Rattle.expr_types.specs.Checked.{Checked}
@@ -59,7 +59,7 @@ use_never f = by (is_among f excluded_names) (is_spelled f)
     by false true e = cc
     by false false e = cc
 
-own_never : (x : Tree) → own_fault x ≢ type_fault.NoMemory
+own_never : (x : SyntaxTree) → own_fault x ≢ type_fault.NoMemory
 own_never (t.Variable f) e = cc
 own_never (t.Capture f) e = cc
 own_never (t.Member x f) e = use_never f e
@@ -76,11 +76,11 @@ own_never (t.Operation op x y) e = cc
 own_never (t.Choice c x y) e = cc
 
 -- no first fault is want of memory
-first_never : {p : Place} {ns : List (List ℕ)} {x : Tree} {d : TypeFault} → FirstFault p ns x d → d ≢ type_fault.NoMemory
+first_never : {p : Place} {ns : List (List ℕ)} {x : SyntaxTree} {d : TypeFault} → FirstFault p ns x d → d ≢ type_fault.NoMemory
 first_never (in_part before y after split a f) e = first_never f e
 first_never {p} {ns} {x} (of_own a n) e = own_never x e
 
-refused_never : (p : Place) (ns : List (List ℕ)) (x : Tree) (d : TypeFault) → IsRefused p ns x d → d ≢ type_fault.NoMemory
+refused_never : (p : Place) (ns : List (List ℕ)) (x : SyntaxTree) (d : TypeFault) → IsRefused p ns x d → d ≢ type_fault.NoMemory
 refused_never p ns x d (inl f) e = first_never f e
 refused_never p ns x d (inr s) e = let n = sym s.3 ∙ e in cc
 
@@ -89,7 +89,7 @@ abbrev Ruled : Pattern → Kind → List ℕ → Type 0
 Ruled at kind text = ((c : Checked) × SpellsRule at kind text c) ⊎ ((fault : RuleFault) × IsNoRule at kind text fault)
 
 module _ (at : Pattern) (kind : Kind) (text : List ℕ) where
-  misplaced : (x : Tree) → SpellsExpression text x → (d : TypeFault) → IsRefused (place_of kind) (capture_names at) x d → Ruled at kind text
+  misplaced : (x : SyntaxTree) → SpellsExpression text x → (d : TypeFault) → IsRefused (place_of kind) (capture_names at) x d → Ruled at kind text
   misplaced x s (type_fault.NotInProfile f) r = inr (NotInProfile (Name f), record { tree = x; spelled = s; refused = r })
   misplaced x s type_fault.TypeError r = inr (TypeError, record { tree = x; spelled = s; refused = r })
   misplaced x s (type_fault.UnknownName f) r = inr (UnknownName f, record { tree = x; spelled = s; refused = r })
@@ -100,7 +100,7 @@ module _ (at : Pattern) (kind : Kind) (text : List ℕ) where
   misspelled (text_fault.NotInProfile excluded) r other = inr (NotInProfile (Sign excluded), r)
   misspelled text_fault.NoMemory r other = absurd (other refl)
 
-  spelled_rule : (x : Tree) → SpellsExpression text x → Ruled at kind text
+  spelled_rule : (x : SyntaxTree) → SpellsExpression text x → Ruled at kind text
   spelled_rule x s = elim (value_or_refused (place_of kind) (capture_names at) x (sort_of (place_of kind) (capture_names at) x) refl) [
     | inl v ↦ inl (record { tree = x; place = place_of kind }, record { spelled = s; lawful = record { place = refl; sorted = v } })
     | inr r ↦ misplaced x s r.0 r.1

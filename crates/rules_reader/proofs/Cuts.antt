@@ -3,7 +3,7 @@ use Rattle.std.proofs.Common.{◌≡◌, ℕ, zero, suc, ◌+◌, ◌-◌, ◌<�
 use Rattle.std.specs.List.{flat_map}
 use Rattle.std.proofs.lemmas.List.{length-map, take_at, append-nil}
 use Rattle.rules_reader.specs.Plain.{Piece, closed_string, unclosed_string, line_comment, block_comment, unclosed_comment, single, written, all_written, StandsBefore, EachStands, IsCut, becomes, plain_piece, IsPlain}
-use Rattle.rules_reader.specs.declared.plain_text.Kind.{Kind}
+use Rattle.rules_reader.specs.declared.plain_text.PieceKind.{PieceKind}
 use Rattle.rules_reader.specs.Working.Front.{front, kind_of, becomes_in}
 use Rattle.rules_reader.proofs.Fronts.{front_stands, front_of, front_is, uncons}
 
@@ -108,7 +108,7 @@ shorter rest after some is =
     let same : length after ≡ length f.1 = ap length is in
     omega arith
 
-pub goes_on : (file done rest after : List ℕ) (kind : Kind) → 1 ≤ length rest → Goes file done rest → kind ≡ kind_of (front (get_or rest 0 0) (take (length rest - 1) (drop 1 rest))).0 → after ≡ (front (get_or rest 0 0) (take (length rest - 1) (drop 1 rest))).1 → Goes file (done ++ map (becomes_in kind) (take (length rest - length after) rest)) after
+pub goes_on : (file done rest after : List ℕ) (kind : PieceKind) → 1 ≤ length rest → Goes file done rest → kind ≡ kind_of (front (get_or rest 0 0) (take (length rest - 1) (drop 1 rest))).0 → after ≡ (front (get_or rest 0 0) (take (length rest - 1) (drop 1 rest))).1 → Goes file (done ++ map (becomes_in kind) (take (length rest - length after) rest)) after
 goes_on file done rest after kind some goes kind_is after_is text plain =
     let f : Piece × List ℕ = front (get_or rest 0 0) (take (length rest - 1) (drop 1 rest)) in
     let stands = front_stands (get_or rest 0 0) (take (length rest - 1) (drop 1 rest)) in
@@ -116,7 +116,7 @@ goes_on file done rest after kind some goes kind_is after_is text plain =
     let long : length (written f.0) + length after ≡ length rest = sym (length-append (written f.0) after) ∙ ap length whole in
     let piece_is : take (length rest - length after) rest ≡ written f.0 = ap (take (length rest - length after)) (sym whole) ∙ take_at (written f.0) after (length rest - length after) (omega arith) in
     let said : map (becomes_in kind) (take (length rest - length after) rest) ≡ plain_piece f.0 =
-    ap (map (becomes_in kind)) piece_is ∙ ap (λ (k : Kind). map (becomes_in k) (written f.0)) kind_is ∙ becomes_alike f.0 (written f.0) in
+    ap (map (becomes_in kind)) piece_is ∙ ap (λ (k : PieceKind). map (becomes_in k) (written f.0)) kind_is ∙ becomes_alike f.0 (written f.0) in
     let more = goes (plain_piece f.0 ++ text) (plain_more after rest text f.0 whole (subst (λ (bytes : List ℕ). StandsBefore bytes f.0) (sym after_is) stands.stands) plain) in
     subst (λ (bytes : List ℕ). IsPlain file bytes) (ap (λ (bytes : List ℕ). done ++ (bytes ++ text)) (sym said) ∙ sym (append_assoc done (map (becomes_in kind) (take (length rest - length after) rest)) text)) more
 

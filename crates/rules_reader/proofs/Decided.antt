@@ -13,7 +13,7 @@ use Rattle.std.specs.declared.cmp.Ordering.TheVariants.{Less, Equal, Greater}
 use Rattle.serde_json.specs.Data.{Data}
 use Rattle.expr_tokens.specs.declared.fault.ExprFault.{ExprFault}
 use Rattle.expr_tokens.specs.declared.fault.ExprFault.TheVariants as text_fault
-use Rattle.expr_parser.specs.Tree.{Tree}
+use Rattle.expr_parser.specs.Tree.{SyntaxTree}
 use Rattle.expr_parser.specs.Text.{RefusedText}
 use Rattle.expr_parser.proofs.Placed.{one_expression}
 use Rattle.expr_parser.proofs.Refusals.{one_refusal, none_of_spelled}
@@ -73,7 +73,7 @@ module _ (at : Pattern) (kind : Kind) (text : List ℕ) where
   both_causes f g (inr a) (inl b) = absurd (not_memory b.0 g b.2 (none_of_spelled text a.1.tree b.0 a.1.spelled b.1))
   both_causes f g (inr a) (inr b) =
       let tree : a.1.tree ≡ b.1.tree = one_expression text a.1.tree b.1.tree a.1.spelled b.1.spelled in
-      let same : a.0 ≡ b.0 = same_refusal (place_of kind) (capture_names at) b.1.tree a.0 b.0 (subst (λ (x : Tree). IsRefused (place_of kind) (capture_names at) x a.0) tree a.1.refused) b.1.refused in
+      let same : a.0 ≡ b.0 = same_refusal (place_of kind) (capture_names at) b.1.tree a.0 b.0 (subst (λ (x : SyntaxTree). IsRefused (place_of kind) (capture_names at) x a.0) tree a.1.refused) b.1.refused in
       let e : unread.NoRule f ≡ unread.NoRule g = sym a.2 ∙ ap of_type_fault same ∙ b.2 in cc
 
   one_cause : (f g : RuleFault) → IsNoRule at kind text f → IsNoRule at kind text g → f ≡ g
@@ -83,7 +83,7 @@ module _ (at : Pattern) (kind : Kind) (text : List ℕ) where
   no_cause c f h (inl a) = not_memory a.0 f a.2 (none_of_spelled text c.tree a.0 h.spelled a.1)
   no_cause c f h (inr a) =
       let tree : a.1.tree ≡ c.tree = one_expression text a.1.tree c.tree a.1.spelled h.spelled in
-      not_both (place_of kind) (capture_names at) c.tree a.0 h.lawful.sorted (subst (λ (x : Tree). IsRefused (place_of kind) (capture_names at) x a.0) tree a.1.refused)
+      not_both (place_of kind) (capture_names at) c.tree a.0 h.lawful.sorted (subst (λ (x : SyntaxTree). IsRefused (place_of kind) (capture_names at) x a.0) tree a.1.refused)
 
 -- ---- the rules of a file
 

@@ -7,7 +7,7 @@ use Rattle.std.proofs.lemmas.Bool.Decides.{nat_tests}
 use Rattle.std.proofs.lemmas.List.Folds.{list_all-append}
 use Rattle.rules_reader.specs.Plain.{Piece, closed_string, unclosed_string, line_comment, block_comment, unclosed_comment, single, written, all_written, spaced, plain_piece, IsPlain}
 use Rattle.rules_reader.specs.Working.Front.{becomes_in}
-use Rattle.rules_reader.specs.declared.plain_text.Kind.TheVariants.{Quoted, AsItIs}
+use Rattle.rules_reader.specs.declared.plain_text.PieceKind.TheVariants.{Quoted, AsItIs}
 use Rattle.rules_reader.proofs.Cuts.{has_plain}
 
 -- ---- pieces

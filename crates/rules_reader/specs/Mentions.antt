@@ -1,7 +1,7 @@
 -- Which of `data` and `newData` the rules of a file mention.
 use Rattle.std.specs.Prelude.{ℕ, List, codes, Bool, false, ◌||◌, Option, Some, None}
 use Rattle.std.specs.Str.{bytes_eq}
-use Rattle.expr_parser.specs.Tree.{Tree, Trees, Arguments, Argument, Number, Text, True, False, Null, Variable, Capture, Group, Member, Call, Not, Negate, Operation, Choice, One, Listed, no_argument, argument, none, more}
+use Rattle.expr_parser.specs.Tree.{SyntaxTree, Trees, Arguments, Argument, Number, Text, True, False, Null, Variable, Capture, Group, Member, Call, Not, Negate, Operation, Choice, One, Listed, no_argument, argument, none, more}
 use Rattle.expr_types.specs.Checked.{Checked}
 use Rattle.rules_reader.specs.declared.kind.Kind.{Kind}
 use Rattle.rules_reader.specs.declared.mentions.TreeVariable.{TreeVariable}
@@ -15,7 +15,7 @@ variable_text NewData = codes "newData"
 
 abbrev mutual
   -- a part of the expression is this variable: what is behind a dot, and the name of a call, are none
-  pub mentions : List ℕ → Tree → Bool
+  pub mentions : List ℕ → SyntaxTree → Bool
   mentions v (Number n) = false
   mentions v (Text s) = false
   mentions v True = false

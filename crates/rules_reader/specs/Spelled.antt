@@ -2,7 +2,7 @@
 use Rattle.std.specs.Prelude.{◌≡◌, ℕ, ◌++◌, List, ◌∷◌, filter_map, Option, Some, None, ⊤, if◌then◌else◌}
 use Rattle.std.specs.List.{AllByRecursion}
 use Rattle.expr_tokens.specs.declared.fault.ExprFault.TheVariants as text_fault
-use Rattle.expr_parser.specs.Tree.{Tree}
+use Rattle.expr_parser.specs.Tree.{SyntaxTree}
 use Rattle.expr_parser.specs.Text.{SpellsExpression, RefusedText}
 use Rattle.expr_types.specs.declared.place.Place.{Place}
 use Rattle.expr_types.specs.declared.place.Place.TheVariants.{ReadRule, WriteRule, ValidateRule}
@@ -48,7 +48,7 @@ pub record SpellsRule (at : Pattern) (kind : Kind) (text : List ℕ) (checked : 
 
 -- the text spells an expression that may not stand there, for this fault
 pub record IsMisplaced (at : Pattern) (kind : Kind) (text : List ℕ) (fault : TypeFault) : Type 0 where
-  pub tree : Tree
+  pub tree : SyntaxTree
   pub spelled : SpellsExpression text tree
   pub refused : IsRefused (place_of kind) (capture_names at) tree fault
 

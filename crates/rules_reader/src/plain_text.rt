@@ -10,19 +10,19 @@ use std::alloc::Global;
 
 // What a piece of a file is, as far as it says what becomes of its bytes.
 #[derive(Clone, Copy, Debug, PartialEq, Eq)]
-enum Kind {
+enum PieceKind {
     Quoted,
     Comment,
     AsItIs,
 }
 
-impl Kind {
+impl PieceKind {
     fn plain(self, byte: u8) -> u8
         ensures { result ≡ becomes_in self byte }
     {
         match (self, byte) {
-            (Kind::Quoted, b'\n' | b'\r' | b'\t') => b' ',
-            (Kind::Comment, _) => b' ',
+            (PieceKind::Quoted, b'\n' | b'\r' | b'\t') => b' ',
+            (PieceKind::Comment, _) => b' ',
             _ => byte,
         }
     }
@@ -32,9 +32,9 @@ impl Kind {
         ensures { result ≡ true → map (becomes_in self) piece.now ≡ piece.now }
     {
         match self {
-            Kind::Quoted => has_no_control(piece),
-            Kind::Comment => false,
-            Kind::AsItIs => true,
+            PieceKind::Quoted => has_no_control(piece),
+            PieceKind::Comment => false,
+            PieceKind::AsItIs => true,
         }
     }
 }
@@ -76,7 +76,7 @@ pub fn plain(alloc: Global, file: &[u8]) -> Result<Vec<u8>, NoMemory>
     Ok(text)
 }
 
-fn push_plain(text: &mut Vec<u8>, kind: Kind, piece: &[u8]) -> Result<(), NoMemory>
+fn push_plain(text: &mut Vec<u8>, kind: PieceKind, piece: &[u8]) -> Result<(), NoMemory>
     ensures { OnOk result (text.new.items ≡ text.old.items ++ map (becomes_in kind) piece.now) }
 {
     if let [single] = piece {
@@ -94,35 +94,35 @@ fn push_plain(text: &mut Vec<u8>, kind: Kind, piece: &[u8]) -> Result<(), NoMemo
 }
 
 // The kind of the piece that begins with this byte, and what stands behind the piece.
-fn front(first: u8, behind: &[u8]) -> (Kind, &[u8])
+fn front(first: u8, behind: &[u8]) -> (PieceKind, &[u8])
     ensures kind { result.0 ≡ kind_of (front first behind.now).0 }
     ensures after { result.1.now ≡ (front first behind.now).1 }
 {
     match first {
         b'"' => match string_end(behind) {
-            Some(place) => (Kind::Quoted, &behind[place + 1..]),
-            None => (Kind::Quoted, &[]),
+            Some(place) => (PieceKind::Quoted, &behind[place + 1..]),
+            None => (PieceKind::Quoted, &[]),
         },
         b'/' => slash_front(behind),
-        _ => (Kind::AsItIs, behind),
+        _ => (PieceKind::AsItIs, behind),
     }
 }
 
 // The same of a piece that begins with a slash.
-fn slash_front(behind: &[u8]) -> (Kind, &[u8])
+fn slash_front(behind: &[u8]) -> (PieceKind, &[u8])
     ensures kind { result.0 ≡ kind_of (slash_front behind.now).0 }
     ensures after { result.1.now ≡ (slash_front behind.now).1 }
 {
     match behind {
         [b'/', words @ ..] => match line_end(words) {
-            Some(place) => (Kind::Comment, &words[place..]),
-            None => (Kind::Comment, &[]),
+            Some(place) => (PieceKind::Comment, &words[place..]),
+            None => (PieceKind::Comment, &[]),
         },
         [b'*', words @ ..] => match comment_end(words) {
-            Some(place) => (Kind::Comment, &words[place + 2..]),
-            None => (Kind::AsItIs, &[]),
+            Some(place) => (PieceKind::Comment, &words[place + 2..]),
+            None => (PieceKind::AsItIs, &[]),
         },
-        _ => (Kind::AsItIs, behind),
+        _ => (PieceKind::AsItIs, behind),
     }
 }
 

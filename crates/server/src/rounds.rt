@@ -34,7 +34,7 @@ const TURNS: u64 = 1_000_000_000;
 
 /// What all workers share, and how many rounds each of them has.
 #[derive(Clone, Copy)]
-pub(crate) struct Place<'a, R, G> {
+pub(crate) struct WorkPlace<'a, R, G> {
     pub(crate) rt: &'a R,
     pub(crate) alloc: Global,
     pub(crate) listener: &'a TcpListener,
@@ -53,7 +53,7 @@ pub(crate) struct Job {
 
 /// Serves the rounds of one worker, and gives its seat back. A connection that is not accepted, or whose handshake
 /// fails, is a round too.
-pub(crate) fn work<R: Wait + time::Clock, G: Gate>(place: &Place<'_, R, G>, job: Job) -> Seat
+pub(crate) fn work<R: Wait + time::Clock, G: Gate>(place: &WorkPlace<'_, R, G>, job: Job) -> Seat
     requires { job.seat.hall ≡ place.now.hall.now }
     ensures { result.hall ≡ place.now.hall.now }
 {
@@ -69,7 +69,7 @@ pub(crate) fn work<R: Wait + time::Clock, G: Gate>(place: &Place<'_, R, G>, job:
 
 // Serves the session of one client. However it ends, the next client comes.
 fn serve_client<R: Wait + time::Clock, G: Gate>(
-    place: &Place<'_, R, G>,
+    place: &WorkPlace<'_, R, G>,
     seat: &mut Seat,
     arena: &mut Bump,
     session: u64,

@@ -4,7 +4,7 @@ ghost use Rattle.server.specs.Served.{HasServed, listening_text, served_text};
 
 use crate::fault::ServerFault;
 use crate::printer::Printer;
-use crate::rounds::Place;
+use crate::rounds::WorkPlace;
 use crate::shifts::{Shifts, work_all};
 use locked_server::{Hall, Seat};
 use sessions::Gate;
@@ -42,7 +42,7 @@ pub fn serve_on<R: Threads + Wait + time::Clock + Sync, G: Gate + Sync, W: Print
         return Err(ServerFault::Listener);
     };
     output.print(listening_line(alloc, address.port())?.as_bytes())?;
-    let place = Place {
+    let place = WorkPlace {
         rt,
         alloc,
         listener,

@@ -3,7 +3,7 @@ ghost use Rattle.std.specs.Prelude.{◌≡◌, All, IfOk, OnOk};
 ghost use mathlib.Core.List.{IsPrefix};
 ghost use Rattle.server.specs.Served.{GoesOn};
 
-use crate::rounds::{Job, Place, work};
+use crate::rounds::{Job, WorkPlace, work};
 use json_tree::NoMemory;
 use locked_server::{Hall, Seat};
 use sessions::Gate;
@@ -23,7 +23,7 @@ pub struct Shifts {
 
 /// Starts the workers, and takes their seats in when all have ended. The threads are this one and others.
 pub(crate) fn work_all<R: Threads + Wait + time::Clock + Sync, G: Gate + Sync>(
-    place: &Place<'_, R, G>,
+    place: &WorkPlace<'_, R, G>,
     seat: &mut Seat,
     workers: u64,
 ) -> Result<(), NoMemory>

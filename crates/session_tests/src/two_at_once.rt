@@ -98,21 +98,21 @@ const TURNS: u64 = 20_000_000;
 // What a client does: the number of its session, its message, whether that waits for the listen, and how many texts it
 // closes behind.
 #[derive(Clone, Copy)]
-struct Part {
+struct Role {
     session: u64,
     message: &'static str,
     waits: bool,
     texts: usize,
 }
 
-const LISTENS: Part = Part {
+const LISTENS: Role = Role {
     session: 1,
     message: r#"{"do":"listen","id":"l","path":"/a"}"#,
     waits: false,
     texts: 2,
 };
 
-const WRITES: Part = Part {
+const WRITES: Role = Role {
     session: 2,
     message: r#"{"do":"set","path":"/a","value":7}"#,
     waits: true,
@@ -126,7 +126,7 @@ fn serve<R: Wait>(
     hall: &Hall,
     mut seat: Seat,
     gate: &Listened,
-    part: Part,
+    part: Role,
 ) -> Option<Vec<Vec<u8>>>
     requires { seat.hall ≡ hall.now }
 {
@@ -154,7 +154,7 @@ fn serve<R: Wait>(
 }
 
 // A client that has said nothing yet.
-fn client_of<'a>(alloc: Global, gate: &'a Listened, part: Part) -> Option<Client<'a>>
+fn client_of<'a>(alloc: Global, gate: &'a Listened, part: Role) -> Option<Client<'a>>
     ensures { IfSome result (λ client. (client.closed ≡ false) × (client.finished ≡ false)) }
 {
     let message = part.message.as_bytes().to_vec(alloc).ok()?;

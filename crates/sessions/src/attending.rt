@@ -15,7 +15,7 @@ use tokens::Tokens;
 
 /// Where a session is served: the hall, the secrets by which clients sign in, and the number of the session.
 #[derive(Clone, Copy)]
-pub(crate) struct Place<'a, R> {
+pub(crate) struct SessionPlace<'a, R> {
     pub(crate) rt: &'a R,
     pub(crate) hall: &'a Hall,
     pub(crate) tokens: &'a Tokens,
@@ -47,7 +47,7 @@ impl Desk {
 
 /// Lets the hall answer an event of the session.
 pub(crate) fn ask<R: Wait>(
-    place: &Place<'_, R>,
+    place: &SessionPlace<'_, R>,
     seat: &mut Seat,
     arena: &mut Bump,
     now: u64,
@@ -67,7 +67,7 @@ pub(crate) fn ask<R: Wait>(
 /// compiled, before the hall is asked; the text is written once the hall has answered. An error is want of memory for
 /// the text, and the call may have been made.
 pub(crate) fn attend<R: Wait>(
-    place: &Place<'_, R>,
+    place: &SessionPlace<'_, R>,
     seat: &mut Seat,
     arena: &mut Bump,
     desk: &mut Desk,
@@ -118,7 +118,7 @@ pub fn answer<R: Wait>(
     ensures hall { seat.new.hall ≡ hall.now }
     ensures answered { (said : List ℕ) × (made : List Answered) × Gains seat.old made seat.new × IsAnswered tokens.now now session message.now said made × IfOk result (λ bytes. bytes.items ≡ said) }
 {
-    let place = Place {
+    let place = SessionPlace {
         rt,
         hall,
         tokens,

@@ -6,7 +6,7 @@ ghost use Rattle.sessions.specs.Turns.{push_of};
 ghost use Rattle.sessions.specs.Serving.{Fits, Serves, Visits, world};
 ghost use Rattle.sessions.specs.Working.{AnswersOr, HasTurns, PushesOr, RepliesOr, TurnsOr};
 
-use crate::attending::{Desk, Place, ask, attend};
+use crate::attending::{Desk, SessionPlace, ask, attend};
 use crate::peer::{Clock, Gate, Peer, Received, Sent};
 use answers::AnswerWriter;
 use bumpalo::Bump;
@@ -59,7 +59,7 @@ fn send<P: Peer>(peer: &mut P, out: &mut AnswerWriter) -> Option<SessionEnd>
 
 // Answers a message that was received. Where the session ends there, says how.
 fn reply_to<R: Wait, C: Clock, P: Peer>(
-    place: &Place<'_, R>,
+    place: &SessionPlace<'_, R>,
     seat: &mut Seat,
     arena: &mut Bump,
     desk: &mut Desk,
@@ -83,7 +83,7 @@ fn reply_to<R: Wait, C: Clock, P: Peer>(
 
 // The first half of a turn: a message, if one has come, and its answer.
 fn hear<R: Wait, G: Gate, C: Clock, P: Peer>(
-    place: &Place<'_, R>,
+    place: &SessionPlace<'_, R>,
     seat: &mut Seat,
     arena: &mut Bump,
     desk: &mut Desk,
@@ -140,7 +140,7 @@ fn send_news<P: Peer>(reply: &Reply, out: &mut AnswerWriter, peer: &mut P) -> Op
 
 // The second half of a turn: a poll, and the push of its news.
 fn push<R: Wait, C: Clock, P: Peer>(
-    place: &Place<'_, R>,
+    place: &SessionPlace<'_, R>,
     seat: &mut Seat,
     arena: &mut Bump,
     desk: &mut Desk,
@@ -160,7 +160,7 @@ fn push<R: Wait, C: Clock, P: Peer>(
 }
 
 fn turn<R: Wait, G: Gate, C: Clock, P: Peer>(
-    place: &Place<'_, R>,
+    place: &SessionPlace<'_, R>,
     seat: &mut Seat,
     arena: &mut Bump,
     desk: &mut Desk,
@@ -183,7 +183,7 @@ fn turn<R: Wait, G: Gate, C: Clock, P: Peer>(
 
 // The turns of a session that is open.
 fn take_turns<R: Wait, G: Gate, C: Clock, P: Peer>(
-    place: &Place<'_, R>,
+    place: &SessionPlace<'_, R>,
     seat: &mut Seat,
     arena: &mut Bump,
     desk: &mut Desk,
@@ -229,7 +229,7 @@ pub fn serve_session<R: Wait, G: Gate, C: Clock, P: Peer>(
     ensures hall { seat.new.hall ≡ hall.now }
     ensures serves { Serves tokens.now session turns (world seat.old (C.moments clock.old) (P.traffic peer.old)) result (world seat.new (C.moments clock.new) (P.traffic peer.new)) }
 {
-    let place = Place {
+    let place = SessionPlace {
         rt,
         hall,
         tokens,
@@ -243,7 +243,7 @@ pub fn serve_session<R: Wait, G: Gate, C: Clock, P: Peer>(
 
 // The session, from its opening to its close.
 fn visit<R: Wait, G: Gate, C: Clock, P: Peer>(
-    place: &Place<'_, R>,
+    place: &SessionPlace<'_, R>,
     seat: &mut Seat,
     arena: &mut Bump,
     desk: &mut Desk,

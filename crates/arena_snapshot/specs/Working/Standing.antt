@@ -2,7 +2,7 @@
 use Rattle.std.specs.Prelude.{Option, Some, None}
 use Rattle.tree_model.specs.Tree.{Tree}
 use Rattle.arena_snapshot.specs.View.{tree_of, IsView}
-use Rattle.arena_snapshot.specs.declared.view.Kind.TheVariants as kinds
+use Rattle.arena_snapshot.specs.declared.view.ViewKind.TheVariants as kinds
 use Rattle.arena_snapshot.specs.declared.view.Standing.{Standing}
 use Rattle.arena_snapshot.specs.declared.view.Standing.TheVariants as stands
 

@@ -12,11 +12,11 @@ use Rattle.arena_snapshot.specs.View.{node_or_null, tree_of, IsKind}
 use Rattle.arena_snapshot.specs.Working.Change.{changed}
 use Rattle.arena_snapshot.specs.Working.Changing.{find_first, find_behind, depth-change}
 use Rattle.arena_snapshot.specs.Working.Patches.{change_of}
-use Rattle.arena_snapshot.specs.declared.view.View.TheDeep.{deep-Kind, deep-Patch}
+use Rattle.arena_snapshot.specs.declared.view.View.TheDeep.{deep-ViewKind, deep-Patch}
 use Rattle.arena_snapshot.specs.declared.view.View.TheShapes.{weighed-Patch-child}
 use Rattle.arena_snapshot.specs.declared.view.View.{View}
-use Rattle.arena_snapshot.specs.declared.view.Kind.{Kind}
-use Rattle.arena_snapshot.specs.declared.view.Kind.TheVariants.{Stored, Patched}
+use Rattle.arena_snapshot.specs.declared.view.ViewKind.{ViewKind}
+use Rattle.arena_snapshot.specs.declared.view.ViewKind.TheVariants.{Stored, Patched}
 use Rattle.arena_snapshot.specs.declared.view.Patch.{Patch}
 
 -- a patch is as deep as its child below a key
@@ -32,7 +32,7 @@ most_le n (p ∷ ps) s a h =
     let here = child_le p.child n (λ u is. h p.key.now u (find_first (change_of p) (map change_of ps) ∙ ap Some is) (λ e. a.0 (is ∙ ap Some e))) in
     omega (arith, here, most_le n ps (second_so _ _ s) a.1 (λ l u found some. h l u (find_behind l (Some u) (change_of p) (map change_of ps) s found) some))
 
-pub falls : (k : Kind) → IsKind k → max (deep-Kind k) 0 ≤ depth (tree_of k)
+pub falls : (k : ViewKind) → IsKind k → max (deep-ViewKind k) 0 ≤ depth (tree_of k)
 falls (Stored n) h = omega arith
 falls (Patched n) h =
     let t = node_or_null n.now.base in

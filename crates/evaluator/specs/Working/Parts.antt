@@ -6,15 +6,15 @@ use Rattle.std.specs.Str.{bytes_eq}
 use Rattle.expr_parser.specs.Tree.{Argument, One, Listed}
 use Rattle.evaluator.specs.declared.value.Value as code
 use Rattle.evaluator.specs.declared.value.Value.TheVariants.{Null, Truth, Whole, Words, Sentinel, Record}
-use Rattle.evaluator.specs.declared.value.Part as code_part
-use Rattle.evaluator.specs.declared.value.Part.TheVariants as parts
+use Rattle.evaluator.specs.declared.value.Meaning as code_part
+use Rattle.evaluator.specs.declared.value.Meaning.TheVariants as parts
 use Rattle.evaluator.specs.declared.value.Stop.{Stop}
 use Rattle.evaluator.specs.declared.value.Stop.TheVariants as stop
 use Rattle.evaluator.specs.declared.snapshot.Found.{Found}
 use Rattle.evaluator.specs.declared.snapshot.Found.TheVariants as found
 use Rattle.evaluator.specs.declared.snapshot.Found.TheVariants.{At}
 use Rattle.evaluator.specs.Asked.{asked_of}
-use Rattle.evaluator.specs.Value.{Value, null, truth, whole, words, sentinel, a_record, Snapshot, Part, value, snapshot, auth, token, query, as_value}
+use Rattle.evaluator.specs.Value.{Value, null, truth, whole, words, sentinel, a_record, Snapshot, Meaning, value, snapshot, auth, token, query, as_value}
 use Rattle.evaluator.specs.Env.{Env}
 use Rattle.evaluator.specs.Mean.{mean}
 
@@ -26,7 +26,7 @@ value_of (Words s) = words s.now
 value_of Sentinel = sentinel
 value_of Record = a_record
 
-abbrev pub part_of : code_part.Part → Part
+abbrev pub part_of : code_part.Meaning → Meaning
 part_of (parts.Value v) = value (value_of v)
 part_of (parts.Snapshot s) = snapshot s.now
 part_of (parts.Auth who) = auth (option_map (λ a. a.now) who)
@@ -44,7 +44,7 @@ texts_in (words a) (words b) = Some (a, b)
 texts_in _ _ = None
 
 -- the snapshot whose children a call of this name with a list is about
-abbrev pub holder : List ℕ → Part → Option Snapshot
+abbrev pub holder : List ℕ → Meaning → Option Snapshot
 holder f (snapshot s) = if bytes_eq (codes "hasChildren") f then Some s else None
 holder f _ = None
 
@@ -60,10 +60,10 @@ result_of found.Erred = Err stop.Erred
 result_of found.NoMemory = Err stop.NoMemory
 
 -- the location that a part is, if it is one
-abbrev pub in_place : Part → Option Snapshot
+abbrev pub in_place : Meaning → Option Snapshot
 in_place (snapshot s) = Some s
 in_place _ = None
 
 -- the location of what may be an error
-abbrev pub as_place : Option Part → Option Snapshot
+abbrev pub as_place : Option Meaning → Option Snapshot
 as_place m = option_and_then in_place m

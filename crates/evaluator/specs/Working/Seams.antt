@@ -3,25 +3,25 @@ use Rattle.std.specs.Prelude.{◌≡◌, ◌⊎◌, ℕ, ◌-◌, List, [], ◌�
 use Rattle.std.specs.Option.{option_and_then}
 use Rattle.std.specs.Fmt.{signed_decimal}
 use Rattle.expr_tokens.specs.declared.operator.Operator.TheVariants.{Add}
-use Rattle.expr_parser.specs.Tree.{Tree, Text, Operation}
+use Rattle.expr_parser.specs.Tree.{SyntaxTree, Text, Operation}
 use Rattle.evaluator.specs.Value.{Value, whole, words, Snapshot}
 use Rattle.evaluator.specs.Snapshot.{child_at}
 
 -- a literal that begins with a slash
-abbrev pub BeginsBelow : Tree → Type 0
+abbrev pub BeginsBelow : SyntaxTree → Type 0
 BeginsBelow y = (rest : List ℕ) × (y ≡ Text (47 ∷ rest))
 
 -- a literal that ends with one
-abbrev pub IsClosed : Tree → Type 0
+abbrev pub IsClosed : SyntaxTree → Type 0
 IsClosed x = (front : List ℕ) × (x ≡ Text (front ++ 47 ∷ []))
 
 -- such a literal, or a sum that ends with one
-abbrev pub EndsBelow : Tree → Type 0
-EndsBelow x = IsClosed x ⊎ ((z : Tree) × (last : Tree) × (x ≡ Operation Add z last) × IsClosed last)
+abbrev pub EndsBelow : SyntaxTree → Type 0
+EndsBelow x = IsClosed x ⊎ ((z : SyntaxTree) × (last : SyntaxTree) × (x ≡ Operation Add z last) × IsClosed last)
 
 -- a sum with a slash between the text of its left operand and that of its right one
-abbrev pub IsSeam : Tree → Type 0
-IsSeam s = (x : Tree) × (y : Tree) × (s ≡ Operation Add x y) × (BeginsBelow y ⊎ EndsBelow x)
+abbrev pub IsSeam : SyntaxTree → Type 0
+IsSeam s = (x : SyntaxTree) × (y : SyntaxTree) × (s ≡ Operation Add x y) × (BeginsBelow y ⊎ EndsBelow x)
 
 -- the text of a value in a sum with a text: of a number its digits
 abbrev pub text_of : Value → Option (List ℕ)

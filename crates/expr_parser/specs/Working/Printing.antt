@@ -4,12 +4,12 @@ use Rattle.expr_parser.specs.declared.limits.TheConstants.{MAX_LEVELS}
 use Rattle.expr_tokens.specs.declared.operator.Operator.TheVariants.{Subtract}
 use Rattle.expr_tokens.specs.declared.token.Token.{Token}
 use Rattle.expr_tokens.specs.declared.token.Token.TheVariants as t
-use Rattle.expr_parser.specs.Tree.{Tree, Trees, Argument, Arguments, Number, Text, True, False, Null, Variable, Capture, Group, Member, Call, Not, Negate, Operation, Choice, One, Listed, no_argument, argument, none, more}
+use Rattle.expr_parser.specs.Tree.{SyntaxTree, Trees, Argument, Arguments, Number, Text, True, False, Null, Variable, Capture, Group, Member, Call, Not, Negate, Operation, Choice, One, Listed, no_argument, argument, none, more}
 use Rattle.expr_parser.specs.Grammar.{level}
 
 -- The tokens of an expression, and then others.
 abbrev mutual
-  pub spelled : Tree → List Token → List Token
+  pub spelled : SyntaxTree → List Token → List Token
   spelled (Number k) rest = t.Number k ∷ rest
   spelled (Text s) rest = t.Text s ∷ rest
   spelled True rest = t.True ∷ rest
@@ -54,7 +54,7 @@ HasOne (more x xs) = Unit {0}
 
 -- The expression is one of the level n, with d levels open round it.
 abbrev mutual
-  pub Fits : Tree → ℕ → ℕ → Type 0
+  pub Fits : SyntaxTree → ℕ → ℕ → Type 0
   Fits (Number k) n d = n ≤ 8
   Fits (Text s) n d = n ≤ 8
   Fits True n d = n ≤ 8
@@ -83,6 +83,6 @@ abbrev mutual
   FitItems (more x xs) d = Fits x 0 d × FitItems xs d
 
 -- The tokens are those of the expression, and it is one that may stand alone.
-pub record Printed (tokens : List Token) (x : Tree) : Type 0 where
+pub record Printed (tokens : List Token) (x : SyntaxTree) : Type 0 where
   pub fits : Fits x 0 0
   pub tokens_are : tokens ≡ spelled x []

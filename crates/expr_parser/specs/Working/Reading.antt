@@ -6,26 +6,26 @@ use Rattle.expr_tokens.specs.declared.token.Token.{Token}
 use Rattle.expr_tokens.specs.declared.token.Token.TheVariants as t
 use Rattle.expr_parser.specs.declared.parser.ParseFault.{ParseFault}
 use Rattle.expr_parser.specs.declared.parser.ParseFault.TheVariants.{Unexpected, Bracket, NoMemory}
-use Rattle.expr_parser.specs.Tree.{Tree, Trees, Argument, Arguments, Number, Text, True, False, Null, Variable, Capture, Group, Member, Call, Not, Negate, Operation, Choice, One, Listed, no_argument, argument, none, more}
+use Rattle.expr_parser.specs.Tree.{SyntaxTree, Trees, Argument, Arguments, Number, Text, True, False, Null, Variable, Capture, Group, Member, Call, Not, Negate, Operation, Choice, One, Listed, no_argument, argument, none, more}
 use Rattle.expr_parser.specs.Grammar.{level}
 
 -- what is read next
 pub data Mode : Type 0 where
   Whole : Mode
   Climb : ℕ → Mode
-  On : ℕ → Tree → Mode
+  On : ℕ → SyntaxTree → Mode
   Unary : Mode
-  After : Tree → Mode
+  After : SyntaxTree → Mode
   Args : Arguments → Mode
   Items : Trees → Mode
 
 -- what it is read as
 abbrev pub Out : Mode → Type 0
-Out Whole = Tree
-Out (Climb n) = Tree
-Out (On n x) = Tree
-Out Unary = Tree
-Out (After x) = Tree
+Out Whole = SyntaxTree
+Out (Climb n) = SyntaxTree
+Out (On n x) = SyntaxTree
+Out Unary = SyntaxTree
+Out (After x) = SyntaxTree
 Out (Args xs) = Arguments
 Out (Items xs) = Trees
 
@@ -49,7 +49,7 @@ stop ts = Err (Unexpected (length ts))
 abbrev pub deeper : {A : Type 0} → ℕ → List Token → Found A → Found A
 deeper d ts found = if nat_lt d MAX_LEVELS then found else stop ts
 
-abbrev pub snoc_item : Trees → Tree → Trees
+abbrev pub snoc_item : Trees → SyntaxTree → Trees
 snoc_item none x = more x none
 snoc_item (more y ys) x = more y (snoc_item ys x)
 
@@ -57,14 +57,14 @@ abbrev pub snoc : Arguments → Argument → Arguments
 snoc no_argument x = argument x no_argument
 snoc (argument y ys) x = argument y (snoc ys x)
 
-abbrev pub closed : Tree → List Token → Found Tree
+abbrev pub closed : SyntaxTree → List Token → Found SyntaxTree
 closed x (t.CloseParenthesis ∷ ts) = Ok (Group x, ts)
 closed x ts = stop ts
 
-abbrev pub group : Reader → ℕ → List Token → Found Tree
+abbrev pub group : Reader → ℕ → List Token → Found SyntaxTree
 group r d ts = r Whole (suc d) ts >>= λ x. closed x.0 x.1
 
-abbrev pub primary : Reader → ℕ → List Token → Found Tree
+abbrev pub primary : Reader → ℕ → List Token → Found SyntaxTree
 primary r d (t.Number n ∷ ts) = Ok (Number n, ts)
 primary r d (t.Text s ∷ ts) = Ok (Text s, ts)
 primary r d (t.True ∷ ts) = Ok (True, ts)
@@ -93,48 +93,48 @@ abbrev pub call : Reader → ℕ → List Token → Found Arguments
 call r d (t.CloseParenthesis ∷ ts) = Ok (no_argument, ts)
 call r d ts = r (Args no_argument) d ts
 
-abbrev pub named : Reader → ℕ → Tree → List ℕ → List Token → Found Tree
+abbrev pub named : Reader → ℕ → SyntaxTree → List ℕ → List Token → Found SyntaxTree
 named r d x f (t.OpenParenthesis ∷ ts) = deeper d (t.OpenParenthesis ∷ ts) (call r (suc d) ts >>= λ xs. Ok (Call x f xs.0, xs.1))
 named r d x f ts = Ok (Member x f, ts)
 
-abbrev pub dotted : Reader → ℕ → Tree → List Token → Found Tree
+abbrev pub dotted : Reader → ℕ → SyntaxTree → List Token → Found SyntaxTree
 dotted r d x (t.Name f ∷ ts) = named r d x f ts
 dotted r d x ts = stop ts
 
-abbrev pub after : Reader → ℕ → Tree → List Token → Found Tree
+abbrev pub after : Reader → ℕ → SyntaxTree → List Token → Found SyntaxTree
 after r d x (t.Dot ∷ ts) = dotted r d x ts >>= λ y. r (After y.0) d y.1
 after r d x (t.OpenBracket ∷ ts) = Err (Bracket (length (t.OpenBracket ∷ ts)))
 after r d x ts = Ok (x, ts)
 
-abbrev pub postfix : Reader → ℕ → List Token → Found Tree
+abbrev pub postfix : Reader → ℕ → List Token → Found SyntaxTree
 postfix r d ts = primary r d ts >>= λ x. after r d x.0 x.1
 
 -- ---- operators
 
-abbrev pub unary : Reader → ℕ → List Token → Found Tree
+abbrev pub unary : Reader → ℕ → List Token → Found SyntaxTree
 unary r d (t.Not ∷ ts) = deeper d (t.Not ∷ ts) (r Unary (suc d) ts >>= λ x. Ok (Not x.0, x.1))
 unary r d (t.Operator b.Subtract ∷ ts) = deeper d (t.Operator b.Subtract ∷ ts) (r Unary (suc d) ts >>= λ x. Ok (Negate x.0, x.1))
 unary r d ts = postfix r d ts
 
-abbrev pub on : Reader → ℕ → ℕ → Tree → List Token → Found Tree
+abbrev pub on : Reader → ℕ → ℕ → SyntaxTree → List Token → Found SyntaxTree
 on r n d x (t.Operator op ∷ ts) = if nat_le n (level op) then (r (Climb (suc (level op))) d ts >>= λ y. r (On n (Operation op x y.0)) d y.1) else Ok (x, t.Operator op ∷ ts)
 on r n d x ts = Ok (x, ts)
 
-abbrev pub climb : Reader → ℕ → ℕ → List Token → Found Tree
+abbrev pub climb : Reader → ℕ → ℕ → List Token → Found SyntaxTree
 climb r n d ts = unary r d ts >>= λ x. on r n d x.0 x.1
 
-abbrev pub otherwise : Reader → ℕ → Tree → Tree → List Token → Found Tree
+abbrev pub otherwise : Reader → ℕ → SyntaxTree → SyntaxTree → List Token → Found SyntaxTree
 otherwise r d c x (t.Colon ∷ ts) = r Whole (suc d) ts >>= λ y. Ok (Choice c x y.0, y.1)
 otherwise r d c x ts = stop ts
 
-abbrev pub parts : Reader → ℕ → Tree → List Token → Found Tree
+abbrev pub parts : Reader → ℕ → SyntaxTree → List Token → Found SyntaxTree
 parts r d c ts = r Whole (suc d) ts >>= λ x. otherwise r d c x.0 x.1
 
-abbrev pub chosen : Reader → ℕ → Tree → List Token → Found Tree
+abbrev pub chosen : Reader → ℕ → SyntaxTree → List Token → Found SyntaxTree
 chosen r d c (t.Question ∷ ts) = deeper d (t.Question ∷ ts) (parts r d c ts)
 chosen r d c ts = Ok (c, ts)
 
-abbrev pub whole : Reader → ℕ → List Token → Found Tree
+abbrev pub whole : Reader → ℕ → List Token → Found SyntaxTree
 whole r d ts = climb r 1 d ts >>= λ c. chosen r d c.0 c.1
 
 -- ---- elements and arguments

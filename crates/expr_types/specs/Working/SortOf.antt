@@ -1,7 +1,7 @@
 -- The sort of an expression or its first fault, as a function.
 use Rattle.std.specs.Prelude.{ℕ, List, ◌++◌, Bool, true, false, ◌&&◌, Result, Ok, Err, Option, Some, None, codes, if◌then◌else◌}
 use Rattle.std.specs.Str.{bytes_eq}
-use Rattle.expr_parser.specs.Tree.{Tree, Trees, Arguments, Argument, Number, Text, True, False, Null, Variable, Capture, Group, Member, Call, Not, Negate, Operation, Choice, One, Listed, no_argument, argument, none, more}
+use Rattle.expr_parser.specs.Tree.{SyntaxTree, Trees, Arguments, Argument, Number, Text, True, False, Null, Variable, Capture, Group, Member, Call, Not, Negate, Operation, Choice, One, Listed, no_argument, argument, none, more}
 use Rattle.expr_types.specs.declared.fault.TypeFault.{TypeFault}
 use Rattle.expr_types.specs.declared.fault.TypeFault.TheVariants.{TypeError, UnknownName}
 use Rattle.expr_types.specs.declared.place.Place.{Place}
@@ -86,7 +86,7 @@ with_list Other = Other
 -- ---- the whole
 
 abbrev mutual
-  pub sort_of : Place → List (List ℕ) → Tree → Result Sort TypeFault
+  pub sort_of : Place → List (List ℕ) → SyntaxTree → Result Sort TypeFault
   sort_of p ns (Number n) = Ok Value
   sort_of p ns (Text s) = Ok Value
   sort_of p ns True = Ok Value

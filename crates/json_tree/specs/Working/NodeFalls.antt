@@ -7,17 +7,17 @@ use Rattle.tree_model.specs.PathMap.{greatest, depth}
 use Rattle.tree_model.specs.Tree.{Tree}
 use Rattle.tree_model.proofs.Grafts.{depth-graft}
 use Rattle.json_tree.specs.Node.{tree_of, IsKind, IsNode}
-use Rattle.json_tree.specs.declared.node.Kind.{Kind}
-use Rattle.json_tree.specs.declared.node.Kind.TheVariants.{Primitive, Parent}
-use Rattle.json_tree.specs.declared.node.Child.TheDeep.{deep-Kind}
+use Rattle.json_tree.specs.declared.node.NodeKind.{NodeKind}
+use Rattle.json_tree.specs.declared.node.NodeKind.TheVariants.{Primitive, Parent}
+use Rattle.json_tree.specs.declared.node.Child.TheDeep.{deep-NodeKind}
 
 most_le-greatest : (cs : List (Key × Tree)) → most (λ c. depth c.1 + depth c.1 + 1 + 1) cs ≤ greatest (map (λ c. depth c.1 + 1) cs) + greatest (map (λ c. depth c.1 + 1) cs)
 most_le-greatest [] = omega arith
 most_le-greatest (c ∷ cs) = omega (arith, most_le-greatest cs)
 
-kind_falls : (k : Kind) → IsKind k → max (deep-Kind k) 0 ≤ depth (tree_of k) + depth (tree_of k)
+kind_falls : (k : NodeKind) → IsKind k → max (deep-NodeKind k) 0 ≤ depth (tree_of k) + depth (tree_of k)
 kind_falls (Primitive leaf) h = omega arith
 kind_falls (Parent cs deep many) h = omega (arith, most_le-greatest cs.items, depth-graft cs.items h.0)
 
-pub falls : (k : Kind) → IsNode k → max (deep-Kind k) 0 ≤ depth (tree_of k) + depth (tree_of k)
+pub falls : (k : NodeKind) → IsNode k → max (deep-NodeKind k) 0 ≤ depth (tree_of k) + depth (tree_of k)
 falls k h = kind_falls k h.parts

@@ -10,8 +10,8 @@ use Rattle.listeners.specs.Order.{nothing, value, location}
 use Rattle.listeners.specs.Working.Ranks as ranks
 use Rattle.listeners.specs.Working.Ranks.{Rank, rank_cmp, at_key, at_value}
 use Rattle.listeners.specs.declared.list_key.ListKey.{ListKey}
-use Rattle.listeners.specs.declared.place.Place.{Place}
-use Rattle.listeners.specs.declared.place.Place.TheVariants.{Nothing, Value, Location}
+use Rattle.listeners.specs.declared.place.SortPlace.{SortPlace}
+use Rattle.listeners.specs.declared.place.SortPlace.TheVariants.{Nothing, Value, Location}
 use Rattle.listeners.specs.declared.item.Item.{Item}
 use Rattle.listeners.specs.declared.bounds.Mark.{Mark}
 use Rattle.listeners.specs.declared.bounds.Mark.TheVariants.{Key as AtKey, Value as AtValue}
@@ -22,7 +22,7 @@ use Rattle.listeners.specs.declared.edge.Edge.TheVariants.{Nowhere, UpTo, FromOn
 abbrev pub key_seen : ListKey → Option ℤ × Key
 key_seen key = (key.number, key.text.now)
 
-abbrev pub place_seen : Place → orders.Place
+abbrev pub place_seen : SortPlace → orders.SortPlace
 place_seen Nothing = nothing
 place_seen (Value leaf) = value (primitive_of leaf.now)
 place_seen Location = location

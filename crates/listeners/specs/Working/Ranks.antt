@@ -10,13 +10,13 @@ use Rattle.tree_model.specs.Key.{Key, key_cmp}
 use Rattle.tree_model.specs.PathMap.{sub}
 use Rattle.tree_model.specs.Primitive.{Primitive, truth, whole, words}
 use Rattle.tree_model.specs.Tree.{Tree, children}
-use Rattle.listeners.specs.Order.{number_of, numbered_cmp, length_cmp, Place, nothing, value, place_cmp}
+use Rattle.listeners.specs.Order.{number_of, numbered_cmp, length_cmp, SortPlace, nothing, value, place_cmp}
 use Rattle.listeners.specs.Query.{Order, by_key, by_value, by_child, Query}
 use Rattle.listeners.specs.Selection.{Child, place_of, is_within}
 
 -- the place of the child, and its key with the number that it is
 abbrev pub Rank : Type 0
-Rank = Place × (Option ℤ × Key)
+Rank = SortPlace × (Option ℤ × Key)
 
 -- the order of keys whose numbers are known
 abbrev pub keyed_cmp : Option ℤ × Key → Option ℤ × Key → Ordering
@@ -29,7 +29,7 @@ abbrev pub rank_cmp : Rank → Rank → Ordering
 rank_cmp r s = ordering_then (place_cmp r.0 s.0) (keyed_cmp r.1 s.1)
 
 -- the place by which a child is ordered; by keys all are in one place
-abbrev pub place_by : Option Order → Child → Place
+abbrev pub place_by : Option Order → Child → SortPlace
 place_by None c = nothing
 place_by (Some by_key) c = nothing
 place_by (Some by_value) c = place_of c.1

@@ -11,7 +11,7 @@ use Rattle.listeners.specs.declared.search.Side.{Side}
 use Rattle.listeners.specs.declared.search.Side.TheVariants.{Before, UpTo}
 use Rattle.listeners.specs.declared.digits.Digits.{Digits}
 use Rattle.listeners.specs.declared.reach.Span.{Span}
-use Rattle.listeners.specs.declared.reach.Part.{Part}
+use Rattle.listeners.specs.declared.reach.Stretch.{Stretch}
 use Rattle.listeners.specs.declared.reach.Reach.{Reach}
 
 -- ---- searches
@@ -139,19 +139,19 @@ pub record IsEnough (query : Query) (cs : List Child) (reach : Reach) : Type 0 w
   pub others : (i : ℕ) (d : Child) → i < length cs → is_looked_at reach i ≡ false → is_within query (slice_index_or cs i d) ≡ true
       → is_kept_of query.limit_to_first query.limit_to_last (ranks_looked query cs reach) (rank_of query.order (slice_index_or cs i d)) ≡ false
 
--- ---- part by part
+-- ---- stretch by stretch
 
 -- the ranks of those within the bounds from one index on and up to another
 abbrev pub ranks_between : Query → List Child → ℕ → ℕ → List (ℕ × Rank)
 ranks_between query cs from to = map (ranked query.order) (filter (λ e. nat_le from e.0 && is_within query e.1) (take to (numbered 0 cs)))
 
--- from an index on, up to the end of the part, just the span of the part is looked at
-pub record IsPart (reach : Reach) (from width : ℕ) (part : Part) : Type 0 where
-  pub start : from ≤ part.from
-  pub order : part.from ≤ part.to
-  pub end : part.to ≤ part.end
-  pub further : from < part.end
-  pub within : part.end ≤ width
-  pub before : (i : ℕ) → from ≤ i → i < part.from → is_looked_at reach i ≡ false
-  pub inside : (i : ℕ) → part.from ≤ i → i < part.to → is_looked_at reach i ≡ true
-  pub behind : (i : ℕ) → part.to ≤ i → i < part.end → is_looked_at reach i ≡ false
+-- from an index on, up to the end of the stretch, just the span of the stretch is looked at
+pub record IsStretch (reach : Reach) (from width : ℕ) (stretch : Stretch) : Type 0 where
+  pub start : from ≤ stretch.from
+  pub order : stretch.from ≤ stretch.to
+  pub end : stretch.to ≤ stretch.end
+  pub further : from < stretch.end
+  pub within : stretch.end ≤ width
+  pub before : (i : ℕ) → from ≤ i → i < stretch.from → is_looked_at reach i ≡ false
+  pub inside : (i : ℕ) → stretch.from ≤ i → i < stretch.to → is_looked_at reach i ≡ true
+  pub behind : (i : ℕ) → stretch.to ≤ i → i < stretch.end → is_looked_at reach i ≡ false

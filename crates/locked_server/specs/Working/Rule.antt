@@ -10,7 +10,7 @@ use Rattle.atomic_table.specs.Table.{State as TableState, Me, Step as TableStep}
 use Rattle.tree_model.specs.Tree.{null}
 use Rattle.rtdb_model.specs.State.{State, opening}
 use Rattle.locked_server.specs.declared.entry.Entry.{Entry}
-use Rattle.locked_server.specs.declared.view.Part.{Part}
+use Rattle.locked_server.specs.declared.view.HistoryPart.{HistoryPart}
 use Rattle.locked_server.specs.declared.content.LastCall.{LastCall}
 use Rattle.locked_server.specs.declared.content.Content.{Content}
 use Rattle.locked_server.specs.declared.view.View.{View}
@@ -41,13 +41,13 @@ ticket_of (Waiting ticket) = ticket
 ticket_of Serving = 0
 ticket_of Joined = 0
 
-abbrev pub part : List Entry → List ℕ → Part
+abbrev pub part : List Entry → List ℕ → HistoryPart
 part seen numbers = record { seen = seen; numbers = numbers }
 
-abbrev pub empty_part : Part
+abbrev pub empty_part : HistoryPart
 empty_part = part [] []
 
-abbrev pub view_with : State → List Entry → List ℕ → Part → Stage → View
+abbrev pub view_with : State → List Entry → List ℕ → HistoryPart → Stage → View
 view_with opening seen numbers second stage = record { opening = opening; first = part seen numbers; second = second; stage = stage }
 
 -- the first seat: it has number 0, and has seen nothing
@@ -86,7 +86,7 @@ AreBelow n [] = Unit {0}
 AreBelow n (e ∷ es) = (e.seat < n) × AreBelow n es
 
 -- a part of a view fits the whole history: that begins with it, and has no further entry of its numbers, which were given to it, and which it alone has; `at` is the seat, and whether this is the first part of its view
-pub record PartFits (log : List Entry) (next : ℕ) (owner : ℕ → ℕ × Bool) (at : ℕ × Bool) (p : Part) : Type 0 where
+pub record PartFits (log : List Entry) (next : ℕ) (owner : ℕ → ℕ × Bool) (at : ℕ × Bool) (p : HistoryPart) : Type 0 where
   pub begins : IsPrefix p.seen log
   pub whole : calls_of p.numbers log ≡ calls_of p.numbers p.seen
   pub owns : (n : ℕ) → IsTrue (is_in p.numbers n) → (n < next) × (owner n ≡ at)

@@ -1,7 +1,7 @@
 -- The piece at the front of a file, by searching for its end.
 use Rattle.std.specs.Prelude.{ℕ, zero, suc, ◌==◌, ◌&&◌, not, Bool, if◌then◌else◌, List, [], ◌∷◌, length, take, drop, slice_index, Option, Some, None}
-use Rattle.rules_reader.specs.declared.plain_text.Kind.{Kind}
-use Rattle.rules_reader.specs.declared.plain_text.Kind.TheVariants.{Quoted, Comment, AsItIs}
+use Rattle.rules_reader.specs.declared.plain_text.PieceKind.{PieceKind}
+use Rattle.rules_reader.specs.declared.plain_text.PieceKind.TheVariants.{Quoted, Comment, AsItIs}
 use Rattle.rules_reader.specs.Plain.{Piece, closed_string, unclosed_string, line_comment, block_comment, unclosed_comment, single, quote, is_escaped, ends_line, spaced}
 
 -- the first place below n where the test holds
@@ -50,7 +50,7 @@ front byte behind =
     (if byte == 47 then slash_front behind else (single byte, behind))
 
 -- what becomes of a byte, by the kind of its piece
-abbrev pub kind_of : Piece → Kind
+abbrev pub kind_of : Piece → PieceKind
 kind_of (closed_string _) = Quoted
 kind_of (unclosed_string _) = Quoted
 kind_of (line_comment _) = Comment
@@ -58,7 +58,7 @@ kind_of (block_comment _) = Comment
 kind_of (unclosed_comment _) = AsItIs
 kind_of (single _) = AsItIs
 
-abbrev pub becomes_in : Kind → ℕ → ℕ
+abbrev pub becomes_in : PieceKind → ℕ → ℕ
 becomes_in Quoted byte = spaced byte
 becomes_in Comment byte = 32
 becomes_in AsItIs byte = byte

@@ -4,22 +4,22 @@ use Rattle.arena_snapshot.specs.Working.Change.{entries_of}
 use Rattle.arena_snapshot.proofs.Ranks.{width-entries}
 use Rattle.listeners.specs.Working.Items.{rank_seen}
 use Rattle.listeners.specs.Working.Ranks.{is_kept_of}
-use Rattle.listeners.specs.Working.Reach.{IsPart}
+use Rattle.listeners.specs.Working.Reach.{IsStretch}
 use Rattle.listeners.proofs.Enough.{enough_same}
 use Rattle.listeners.proofs.Listing.{looked_upto}
-use Rattle.listeners.proofs.Room.{kept_with_room, part_counted}
+use Rattle.listeners.proofs.Room.{kept_with_room, stretch_counted}
 use Rattle.listeners.proofs.membership.are_few_ahead.Goals as goal
 
 pub loop-from-smaller : goal.loop-from-smaller
 loop-from-smaller c =
     let wide = width-entries c.args.view.now in
-    omega (arith, c.part-part.ensures.further, c.part-part.ensures.within, c.loop-from-test.true, c.width.ensures, c.width-in-loop-from.ensures)
+    omega (arith, c.stretch-stretch.ensures.further, c.stretch-stretch.ensures.within, c.loop-from-test.true, c.width.ensures, c.width-in-loop-from.ensures)
 
 pub loop-from-preserved : goal.loop-from-preserved
 loop-from-preserved c =
     let cs = entries_of c.args.view.now in
-    let part = subst (λ wide. IsPart c.reach-reach.result c.loop-from.from wide c.part-part.result) (c.width-in-loop-from.ensures ∙ width-entries c.args.view.now) c.part-part.ensures in
-    part_counted c.args.query.now cs c.args.limit (rank_seen c.args.item.now) c.reach-reach.result c.loop-from.from c.part-part.result c.loop-from.room c.room_left-room.result part c.loop-from.invariant c.room_left-room.ensures
+    let stretch = subst (λ wide. IsStretch c.reach-reach.result c.loop-from.from wide c.stretch-stretch.result) (c.width-in-loop-from.ensures ∙ width-entries c.args.view.now) c.stretch-stretch.ensures in
+    stretch_counted c.args.query.now cs c.args.limit (rank_seen c.args.item.now) c.reach-reach.result c.loop-from.from c.stretch-stretch.result c.loop-from.room c.room_left-room.result stretch c.loop-from.invariant c.room_left-room.ensures
 
 pub returns : goal.returns
 returns c =

@@ -12,22 +12,22 @@ use Rattle.listeners.proofs.membership.room_left.Goals as goal
 pub loop-i-init : goal.loop-i-init
 loop-i-init c =
     let wide = width-entries c.args.view.now in
-    let none = ap (count_ahead c.args.limit (rank_seen c.args.item.now)) (between_none c.args.query.now (entries_of c.args.view.now) c.args.part.from (omega (arith, wide, c.requires.order, c.requires.within))) in
+    let none = ap (count_ahead c.args.limit (rank_seen c.args.item.now)) (between_none c.args.query.now (entries_of c.args.view.now) c.args.stretch.from (omega (arith, wide, c.requires.order, c.requires.within))) in
     omega (arith, none)
 
 pub returns-then-left-eq0 : goal.returns-then-left-eq0
 returns-then-left-eq0 c =
     let query = c.args.query.now in
     let cs = entries_of c.args.view.now in
-    let from = c.args.part.from in
+    let from = c.args.stretch.from in
     let wide = width-entries c.args.view.now in
-    used_up query.order cs (λ (e : ℕ × Child). nat_le from e.0 && is_within query e.1) c.args.limit (rank_seen c.args.item.now) c.args.room c.loop-i.i c.args.part.to (omega (arith, c.loop-i-test.true)) (omega (arith, wide, c.requires.within)) (sym c.if-left-eq0.true ∙ c.loop-i.invariant)
+    used_up query.order cs (λ (e : ℕ × Child). nat_le from e.0 && is_within query e.1) c.args.limit (rank_seen c.args.item.now) c.args.room c.loop-i.i c.args.stretch.to (omega (arith, c.loop-i-test.true)) (omega (arith, wide, c.requires.within)) (sym c.if-left-eq0.true ∙ c.loop-i.invariant)
 
 pub loop-i-preserved : goal.loop-i-preserved
 loop-i-preserved c =
     let query = c.args.query.now in
     let cs = entries_of c.args.view.now in
-    let from = c.args.part.from in
+    let from = c.args.stretch.from in
     let i = c.loop-i.i in
     let r = rank_seen c.args.item.now in
     let wide = width-entries c.args.view.now in

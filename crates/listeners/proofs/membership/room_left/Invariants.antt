@@ -6,4 +6,4 @@ use Rattle.listeners.specs.Working.Reach.{ranks_between}
 use Rattle.listeners.proofs.membership.room_left.Given as goal
 
 abbrev pub invariant-loop-i : goal.invariant-loop-i
-invariant-loop-i l = l.left ≡ l.room - count_ahead l.limit (rank_seen l.item) (ranks_between l.query (entries_of l.view) l.fn.part.from l.i)
+invariant-loop-i l = l.left ≡ l.room - count_ahead l.limit (rank_seen l.item) (ranks_between l.query (entries_of l.view) l.fn.stretch.from l.i)

@@ -1,7 +1,7 @@
 use Rattle.std.proofs.Common.{◌≡◌, ◌∷◌, get_or, sym, ap, ◌∙◌, arith}
 use Rattle.json.specs.Token as tokens
 use Rattle.json_lines.specs.Tokens.{tokens_at}
-use Rattle.json_lines.specs.declared.plain_tokens.Place.TheVariants.{Fresh}
+use Rattle.json_lines.specs.declared.plain_tokens.TokenPlace.TheVariants.{Fresh}
 use Rattle.json_lines.proofs.Lexing.{first_is, same_tokens, object_first}
 use Rattle.json_lines.proofs.plain_tokens.PlainTokens.next_value.Goals as goal
 

@@ -1,6 +1,6 @@
 use Rattle.std.proofs.Common.{◌≡◌, get_or, sym, ap, ◌∙◌, arith}
 use Rattle.json_lines.specs.Tokens.{tokens_at}
-use Rattle.json_lines.specs.declared.plain_tokens.Place.TheVariants.{AfterValue, AfterComma}
+use Rattle.json_lines.specs.declared.plain_tokens.TokenPlace.TheVariants.{AfterValue, AfterComma}
 use Rattle.json_lines.proofs.Lexing.{first_is, same_tokens, comma_first}
 use Rattle.json_lines.proofs.plain_tokens.PlainTokens.pass_comma.Goals as goal
 
