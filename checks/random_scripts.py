@@ -3,7 +3,7 @@
 `script(seed, number)` gives the bytes of a script, always the same for the same seed and number. Most of what it makes
 means something: names, keys and texts are few, so that rules meet trees. The rest is wrong in each way that the documents
 name: expressions that are ill-formed, ill-sorted or use unknown names, rules files of another shape, values that are not
-lawful, and lines that are no requests.
+lawful, forms that are not quite that of the server's time, and lines that are no requests.
 """
 
 import json
@@ -156,6 +156,7 @@ def small_test(place):
         lambda: typed("boolean", 1, place),
         lambda: f"{snapshot(1, place)}.hasChild({text(0, place)})",
         lambda: f"now {dice.choice(['<', '>=', '=='])} {dice.randint(0, 60)}",
+        lambda: f"{typed('number', 1, place)} {dice.choice(['==', '<=', '!='])} now",
     ]
     if place.kind == ".read":
         tests += [lambda: query_test(place)] * 3
@@ -509,6 +510,15 @@ ODD = Style(0.02, 0.2)
 
 # ---- trees, paths and queries
 
+# The form that stands for the moment of a step, and others that are like it, of which few are lawful.
+MOMENT = Raw('{".sv":"timestamp"}')
+ODD_MOMENTS = [
+    *map(Raw, ['{".sv":"x",".sv":"timestamp"}', '{".sv":"timestamp",".sv":"x"}', '{"\\u002esv":"timest\\u0061mp"}']),
+    *map(Raw, ['{ ".sv" : "timestamp" }', '{".sv":"timestamp","a":1}', '{"a":1,".sv":"timestamp"}', '{".sv":"timestamp","a":null}']),
+    *({".sv": it} for it in ["x", "", "Timestamp", "timestamp ", None, 1, True, ["timestamp"], {"increment": 1}, Pairs([]), MOMENT]),
+    *({it: "timestamp"} for it in ["sv", ".Sv", ".sv ", ".svx", ".s"]),
+]
+
 
 def path(most=4):
     if odd(0.03):
@@ -532,6 +542,8 @@ def odd_path():
 def leaf(type_="any"):
     if odd(0.015):
         return odd_leaf()
+    if odd(0.15 if type_ == "number" else 0.02):
+        return dice.choice(ODD_MOMENTS) if chance(0.05) else MOMENT
     if type_ == "number":
         return dice.choice([dice.randint(-3, 12), dice.randint(-3, 12), dice.choice(NUMBERS)])
     if type_ == "text":
@@ -563,7 +575,7 @@ def tree(depth):
         members.append((dice.choice(members)[0], tree(depth - 1)))
     if odd(0.006):
         levels = dice.choice([*range(27, 34), 40, *range(123, 128)])
-        members.append(("d", nested(levels, dice.choice([1, None, True, Raw("{}"), Raw("1.5")]))))
+        members.append(("d", nested(levels, dice.choice([1, None, True, Raw("{}"), Raw("1.5"), MOMENT]))))
     return Pairs(members)
 
 

@@ -242,6 +242,17 @@ def count(tree):
     return 0 if tree is None else 1 + sum(map(count, children_of(tree).values()))
 
 
+def with_moment(value, now):
+    """A written value with a moment in the place of each form that stands for it."""
+    if value == {".sv": "timestamp"}:
+        return now
+    if isinstance(value, dict):
+        return {key: with_moment(it, now) for key, it in value.items()}
+    if isinstance(value, list):
+        return [with_moment(it, now) for it in value]
+    return value
+
+
 def read_tree(value):
     if not is_lawful(value):
         raise Refused("BadValue")
@@ -1144,25 +1155,25 @@ def read_request(line):
     if "path" in said:
         said["path"] = read_path(said["path"])
     if verb == "set":
-        said["writes"] = [read_write(said["path"], said["value"])]
+        said["writes"] = [read_write(said["path"], said["value"], said["now"])]
     if verb == "remove":
         said["writes"] = [(said["path"], None)]
     if verb == "update":
-        said["writes"] = [read_write_below(said["path"], *it) for it in sorted(said["values"].items())]
+        said["writes"] = [read_write_below(said["path"], *it, said["now"]) for it in sorted(said["values"].items())]
     if "query" in said:
         said["query"] = read_query(said["query"])
     return said
 
 
-def read_write(path, value):
-    tree = read_tree(value)
+def read_write(path, value, now):
+    tree = read_tree(with_moment(value, now))
     if len(path) + depth(tree) > MOST_KEYS:
         raise Refused("TooDeep")
     return path, tree
 
 
-def read_write_below(path, name, value):
-    return read_write(within_depth(path + read_path(name)), value)
+def read_write_below(path, name, value, now):
+    return read_write(within_depth(path + read_path(name)), value, now)
 
 
 # ---- the database

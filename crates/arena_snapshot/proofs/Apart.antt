@@ -3,7 +3,8 @@ use Rattle.std.proofs.Common.{◌≡◌, ℕ, ◌+◌, ◌-◌, ◌≤◌, ◌<�
 use Rattle.std.specs.List.{list_any}
 use Rattle.std.proofs.lemmas.List.{length-drop}
 use Rattle.std.proofs.Math.ListN.{drop_of_length-le}
-use Rattle.tree_model.specs.Write.{Write, do_overlap, overlaps}
+use Rattle.tree_model.specs.Put.{do_overlap, overlaps}
+use Rattle.tree_model.specs.Write.{Write}
 use Rattle.json_tree.proofs.Lists.{drop_next}
 use Rattle.arena_snapshot.proofs.Walks.{all_of}
 

@@ -5,7 +5,8 @@ use Rattle.std.specs.Ordering.{is_lt, ordering_reverse}
 use Rattle.std.specs.List.Sorted.{IsSortedBy}
 use Rattle.std.proofs.lemmas.List.{length-map, get_or-map}
 use Rattle.tree_model.specs.Path.{Path, path_cmp}
-use Rattle.tree_model.specs.Write.{Write, location}
+use Rattle.tree_model.specs.Put.{Put, location}
+use Rattle.tree_model.specs.Write.{Write}
 use Rattle.tree_model.proofs.Orders.{paths_total, exact_paths}
 use Rattle.arena_snapshot.specs.Working.Left.{left, Ascend}
 use Rattle.std.specs.Borrow.{Bor}
@@ -22,14 +23,14 @@ not_before a b c h g =
       | Greater ↦ λ _. refl
     ] refl
 
-adjacent : (qs : List (Bor Write)) → IsSortedBy (λ a b. is_lt (path_cmp (location a.now) (location b.now))) qs → (k : ℕ) (e : Write) → k + 1 < length qs
-    → is_lt (path_cmp (location (get_or (map (left 0) qs) (k + 1) e)) (location (get_or (map (left 0) qs) k e))) ≡ false
-adjacent [] s k e low = absurd (omega arith)
-adjacent (q ∷ qs) s k e low =
-    (λ i. is_lt (path_cmp (location (get_or-map (left 0) (q ∷ qs) (k + 1) q e low i)) (location (get_or-map (left 0) (q ∷ qs) k q e (omega arith) i))))
+adjacent : (now : ℕ) (qs : List (Bor Write)) → IsSortedBy (λ a b. is_lt (path_cmp (location a.now) (location b.now))) qs → (k : ℕ) (e : Put) → k + 1 < length qs
+    → is_lt (path_cmp (location (get_or (map (left now 0) qs) (k + 1) e)) (location (get_or (map (left now 0) qs) k e))) ≡ false
+adjacent now [] s k e low = absurd (omega arith)
+adjacent now (q ∷ qs) s k e low =
+    (λ i. is_lt (path_cmp (location (get_or-map (left now 0) (q ∷ qs) (k + 1) q e low i)) (location (get_or-map (left now 0) (q ∷ qs) k q e (omega arith) i))))
     ∙ s k q (omega arith) low
 
-chain : (ws : List Write) (e : Write) → ((k : ℕ) → k + 1 < length ws → is_lt (path_cmp (location (get_or ws (k + 1) e)) (location (get_or ws k e))) ≡ false)
+chain : (ws : List Put) (e : Put) → ((k : ℕ) → k + 1 < length ws → is_lt (path_cmp (location (get_or ws (k + 1) e)) (location (get_or ws k e))) ≡ false)
     → (i m j : ℕ) → j ≡ i + 1 + m → j < length ws → is_lt (path_cmp (location (get_or ws j e)) (location (get_or ws i e))) ≡ false
 chain ws e h i zero j is low =
     let at : j ≡ i + 1 = omega arith in
@@ -39,7 +40,7 @@ chain ws e h i (suc m) j is low =
     ap (λ n. is_lt (path_cmp (location (get_or ws n e)) (location (get_or ws i e)))) at
     ∙ not_before (location (get_or ws i e)) (location (get_or ws (i + 1 + m) e)) (location (get_or ws (i + 1 + m + 1) e)) (chain ws e h i m (i + 1 + m) refl (omega arith)) (h (i + 1 + m) (omega arith))
 
-pub ascend : (qs : List (Bor Write)) → IsSortedBy (λ a b. is_lt (path_cmp (location a.now) (location b.now))) qs → Ascend (map (left 0) qs)
-ascend qs s i j e less low =
-    let long = length-map qs (left 0) in
-    chain (map (left 0) qs) e (λ k within. adjacent qs s k e (omega arith)) i (j - (i + 1)) j (omega arith) low
+pub ascend : (now : ℕ) (qs : List (Bor Write)) → IsSortedBy (λ a b. is_lt (path_cmp (location a.now) (location b.now))) qs → Ascend (map (left now 0) qs)
+ascend now qs s i j e less low =
+    let long = length-map qs (left now 0) in
+    chain (map (left now 0) qs) e (λ k within. adjacent now qs s k e (omega arith)) i (j - (i + 1)) j (omega arith) low

@@ -58,7 +58,7 @@ abbrev pub at_indices : Tree → List ℕ → Entries
 at_indices t indices = filter_map (slice_get (entries_of t)) indices
 
 -- a child stands behind those at earlier indices
-entry_before : (es : Entries) (p q : ℕ) (f e : Key × Tree) → is_sorted key_cmp es ≡ true → p < q → Some f ≡ slice_get es p → Some e ≡ slice_get es q → key_cmp f.0 e.0 ≡ Less
+pub entry_before : (es : Entries) (p q : ℕ) (f e : Key × Tree) → is_sorted key_cmp es ≡ true → p < q → Some f ≡ slice_get es p → Some e ≡ slice_get es q → key_cmp f.0 e.0 ≡ Less
 entry_before [] p q f e s less is_f is_e = cc
 entry_before (x ∷ es) p zero f e s less is_f is_e = absurd (omega arith)
 entry_before (x ∷ es) zero (suc q) f e s less is_f is_e =

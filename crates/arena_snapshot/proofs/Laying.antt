@@ -13,7 +13,7 @@ use Rattle.tree_model.specs.Tree.{Tree, null, non_null, count, child_keys}
 use Rattle.tree_model.proofs.Choices.{both_so}
 use Rattle.tree_model.proofs.Orders.{keys_total}
 use Rattle.tree_model.proofs.Existence.{non_null-null}
-use Rattle.tree_model.proofs.Writes.{proposed-none}
+use Rattle.tree_model.proofs.Placing.{merged-none}
 use Rattle.json_tree.proofs.Lists.{all_push}
 use Rattle.arena_snapshot.specs.Working.Change.{Change, changed, AreChanges, AllBefore, shared, share, total, one, locations, one_if, is_before, below, before}
 use Rattle.arena_snapshot.specs.Working.Changing.{child_kept, get-changed-root}
@@ -124,7 +124,7 @@ module _ (t : Tree) (ps : List Patch) (sizes : Sizes) (h : IsLayer t ps sizes) (
 pub no_layer : (t : Tree) (ps : List Patch) (sizes : Sizes) → ps ≡ [] → get t [] ≡ None → sizes.count ≡ 1 + total locations t → sizes.width ≡ total one t → sizes.count ≤ 2 ^ 64 - 1 → IsLayer t ps sizes
 no_layer t ps sizes none root count width fits =
     let cs : map change_of ps ≡ [] = ap (map change_of) none in
-    let same : changed t (map change_of ps) ≡ t = ap (changed t) cs ∙ proposed-none t in
+    let same : changed t (map change_of ps) ≡ t = ap (changed t) cs ∙ merged-none t in
     record {
       patches = record {
         changes = subst (AreChanges t) (sym cs) (record { root = root; ascending = refl; each = tt });

@@ -16,3 +16,4 @@ pub mod Keeping
 pub mod Neighbours
 pub mod Leaving
 pub mod Tokens
+pub mod Drafts

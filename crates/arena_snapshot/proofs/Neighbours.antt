@@ -9,7 +9,8 @@ use Rattle.std.specs.Str.{bytes_eq}
 use Rattle.std.proofs.lemmas.Bool.{false≢true}
 use Rattle.tree_model.specs.Key.{Key, key_cmp}
 use Rattle.tree_model.specs.Path.{Path, path_cmp, strip_prefix, is_prefix}
-use Rattle.tree_model.specs.Write.{Write, location, do_overlap, overlaps}
+use Rattle.tree_model.specs.Put.{location, do_overlap, overlaps}
+use Rattle.tree_model.specs.Write.{Write}
 use Rattle.tree_model.proofs.Choices.{not_true, or_right, true_is_not_false}
 use Rattle.tree_model.proofs.Orders.{paths_total, keys_total, exact_keys, exact_paths, same_key, bytes_eq-self}
 

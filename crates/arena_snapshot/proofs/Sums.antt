@@ -18,7 +18,7 @@ use Rattle.tree_model.specs.Children.{graft}
 use Rattle.tree_model.proofs.Orders.{keys_total, exact_keys, same_key, bytes_eq-self, bytes_eq-swap}
 use Rattle.tree_model.proofs.Existence.{non_null-null, depth-null}
 use Rattle.tree_model.proofs.Grafts.{find_beyond, get-children}
-use Rattle.tree_model.proofs.Writes.{proposed-none}
+use Rattle.tree_model.proofs.Placing.{merged-none}
 use Rattle.tree_model.proofs.Counts.{count-graft}
 use Rattle.json_tree.proofs.Children.{graft-children, each_subtree, no_children}
 use Rattle.json_tree.proofs.Proposing.{empty_graft}
@@ -133,7 +133,7 @@ pub balance : (g : Key → Tree → ℕ) (t : Tree) (cs : List Change) → is_so
 balance g t [] s h = let none = total-none in omega arith
   where
     total-none : total g (changed t []) ≡ total g t
-    total-none = ap (total g) (proposed-none t)
+    total-none = ap (total g) (merged-none t)
 balance g t (c ∷ cs) s h =
     let with_it = total-change g t c cs s in
     let rest = balance g t cs (later_change c cs s) h.1 in

@@ -23,3 +23,11 @@ other_of false A P differs h = λ p. differs (h p)
 pub same_of : (b : Bool) (A P : Type 0) → OnTrue b A → (A → P) → OnFalse (not b) P
 same_of true A P same h = h same
 same_of false A P same h = tt
+
+pub on_true_weaker : (b : Bool) {A P : Type 0} → (A → P) → OnTrue b A → OnTrue b P
+on_true_weaker true f h = f h
+on_true_weaker false f h = tt
+
+pub on_false_weaker : (b : Bool) {A P : Type 0} → (A → P) → OnFalse b A → OnFalse b P
+on_false_weaker true f h = tt
+on_false_weaker false f h = f h

@@ -1,9 +1,10 @@
 //! Whether writes change what stands at a path, found out without a look at what they leave as it is.
-ghost use Rattle.std.specs.Prelude.{◌≡◌, ◌≢◌, ◌≤◌, false, length, drop};
+ghost use Rattle.std.specs.Prelude.{◌≡◌, ◌≢◌, ◌≤◌, ℕ, false, length, drop};
 ghost use Rattle.std.specs.Bool.{OnTrue, OnFalse};
 ghost use Rattle.tree_model.specs.PathMap.{sub};
 ghost use Rattle.tree_model.specs.Tree.{non_null, IsLawful};
-ghost use Rattle.tree_model.specs.Write.{overlaps, proposed, IsLawfulWrite};
+ghost use Rattle.tree_model.specs.Put.{overlaps, IsLawfulPut};
+ghost use Rattle.tree_model.specs.Write.{made, all_made, proposed, AreFixed};
 ghost use Rattle.arena_snapshot.specs.View.{node_or_null};
 ghost use Rattle.arena_snapshot.specs.Working.Leaving.{Leaves};
 
@@ -19,10 +20,11 @@ use path_capture::{Path, Write, is_prefix_of};
 /// keys and nodes of w children, and one comparison with what is written there, which stops at the
 /// first difference.
 pub fn is_changed(base: Option<&Node>, writes: &[Write], path: &Path) -> bool
-    requires { overlaps writes.now ≡ false }
-    ensures changed { OnTrue result (sub (proposed (node_or_null base.entry) writes.now) path.now
+    requires apart { overlaps writes.now ≡ false }
+    requires fixed { AreFixed writes.now }
+    ensures changed { OnTrue result ((now : ℕ) → sub (proposed (node_or_null base.entry) writes.now now) path.now
         ≢ sub (node_or_null base.entry) path.now) }
-    ensures unchanged { OnFalse result (sub (proposed (node_or_null base.entry) writes.now) path.now
+    ensures unchanged { OnFalse result ((now : ℕ) → sub (proposed (node_or_null base.entry) writes.now now) path.now
         ≡ sub (node_or_null base.entry) path.now) }
 {
     is_changed_at(base, writes, path.keys())
@@ -30,10 +32,22 @@ pub fn is_changed(base: Option<&Node>, writes: &[Write], path: &Path) -> bool
 
 /// [`is_changed`] of the path of these keys, which may be the front of a longer one.
 pub fn is_changed_at(base: Option<&Node>, writes: &[Write], keys: &[Key]) -> bool
-    requires { overlaps writes.now ≡ false }
-    ensures changed { OnTrue result (sub (proposed (node_or_null base.entry) writes.now) keys.now
+    requires apart { overlaps writes.now ≡ false }
+    requires fixed { AreFixed writes.now }
+    ensures changed { OnTrue result ((now : ℕ) → sub (proposed (node_or_null base.entry) writes.now now) keys.now
         ≢ sub (node_or_null base.entry) keys.now) }
-    ensures unchanged { OnFalse result (sub (proposed (node_or_null base.entry) writes.now) keys.now
+    ensures unchanged { OnFalse result ((now : ℕ) → sub (proposed (node_or_null base.entry) writes.now now) keys.now
+        ≡ sub (node_or_null base.entry) keys.now) }
+{
+    is_changed_at_zero(base, writes, keys)
+}
+
+// The same at the moment 0.
+fn is_changed_at_zero(base: Option<&Node>, writes: &[Write], keys: &[Key]) -> bool
+    requires { overlaps writes.now ≡ false }
+    ensures changed { OnTrue result (sub (proposed (node_or_null base.entry) writes.now 0) keys.now
+        ≢ sub (node_or_null base.entry) keys.now) }
+    ensures unchanged { OnFalse result (sub (proposed (node_or_null base.entry) writes.now 0) keys.now
         ≡ sub (node_or_null base.entry) keys.now) }
 {
     law_of(base);
@@ -55,20 +69,21 @@ fn law_of(base: Option<&Node>)
     }
 }
 
-// Whether the write puts something else at, above or below the path of these keys than what stands there.
+// Whether the write puts something else at the moment 0, at, above or below the path of these keys, than what stands
+// there.
 fn changes(base: Option<&Node>, write: &Write, keys: &[Key]) -> bool
-    ensures lawful { IsLawfulWrite write.now }
-    ensures changes { OnTrue result (Leaves (node_or_null base.entry) keys.now write.now → ⊥) }
-    ensures leaves { OnFalse result (Leaves (node_or_null base.entry) keys.now write.now) }
+    ensures lawful { IsLawfulPut (made 0 write.now) }
+    ensures changes { OnTrue result (Leaves (node_or_null base.entry) keys.now (made 0 write.now) → ⊥) }
+    ensures leaves { OnFalse result (Leaves (node_or_null base.entry) keys.now (made 0 write.now)) }
 {
     let at = write.at().keys();
     if is_prefix_of(keys, at) {
-        return !are_same(&stored_at(base, at), &stored(write.tree()));
+        return !are_same(&stored_at(base, at), &stored(write.tree_at_zero()));
     }
     if !is_prefix_of(at, keys) {
         return false;
     }
-    let put = stored_at(write.tree(), rest_of(keys, at));
+    let put = stored_at(write.tree_at_zero(), rest_of(keys, at));
     !are_same(&stored_at(base, keys), &put)
 }
 

@@ -8,6 +8,7 @@
 mod copies;
 mod difference;
 mod layer;
+mod moments;
 mod overlapping;
 mod patches;
 mod proposal;

@@ -1,7 +1,7 @@
 //! Whether writes overlap: such writes propose no tree together.
 ghost use Rattle.std.specs.Prelude.{◌≡◌, IfSome};
 ghost use Rattle.std.specs.List.{list_any};
-ghost use Rattle.tree_model.specs.Write.{do_overlap, overlaps};
+ghost use Rattle.tree_model.specs.Put.{do_overlap, overlaps};
 
 use path_capture::Write;
 

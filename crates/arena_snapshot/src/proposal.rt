@@ -1,19 +1,22 @@
-//! The tree that writes propose, laid over the stored one. The writes are taken in the order of their
+//! The tree that writes propose at a moment, laid over the stored one. The writes are taken in the order of their
 //! paths, so that those below one key stand together.
-ghost use Rattle.std.specs.Prelude.{◌≡◌, ◌<◌, ◌≤◌, ◌∷◌, [], None, true, false, not, length, map, drop, IfOk};
+ghost use Rattle.std.specs.Prelude.{◌≡◌, ◌<◌, ◌≤◌, ◌∷◌, [], None, true, false, not, length, map, drop, pos, IfOk};
 ghost use Rattle.std.specs.Bool.{OnTrue, OnFalse};
 ghost use Rattle.std.specs.List.{list_any, AllByRecursion, AllWithin, HoldsAt};
 ghost use Rattle.std.specs.List.Sorted.{IsPermutation, IsSortedBy};
 ghost use Rattle.std.specs.Ordering.{is_lt};
 ghost use Rattle.tree_model.specs.Path.{path_cmp, is_prefix, is_root};
 ghost use Rattle.tree_model.specs.PathMap.{get, is_null};
-ghost use Rattle.tree_model.specs.Primitive.{Primitive};
+ghost use Rattle.tree_model.specs.Primitive.{Primitive, is_whole};
 ghost use Rattle.tree_model.specs.Tree.{lone, non_null, IsLawful};
-ghost use Rattle.tree_model.specs.Write.{location, written, overlaps, proposed, IsLawfulWrite};
+ghost use Rattle.tree_model.specs.Put.{location, written, overlaps, merged, IsLawfulPut};
+ghost use Rattle.tree_model.specs.Draft.{tree_at};
+ghost use Rattle.tree_model.specs.Write.{proposed, IsLawfulWrite};
 ghost use Rattle.arena_snapshot.specs.View.{node_or_null};
 ghost use Rattle.arena_snapshot.specs.Working.Left.{left, Ascend};
 
 use crate::layer::Layer;
+use crate::moments::at_moment;
 use crate::patches::stored_place;
 use crate::view::View;
 use bumpalo::Bump;
@@ -23,7 +26,8 @@ use path_capture::Write;
 // For how many children a layer has room at first: the writes of an update share most of their keys.
 const USUAL_PATCHES: usize = 4;
 
-/// The tree that these writes propose, if anything is left. For one write of d keys it takes time d ·
+/// The tree that these writes propose in a step at this moment, in milliseconds, if anything is left. A draft without
+/// a moment is borrowed; in another one the number is laid over each moment's place. For one write of d keys it takes time d ·
 /// log w in nodes of w children, and two growths of the arena for each key, whatever w is; for n writes
 /// the sum of these, one growth for a list of them, and n · log n comparisons of their paths, which are
 /// sorted once. With no writes it takes no memory. A stored tree of more locations or
@@ -32,13 +36,15 @@ pub fn overlay<'a>(
     arena: &'a Bump,
     base: Option<&'a Node>,
     writes: &'a [Write],
+    now: u64,
 ) -> Result<Option<View<'a>>, NoMemory>
-    requires { overlaps writes.now ≡ false }
-    ensures { IfOk result (λ view. view ≡ non_null (proposed (node_or_null base.entry) writes.now)) }
+    requires apart { overlaps writes.now ≡ false }
+    requires moment { is_whole (pos now) ≡ true }
+    ensures { IfOk result (λ view. view ≡ non_null (proposed (node_or_null base.entry) writes.now now)) }
 {
     match writes {
-        [write] => lay_one(arena, base, write),
-        _ => lay_all(arena, base, writes),
+        [write] => lay_one(arena, base, write, now),
+        _ => lay_all(arena, base, writes, now),
     }
 }
 
@@ -47,11 +53,13 @@ fn lay_one<'a>(
     arena: &'a Bump,
     base: Option<&'a Node>,
     write: &'a Write,
+    now: u64,
 ) -> Result<Option<View<'a>>, NoMemory>
-    ensures { IfOk result (λ view. view ≡ non_null (proposed (node_or_null base.entry) (write.now ∷ []))) }
+    requires { is_whole (pos now) ≡ true }
+    ensures { IfOk result (λ view. view ≡ non_null (proposed (node_or_null base.entry) (write.now ∷ []) now)) }
 {
     write.at();
-    lay(arena, base, &[write], 0)
+    lay(arena, base, &[write], now, 0)
 }
 
 // The same of writes in the order of their locations.
@@ -59,19 +67,21 @@ fn lay_all<'a>(
     arena: &'a Bump,
     base: Option<&'a Node>,
     writes: &'a [Write],
+    now: u64,
 ) -> Result<Option<View<'a>>, NoMemory>
-    requires { overlaps writes.now ≡ false }
-    ensures { IfOk result (λ view. view ≡ non_null (proposed (node_or_null base.entry) writes.now)) }
+    requires apart { overlaps writes.now ≡ false }
+    requires moment { is_whole (pos now) ≡ true }
+    ensures { IfOk result (λ view. view ≡ non_null (proposed (node_or_null base.entry) writes.now now)) }
 {
     let mut sorted = borrowed(arena, writes)?;
     sort(&mut sorted);
-    lay(arena, base, &sorted, 0)
+    lay(arena, base, &sorted, now, 0)
 }
 
 // Each of the writes, borrowed.
 fn borrowed<'a>(arena: &'a Bump, writes: &'a [Write]) -> Result<Vec<&'a Write, &'a Bump>, NoMemory>
-    ensures same { IfOk result (λ borrowed. map (left 0) borrowed.items ≡ writes.now) }
-    ensures lawful { IfOk result (λ borrowed. AllByRecursion IsLawfulWrite (map (left 0) borrowed.items)) }
+    ensures same { IfOk result (λ borrowed. map (λ write. write.now) borrowed.items ≡ writes.now) }
+    ensures lawful { IfOk result (λ borrowed. AllByRecursion IsLawfulWrite (map (λ write. write.now) borrowed.items)) }
 {
     let mut borrowed = Vec::with_capacity(arena, writes.len())?;
     for write in writes {
@@ -96,25 +106,27 @@ fn lay<'a>(
     arena: &'a Bump,
     base: Option<&'a Node>,
     writes: &[&'a Write],
+    now: u64,
     depth: usize,
 ) -> Result<Option<View<'a>>, NoMemory>
-    requires apart { overlaps (map (left depth) writes.now) ≡ false }
-    requires ascending { Ascend (map (left depth) writes.now) }
-    requires lawful { AllByRecursion IsLawfulWrite (map (left depth) writes.now) }
+    requires moment { is_whole (pos now) ≡ true }
+    requires apart { overlaps (map (left now depth) writes.now) ≡ false }
+    requires ascending { Ascend (map (left now depth) writes.now) }
+    requires lawful { AllByRecursion IsLawfulPut (map (left now depth) writes.now) }
     ensures { IfOk result (λ view. view
-        ≡ non_null (proposed (node_or_null base.entry) (map (left depth) writes.now))) }
+        ≡ non_null (merged (node_or_null base.entry) (map (left now depth) writes.now))) }
 {
     match writes {
         [] => Ok(stored(base)),
         [first, ..] => {
             if ends_at(first, depth) {
-                return Ok(stored(first.tree()));
+                return shown(arena, first, now);
             }
             if !is_primitive(base) {
-                return lay_below(arena, base, writes, depth);
+                return lay_below(arena, base, writes, now, depth);
             }
             if has_tree(writes) {
-                return lay_below(arena, None, writes, depth);
+                return lay_below(arena, None, writes, now, depth);
             }
             Ok(stored(base))
         }
@@ -128,16 +140,18 @@ fn lay_below<'a>(
     arena: &'a Bump,
     base: Option<&'a Node>,
     writes: &[&'a Write],
+    now: u64,
     depth: usize,
 ) -> Result<Option<View<'a>>, NoMemory>
     requires root { get (node_or_null base) [] ≡ None }
     requires stored { IsLawful (node_or_null base) }
-    requires apart { overlaps (map (left depth) writes.now) ≡ false }
-    requires ascending { Ascend (map (left depth) writes.now) }
-    requires lawful { AllByRecursion IsLawfulWrite (map (left depth) writes.now) }
-    requires below { list_any (λ w. is_root (location w)) (map (left depth) writes.now) ≡ false }
+    requires moment { is_whole (pos now) ≡ true }
+    requires apart { overlaps (map (left now depth) writes.now) ≡ false }
+    requires ascending { Ascend (map (left now depth) writes.now) }
+    requires lawful { AllByRecursion IsLawfulPut (map (left now depth) writes.now) }
+    requires below { list_any (λ w. is_root (location w)) (map (left now depth) writes.now) ≡ false }
     ensures { IfOk result (λ view. view
-        ≡ non_null (proposed (node_or_null base.entry) (map (left depth) writes.now))) }
+        ≡ non_null (merged (node_or_null base.entry) (map (left now depth) writes.now))) }
 {
     let mut layer = Layer::new(arena, base, writes.len().min(USUAL_PATCHES))?;
     let mut start = 0;
@@ -145,11 +159,22 @@ fn lay_below<'a>(
         let key = key_of(writes[start], depth);
         let end = run_end(writes, start, depth, key);
         let stored = stored_place(base, key);
-        let child = lay(arena, stored.child, &writes[start..end], depth + 1)?;
+        let child = lay(arena, stored.child, &writes[start..end], now, depth + 1)?;
         layer.push(key, stored, child)?;
         start = end;
     }
     layer.finish()
+}
+
+// What a write puts, if it is not null.
+fn shown<'a>(arena: &'a Bump, write: &'a Write, now: u64) -> Result<Option<View<'a>>, NoMemory>
+    requires { is_whole (pos now) ≡ true }
+    ensures { IfOk result (λ view. view ≡ non_null (tree_at now (written write.now))) }
+{
+    match write.tree() {
+        Some(draft) => Ok(Some(at_moment(arena, &draft.as_ref(), now)?)),
+        None => Ok(None),
+    }
 }
 
 // The stored tree of an optional node.
@@ -194,10 +219,7 @@ fn puts_tree(write: &Write) -> bool
     ensures { result ≡ not (is_null (written write.now)) }
 {
     match write.tree() {
-        Some(node) => {
-            node.law();
-            true
-        }
+        Some(_) => true,
         None => false,
     }
 }

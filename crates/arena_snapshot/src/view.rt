@@ -122,7 +122,8 @@ impl<'a> View<'a> {
         self.standing(name).view()
     }
 
-    // What stands at this key.
+    // What stands at this key. It stays a function of its own, so that it hands back two registers and the room that
+    // it needs is not made in each function that looks for a child.
     #[inline(never)]
     fn standing(&self, name: &str) -> Standing<'a>
         ensures is { standing_of result ≡ non_null (sub self.now (name.now ∷ [])) }

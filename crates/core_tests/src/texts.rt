@@ -2,7 +2,7 @@
 use crate::rules::rules_named;
 use crate::steps::{Ask, Put, Read, puts_of};
 use evaluator::{Claims, Identity};
-use json_tree::{NoMemory, Node, ValueFault, from_json, to_json};
+use json_tree::{Draft, NoMemory, Node, ValueFault, draft_from_json, from_json, to_json};
 use listeners::{ListenerId, Query, QueryFault};
 use path_capture::{Path, Write};
 use rtdb_core::{Event, Removal, Writes};
@@ -18,6 +18,15 @@ pub(crate) fn tree_of(alloc: Global, text: &str) -> Result<Option<Node>, Fail> {
         Ok(tree) => Ok(tree),
         Err(ValueFault::NoMemory) => Err(NoMemory)?,
         Err(_) => Err("no tree")?,
+    }
+}
+
+fn draft_of(alloc: Global, text: &str) -> Result<Option<Draft>, Fail> {
+    let value = Value::from_str(alloc, text)?;
+    match draft_from_json(alloc, &value) {
+        Ok(draft) => Ok(draft),
+        Err(ValueFault::NoMemory) => Err(NoMemory)?,
+        Err(_) => Err("no draft")?,
     }
 }
 
@@ -39,7 +48,7 @@ pub(crate) fn query_of(alloc: Global, text: &str) -> Result<Query, Fail> {
 /// The write of a value at a path.
 pub(crate) fn write_of(alloc: Global, put: Put<'_>) -> Result<Write, Fail> {
     let path = Path::parse(alloc, put.path)?;
-    match Write::new(path, tree_of(alloc, put.value)?) {
+    match Write::new(path, draft_of(alloc, put.value)?) {
         Ok(write) => Ok(write),
         Err(_) => Err("too deep")?,
     }

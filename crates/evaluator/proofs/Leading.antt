@@ -1,5 +1,5 @@
 -- Of two texts with a slash between them, the second leads on from where the first leads.
-use Rattle.std.proofs.Common.{◌≡◌, ◌⊎◌, inl, inr, ℕ, ◌+◌, ◌≤◌, ◌<◌, ◌==◌, List, [], ◌∷◌, ◌++◌, length, take, drop, get_or, ◌-◌, subst, Bool, true, false, cond, not, ◌&&◌, nat_le, Option, Some, None, Result, Ok, Err, IfOk, Global, refl, sym, ◌∙◌, ap, arith, append_assoc, length-append}
+use Rattle.std.proofs.Common.{◌≡◌, ◌⊎◌, inl, inr, ℕ, ◌+◌, ◌≤◌, ◌<◌, ◌==◌, List, [], ◌∷◌, ◌++◌, length, take, drop, get_or, ◌-◌, subst, Bool, true, false, cond, not, ◌&&◌, nat_le, Option, Some, None, Result, Ok, Err, Global, refl, sym, ◌∙◌, ap, arith, append_assoc, length-append}
 use Rattle.std.specs.Borrow.{Bor}
 use Rattle.std.specs.Prelude.{option_map}
 use Rattle.std.specs.declared.boxed.Box.{Box}
@@ -30,6 +30,7 @@ use Rattle.evaluator.specs.Calls.{child_of}
 use Rattle.evaluator.specs.Env.{Env}
 use Rattle.evaluator.specs.Mean.{mean}
 use Rattle.evaluator.proofs.Placed.{value_of_values}
+use Rattle.evaluator.specs.Working.Answers.{Gives}
 use Rattle.evaluator.specs.Working.Seams.{BeginsBelow, EndsBelow, IsSeam, text_of, led, led_by}
 
 -- ---- segments
@@ -342,7 +343,7 @@ pub view_add : (e x y : Expr) (op : Operator) (l r : Box Expr Global) → e ≡ 
 view_add e x y op l r is add left right = view_sum e x y op l r is left right ∙ ap (λ o. t.Operation o (view x) (view y)) add
 
 -- where a sum of the code leads, by where its operands do
-module _ (p : Snapshot × ℕ) (most : p.1 ≤ MAX_TEXT_BYTES) (e x : Expr) (op : Operator) (l r : Box Expr Global) (env : Env) (seam : IsSeam (view e)) (is : e ≡ Operation op l r) (left : x ≡ l.value) where
+module _ {e x : Expr} {op : Operator} {l r : Box Expr Global} (p : Snapshot × ℕ) (most : p.1 ≤ MAX_TEXT_BYTES) (env : Env) (seam : IsSeam (view e)) (is : e ≡ Operation op l r) (left : x ≡ l.value) where
   -- nowhere
   pub no_left : led_by p (as_value (mean (view x) env)) ≡ None → led_by p (as_value (mean (view e) env)) ≡ None
   no_left none =
@@ -350,15 +351,12 @@ module _ (p : Snapshot × ℕ) (most : p.1 ≤ MAX_TEXT_BYTES) (e x : Expr) (op 
       ∙ ap (option_and_then (λ q. led_by q (as_value (mean (view r.value) env)))) none
 
   -- on from where the left one leads
-  pub by_right : (y : Expr) (q : Snapshot × ℕ) → y ≡ r.value → led_by p (as_value (mean (view x) env)) ≡ Some q → led_by p (as_value (mean (view e) env)) ≡ led_by q (as_value (mean (view y) env))
-  by_right y q right there =
+  pub by_right : {y : Expr} {q : Snapshot × ℕ} → y ≡ r.value → led_by p (as_value (mean (view x) env)) ≡ Some q → led_by p (as_value (mean (view e) env)) ≡ led_by q (as_value (mean (view y) env))
+  by_right {y} right there =
       seam_leads p most (view e) (view x) (view y) op env seam (view_sum e x y op l r is left right)
       ∙ ap (option_and_then (λ o. led_by o (as_value (mean (view y) env)))) there
 
 -- the child that is found, where the sum leads
-pub made_found : (s : Snapshot) (key : t.SyntaxTree) (env : Env) (n : ℕ) (r : Result (Bor Snapshot) Stop) → IsSeam key → IfOk r (λ at. led_by (s, MAX_TEXT_BYTES) (as_value (mean key env)) ≡ Some (at.now, n)) → IfOk r (λ at. option_and_then (child_of s) (as_value (mean key env)) ≡ Some at.now)
-made_found s key env n (Ok at) seam h = seam_child s key env seam ∙ ap (option_map place_of) h
-made_found s key env n (Err stop) seam h = h
-
-pub made_errs : (s : Snapshot) (key : t.SyntaxTree) (env : Env) → IsSeam key → led_by (s, MAX_TEXT_BYTES) (as_value (mean key env)) ≡ None → option_and_then (child_of s) (as_value (mean key env)) ≡ None
-made_errs s key env seam h = seam_child s key env seam ∙ ap (option_map place_of) h
+pub made_gives : (s : Snapshot) (key : t.SyntaxTree) (env : Env) (n : ℕ) (r : Result (Bor Snapshot) Stop) → IsSeam key → Gives r (λ at. (at.now, n)) (led_by (s, MAX_TEXT_BYTES) (as_value (mean key env))) → Gives r (λ at. at.now) (option_and_then (child_of s) (as_value (mean key env)))
+made_gives s key env n (Ok at) seam h = record { value = seam_child s key env seam ∙ ap (option_map place_of) h.value; erred = λ e. cc }
+made_gives s key env n (Err stop) seam h = record { value = tt; erred = λ e. seam_child s key env seam ∙ ap (option_map place_of) (h.erred e) }

@@ -20,13 +20,12 @@ use Rattle.evaluator.specs.Working.Parts.{argument_value, holder}
 -- ---- calls
 
 -- a call, by what its receiver is
-pub call_is : (e x : Expr) (receiver : Box Expr Global) (f g : List ℕ) (xs : Vec code_argument.Argument Global) (args : List code_argument.Argument) (p : Meaning) (env : Env) → e ≡ Call receiver f xs → x ≡ receiver.value → g ≡ f → args ≡ xs.items → mean (view x) env ≡ Some p → mean (view e) env ≡ call_of g p (given (arguments args) env)
-call_is e x receiver f g xs args p env is at name same m =
+pub call_is : {e x : Expr} {receiver : Box Expr Global} {f : List ℕ} {args : List code_argument.Argument} {p : Meaning} (xs : Vec code_argument.Argument Global) (env : Env) → e ≡ Call receiver f xs → x ≡ receiver.value → args ≡ xs.items → mean (view x) env ≡ Some p → mean (view e) env ≡ call_of f p (given (arguments args) env)
+call_is {e} {x} {receiver} {f} {args} {p} xs env is at same m =
     ap (λ y. mean (view y) env) is
     ∙ ap (λ y. mean y env) (view-Call receiver f xs)
     ∙ ap (λ o. called f o (given (arguments xs.items) env)) (ap (λ y. mean (view y) env) (sym at) ∙ m)
-    ∙ ap (λ h. call_of h p (given (arguments xs.items) env)) (sym name)
-    ∙ ap (λ ys. call_of g p (given (arguments ys) env)) (sym same)
+    ∙ ap (λ ys. call_of f p (given (arguments ys) env)) (sym same)
 
 -- ---- what a call is given
 
@@ -36,20 +35,20 @@ with_two f p (t.One x) (t.One y) env = refl
 with_two f p (t.Listed xs) y env = refl
 with_two f p (t.One x) (t.Listed ys) env = elim (as_value (mean x env)) as (λ m. None ≡ option_and_then (λ v. option_and_then (called_with_two f p v) None) m) [ None ↦ refl | (Some v) ↦ refl ]
 
-pub two_are : (f : List ℕ) (p : Meaning) (xs : List code_argument.Argument) (x y : code_argument.Argument) (env : Env) → 2 ≤ length xs → length xs < 3 → x ≡ get_or xs 0 x → y ≡ get_or xs 1 y → call_of f p (given (arguments xs) env) ≡ option_and_then (λ v. option_and_then (called_with_two f p v) (argument_value (view_argument y) env)) (argument_value (view_argument x) env)
-two_are f p [] x y env few many h g = absurd (omega arith)
-two_are f p (a ∷ []) x y env few many h g = absurd (omega arith)
-two_are f p (a ∷ b ∷ c ∷ xs) x y env few many h g = absurd (omega arith)
-two_are f p (a ∷ b ∷ []) x y env few many h g =
+pub two_are : (f : List ℕ) (p : Meaning) (xs : List code_argument.Argument) {x y : code_argument.Argument} (env : Env) → 2 ≤ length xs → length xs < 3 → x ≡ get_or xs 0 x → y ≡ get_or xs 1 y → call_of f p (given (arguments xs) env) ≡ option_and_then (λ v. option_and_then (called_with_two f p v) (argument_value (view_argument y) env)) (argument_value (view_argument x) env)
+two_are f p [] env few many h g = absurd (omega arith)
+two_are f p (a ∷ []) env few many h g = absurd (omega arith)
+two_are f p (a ∷ b ∷ c ∷ xs) env few many h g = absurd (omega arith)
+two_are f p (a ∷ b ∷ []) {x} env few many h g =
     with_two f p (view_argument a) (view_argument b) env
     ∙ ap (λ z. option_and_then (λ v. option_and_then (called_with_two f p v) (argument_value (view_argument b) env)) (argument_value (view_argument z) env)) (sym h)
     ∙ ap (λ z. option_and_then (λ v. option_and_then (called_with_two f p v) (argument_value (view_argument z) env)) (argument_value (view_argument x) env)) (sym g)
 
 -- one argument
-pub one_is : (f : List ℕ) (p : Meaning) (xs : List code_argument.Argument) (x : code_argument.Argument) (env : Env) → 1 ≤ length xs → length xs < 2 → x ≡ get_or xs 0 x → call_of f p (given (arguments xs) env) ≡ call_of f p (given (t.argument (view_argument x) t.no_argument) env)
-one_is f p [] x env few many h = absurd (omega arith)
-one_is f p (a ∷ b ∷ xs) x env few many h = absurd (omega arith)
-one_is f p (a ∷ []) x env few many h = ap (λ z. call_of f p (given (t.argument (view_argument z) t.no_argument) env)) (sym h)
+pub one_is : (f : List ℕ) (p : Meaning) (xs : List code_argument.Argument) {x : code_argument.Argument} (env : Env) → 1 ≤ length xs → length xs < 2 → x ≡ get_or xs 0 x → call_of f p (given (arguments xs) env) ≡ call_of f p (given (t.argument (view_argument x) t.no_argument) env)
+one_is f p [] env few many h = absurd (omega arith)
+one_is f p (a ∷ b ∷ xs) env few many h = absurd (omega arith)
+one_is f p (a ∷ []) env few many h = ap (λ z. call_of f p (given (t.argument (view_argument z) t.no_argument) env)) (sym h)
 
 -- no method takes three
 three : (x y z : t.Argument) (rest : t.Arguments) (env : Env) → given (t.argument x (t.argument y (t.argument z rest))) env ≡ others
@@ -64,8 +63,8 @@ many_are (x ∷ y ∷ []) env many = absurd (omega arith)
 many_are (x ∷ y ∷ z ∷ xs) env many = three (view_argument x) (view_argument y) (view_argument z) (arguments xs) env
 
 -- a list
-pub list_is : (items : Vec Expr Global) (x : code_argument.Argument) (ys : List Expr) (f : List ℕ) (p : Meaning) (env : Env) → x ≡ Listing items → ys ≡ items.items → call_of f p (given (t.argument (view_argument x) t.no_argument) env) ≡ option_and_then (called_with_list f p) (values (views ys) env)
-list_is items x ys f p env is same =
+pub list_is : {x : code_argument.Argument} {ys : List Expr} (items : Vec Expr Global) (f : List ℕ) (p : Meaning) (env : Env) → x ≡ Listing items → ys ≡ items.items → call_of f p (given (t.argument (view_argument x) t.no_argument) env) ≡ option_and_then (called_with_list f p) (values (views ys) env)
+list_is items f p env is same =
     ap (λ a. call_of f p (given (t.argument (view_argument a) t.no_argument) env)) is
     ∙ ap (λ a. call_of f p (given (t.argument a t.no_argument) env)) (view-List items)
     ∙ ap (λ zs. option_and_then (called_with_list f p) (values (views zs) env)) (sym same)
@@ -157,14 +156,14 @@ no_holder f (snapshot s) ms h =
       | false ↦ λ g. of_none s ms
     ] h
 
-pub some_holder : (f : List ℕ) (p : Meaning) (s : Snapshot) (ms : Option (List Value)) (m : Option Bool) → holder f p ≡ Some s → option_and_then (have_children s) ms ≡ m → option_and_then (called_with_list f p) ms ≡ option_map (λ b. value (truth b)) m
+pub some_holder : {s : Snapshot} (f : List ℕ) (p : Meaning) (ms : Option (List Value)) → holder f p ≡ Some s → option_and_then (called_with_list f p) ms ≡ option_map (λ b. value (truth b)) (option_and_then (have_children s) ms)
 unfolding snapshot_call_listed
-some_holder f (value v) s ms m h e = cc
-some_holder f (auth who) s ms m h e = cc
-some_holder f (token claims) s ms m h e = cc
-some_holder f (query a) s ms m h e = cc
-some_holder f (snapshot u) s ms m h e =
-    elim (bytes_eq (codes "hasChildren") f) as (λ b. cond b (Some u) None ≡ Some s → of_list b u ms ≡ option_map (λ b. value (truth b)) m) [
-      | true ↦ λ (g : Some u ≡ Some s). let same : u ≡ s = cc in ap (λ w. of_list true w ms) same ∙ of_some s ms ∙ ap (option_map (λ b. value (truth b))) e
+some_holder f (value v) ms h = cc
+some_holder f (auth who) ms h = cc
+some_holder f (token claims) ms h = cc
+some_holder f (query a) ms h = cc
+some_holder {s} f (snapshot u) ms h =
+    elim (bytes_eq (codes "hasChildren") f) as (λ b. cond b (Some u) None ≡ Some s → of_list b u ms ≡ option_map (λ b. value (truth b)) (option_and_then (have_children s) ms)) [
+      | true ↦ λ (g : Some u ≡ Some s). let same : u ≡ s = cc in ap (λ w. of_list true w ms) same ∙ of_some s ms
       | false ↦ λ g. cc
     ] h

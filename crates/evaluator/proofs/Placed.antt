@@ -1,6 +1,5 @@
 -- What calls give, by the location that the receiver is, if it is one.
 use Rattle.std.proofs.Common.{◌≡◌, ℕ, ◌≤◌, ◌<◌, List, [], ◌∷◌, length, get_or, Bool, true, false, Option, Some, None, Result, Ok, IfOk, Vec, Global, refl, ◌∙◌, ap, sym, subst, arith}
-use Rattle.std.specs.Borrow.{Bor}
 use Rattle.std.specs.Str.{bytes_eq}
 use Rattle.std.specs.Prelude.{option_map, codes}
 use Rattle.std.specs.declared.boxed.Box.{Box}
@@ -18,6 +17,7 @@ use Rattle.evaluator.specs.Texts.{text_test}
 use Rattle.evaluator.specs.Calls.{nothing, one, listed, called, child_of, has_child, have_children, type_test, snapshot_test, snapshot_call, snapshot_call_with, snapshot_call_listed}
 use Rattle.evaluator.specs.Env.{Env}
 use Rattle.evaluator.specs.Mean.{mean, given, values}
+use Rattle.evaluator.specs.Working.Answers.{Gives}
 use Rattle.evaluator.specs.Working.Parts.{as_place}
 
 -- ---- with nothing
@@ -122,55 +122,50 @@ have_children_at (Some (query a)) (Some vs) = refl
 
 -- ---- calls as they stand in expressions
 
-module _ (e x : Expr) (receiver : Box Expr Global) (f g : List ℕ) (xs : Vec Argument Global) (args : List Argument) (env : Env) (is : e ≡ Call receiver f xs) (at : x ≡ receiver.value) (name : g ≡ f) (same : args ≡ xs.items) where
-  called_is : mean (view e) env ≡ called g (mean (view x) env) (given (arguments args) env)
+module _ {e x : Expr} {receiver : Box Expr Global} {f : List ℕ} {args : List Argument} (xs : Vec Argument Global) (env : Env) (is : e ≡ Call receiver f xs) (at : x ≡ receiver.value) (same : args ≡ xs.items) where
+  called_is : mean (view e) env ≡ called f (mean (view x) env) (given (arguments args) env)
   called_is =
       ap (λ y. mean (view y) env) is
       ∙ ap (λ y. mean y env) (view-Call receiver f xs)
       ∙ ap (λ y. called f (mean (view y) env) (given (arguments xs.items) env)) (sym at)
-      ∙ ap (λ h. called h (mean (view x) env) (given (arguments xs.items) env)) (sym name)
-      ∙ ap (λ ys. called g (mean (view x) env) (given (arguments ys) env)) (sym same)
+      ∙ ap (λ ys. called f (mean (view x) env) (given (arguments ys) env)) (sym same)
 
   -- with nothing
-  pub part_with_nothing : given (arguments args) env ≡ nothing → mean (view e) env ≡ called g (mean (view x) env) nothing
-  part_with_nothing none = called_is ∙ ap (called g (mean (view x) env)) none
+  pub part_with_nothing : given (arguments args) env ≡ nothing → mean (view e) env ≡ called f (mean (view x) env) nothing
+  part_with_nothing none = called_is ∙ ap (called f (mean (view x) env)) none
 
-  pub value_with_nothing : given (arguments args) env ≡ nothing → as_value (mean (view e) env) ≡ option_and_then (snapshot_test g) (as_place (mean (view x) env))
-  value_with_nothing none = ap as_value called_is ∙ ap (λ h. as_value (called g (mean (view x) env) h)) none ∙ value_of_nothing_at g (mean (view x) env)
+  pub value_with_nothing : given (arguments args) env ≡ nothing → as_value (mean (view e) env) ≡ option_and_then (snapshot_test f) (as_place (mean (view x) env))
+  value_with_nothing none = ap as_value called_is ∙ ap (λ h. as_value (called f (mean (view x) env) h)) none ∙ value_of_nothing_at f (mean (view x) env)
 
   -- with a value
-  pub child_with : (w : Option Value) → given (arguments args) env ≡ one w → g ≡ codes "child" → as_place (mean (view e) env) ≡ option_and_then (λ s. option_and_then (child_of s) w) (as_place (mean (view x) env))
-  child_with w only child = ap as_place called_is ∙ (λ i. as_place (called (child i) (mean (view x) env) (only i))) ∙ child_at_place (mean (view x) env) w
+  pub child_with : {w : Option Value} → given (arguments args) env ≡ one w → f ≡ codes "child" → as_place (mean (view e) env) ≡ option_and_then (λ s. option_and_then (child_of s) w) (as_place (mean (view x) env))
+  child_with {w} only child = ap as_place called_is ∙ (λ i. as_place (called (child i) (mean (view x) env) (only i))) ∙ child_at_place (mean (view x) env) w
 
-  pub has_child_with : (w : Option Value) → given (arguments args) env ≡ one w → g ≡ codes "hasChild" → as_value (mean (view e) env) ≡ option_map truth (option_and_then (λ s. option_and_then (has_child s) w) (as_place (mean (view x) env)))
-  has_child_with w only child = ap as_value called_is ∙ (λ i. as_value (called (child i) (mean (view x) env) (only i))) ∙ has_child_at (mean (view x) env) w
+  pub has_child_with : {w : Option Value} → given (arguments args) env ≡ one w → f ≡ codes "hasChild" → as_value (mean (view e) env) ≡ option_map truth (option_and_then (λ s. option_and_then (has_child s) w) (as_place (mean (view x) env)))
+  has_child_with {w} only child = ap as_value called_is ∙ (λ i. as_value (called (child i) (mean (view x) env) (only i))) ∙ has_child_at (mean (view x) env) w
 
   -- with a list
-  pub have_children_with : (ms : Option (List Value)) → given (arguments args) env ≡ listed ms → g ≡ codes "hasChildren" → as_value (mean (view e) env) ≡ option_map truth (option_and_then (λ s. option_and_then (have_children s) ms) (as_place (mean (view x) env)))
-  have_children_with ms only children = ap as_value called_is ∙ (λ i. as_value (called (children i) (mean (view x) env) (only i))) ∙ have_children_at (mean (view x) env) ms
+  pub have_children_with : {ms : Option (List Value)} → given (arguments args) env ≡ listed ms → f ≡ codes "hasChildren" → as_value (mean (view e) env) ≡ option_map truth (option_and_then (λ s. option_and_then (have_children s) ms) (as_place (mean (view x) env)))
+  have_children_with {ms} only children = ap as_value called_is ∙ (λ i. as_value (called (children i) (mean (view x) env) (only i))) ∙ have_children_at (mean (view x) env) ms
 
 -- what is given, by the list of arguments
 pub given_nothing : (xs : List Argument) (env : Env) → length xs < 1 → given (arguments xs) env ≡ nothing
 given_nothing [] env few = refl
 given_nothing (x ∷ xs) env few = absurd (omega arith)
 
-pub given_value : (xs : List Argument) (x : Argument) (key : Expr) (env : Env) → 1 ≤ length xs → length xs < 2 → x ≡ get_or xs 0 x → x ≡ One key → given (arguments xs) env ≡ one (as_value (mean (view key) env))
-given_value [] x key env few many at is = absurd (omega arith)
-given_value (a ∷ b ∷ xs) x key env few many at is = absurd (omega arith)
-given_value (a ∷ []) x key env few many at is = ap (λ z. given (arguments (z ∷ [])) env) (sym at ∙ is)
+pub given_value : (xs : List Argument) {x : Argument} {key : Expr} (env : Env) → 1 ≤ length xs → length xs < 2 → x ≡ get_or xs 0 x → x ≡ One key → given (arguments xs) env ≡ one (as_value (mean (view key) env))
+given_value [] env few many at is = absurd (omega arith)
+given_value (a ∷ b ∷ xs) env few many at is = absurd (omega arith)
+given_value (a ∷ []) env few many at is = ap (λ z. given (arguments (z ∷ [])) env) (sym at ∙ is)
 
-pub given_list : (xs : List Argument) (x : Argument) (items : Vec Expr Global) (ys : List Expr) (env : Env) → 1 ≤ length xs → length xs < 2 → x ≡ get_or xs 0 x → x ≡ Listing items → ys ≡ items.items → given (arguments xs) env ≡ listed (values (views ys) env)
-given_list [] x items ys env few many at is same = absurd (omega arith)
-given_list (a ∷ b ∷ xs) x items ys env few many at is same = absurd (omega arith)
-given_list (a ∷ []) x items ys env few many at is same =
+pub given_list : (xs : List Argument) {x : Argument} {ys : List Expr} (items : Vec Expr Global) (env : Env) → 1 ≤ length xs → length xs < 2 → x ≡ get_or xs 0 x → x ≡ Listing items → ys ≡ items.items → given (arguments xs) env ≡ listed (values (views ys) env)
+given_list [] items env few many at is same = absurd (omega arith)
+given_list (a ∷ b ∷ xs) items env few many at is same = absurd (omega arith)
+given_list (a ∷ []) items env few many at is same =
     ap (λ z. given (arguments (z ∷ [])) env) (sym at ∙ is)
     ∙ ap (λ z. given (t.argument z t.no_argument) env) (view-List items)
     ∙ ap (λ zs. listed (values (views zs) env)) (sym same)
 
--- ---- what is found
-
-pub found_value : (o : Option Snapshot) (f r : Result (Bor Snapshot) Stop) → f ≡ r → IfOk r (λ at. o ≡ Some at.now) → IfOk f (λ at. o ≡ Some at.now)
-found_value o f r is h = subst (λ (x : Result (Bor Snapshot) Stop). IfOk x (λ at. o ≡ Some at.now)) (sym is) h
-
-pub found_at : (o : Option Snapshot) (f r : Result (Bor Snapshot) Stop) (at : Bor Snapshot) → r ≡ f → r ≡ Ok at → IfOk f (λ s. o ≡ Some s.now) → o ≡ Some at.now
-found_at o f r at is ok h = subst (λ (x : Result (Bor Snapshot) Stop). IfOk x (λ s. o ≡ Some s.now)) (sym is ∙ ok) h
+-- what was found is what is meant
+pub found_at : {T A : Type 0} {read : T → A} {m : Option A} {r : Result T Stop} {t : T} → Ok t ≡ r → Gives r read m → m ≡ Some (read t)
+found_at {T} {A} {read} {m} is h = subst (λ (x : Result T Stop). IfOk x (λ y. m ≡ Some (read y))) (sym is) h.value

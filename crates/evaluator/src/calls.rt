@@ -1,8 +1,9 @@
 //! What calls give.
-ghost use Rattle.std.specs.Prelude.{◌≡◌, Some, None, IfOk, OnOk, IsErrOf, option_map};
+ghost use Rattle.std.specs.Prelude.{◌≡◌, option_map};
 ghost use Rattle.json_tree.specs.Leaf.{primitive_of};
 ghost use Rattle.evaluator.specs.Snapshot.{is_number, is_string, is_boolean};
 ghost use Rattle.evaluator.specs.Calls.{snapshot_test, snapshot_call, child_of, has_child, snapshot_call_with, called_with_nothing, called_with, called_with_two};
+ghost use Rattle.evaluator.specs.Working.Answers.{Finds, Gives};
 ghost use Rattle.evaluator.specs.Working.Known.{test_known, call_known};
 ghost use Rattle.evaluator.specs.Working.Parts.{value_of, part_of, holder, result_of};
 
@@ -25,8 +26,7 @@ pub(crate) fn snapshot_test<'a>(
     place: &Snapshot<'a>,
     found: &mut Value<'a>,
 ) -> Result<(), Stop>
-    ensures value { OnOk result (snapshot_test name.now place.now ≡ Some (value_of found.new)) }
-    ensures erred { IsErrOf result Stop.Erred → snapshot_test name.now place.now ≡ None }
+    ensures { Finds result (value_of found.new) (snapshot_test name.now place.now) }
 {
     put_value(test_known(name.known(), place), found)
 }
@@ -71,8 +71,7 @@ pub(crate) fn snapshot_call<'a>(
     place: &Snapshot<'a>,
     found: &mut Meaning<'a>,
 ) -> Result<(), Stop>
-    ensures value { OnOk result (snapshot_call name.now place.now ≡ Some (part_of found.new)) }
-    ensures erred { IsErrOf result Stop.Erred → snapshot_call name.now place.now ≡ None }
+    ensures { Finds result (part_of found.new) (snapshot_call name.now place.now) }
 {
     put_part(call_known(name.known(), place), found)
 }
@@ -88,8 +87,7 @@ fn call_known<'a>(known: Option<KnownName>, place: &Snapshot<'a>) -> Option<Mean
 }
 
 pub(crate) fn child_of<'a>(arena: &'a Bump, place: &'a Snapshot<'a>, given: Value<'a>) -> Found<'a>
-    ensures value { IfOk (result_of result) (λ at. child_of place.now (value_of given.entry) ≡ Some at.now) }
-    ensures erred { IsErrOf (result_of result) Stop.Erred → child_of place.now (value_of given.entry) ≡ None }
+    ensures { Gives (result_of result) (λ at. at.now) (child_of place.now (value_of given.entry)) }
 {
     match given {
         Value::Words(text) => child_at(arena, place, text),
@@ -99,8 +97,7 @@ pub(crate) fn child_of<'a>(arena: &'a Bump, place: &'a Snapshot<'a>, given: Valu
 
 // The same, where the text mostly is several keys.
 pub(crate) fn below_of<'a>(arena: &'a Bump, place: &'a Snapshot<'a>, given: Value<'a>) -> Found<'a>
-    ensures value { IfOk (result_of result) (λ at. child_of place.now (value_of given.entry) ≡ Some at.now) }
-    ensures erred { IsErrOf (result_of result) Stop.Erred → child_of place.now (value_of given.entry) ≡ None }
+    ensures { Gives (result_of result) (λ at. at.now) (child_of place.now (value_of given.entry)) }
 {
     match given {
         Value::Words(text) => Found::of(at_keys(arena, place, text)),
@@ -116,8 +113,7 @@ pub(crate) fn has_child<'a>(
     place: &'a Snapshot<'a>,
     given: Value<'a>,
 ) -> Result<bool, Stop>
-    ensures value { IfOk result (λ b. has_child place.now (value_of given.entry) ≡ Some b) }
-    ensures erred { IsErrOf result Stop.Erred → has_child place.now (value_of given.entry) ≡ None }
+    ensures { Gives result (λ b. b) (has_child place.now (value_of given.entry)) }
 {
     match given {
         Value::Words(text) => exists_below(arena, place, text),
@@ -132,8 +128,7 @@ fn snapshot_call_with<'a>(
     place: &'a Snapshot<'a>,
     given: Value<'a>,
 ) -> Result<Meaning<'a>, Stop>
-    ensures value { IfOk result (λ p. snapshot_call_with name.now place.now (value_of given.entry) ≡ Some (part_of p)) }
-    ensures erred { IsErrOf result Stop.Erred → snapshot_call_with name.now place.now (value_of given.entry) ≡ None }
+    ensures { Gives result part_of (snapshot_call_with name.now place.now (value_of given.entry)) }
 {
     match name {
         "child" => Ok(Meaning::Snapshot(child_of(arena, place, given).get()?)),
@@ -146,8 +141,7 @@ fn snapshot_call_with<'a>(
 
 // What a call with nothing gives, put where its receiver was.
 pub(crate) fn called_with_nothing<'a>(name: &Name, found: &mut Meaning<'a>) -> Result<(), Stop>
-    ensures value { OnOk result (called_with_nothing name.now (part_of found.old) ≡ Some (part_of found.new)) }
-    ensures erred { IsErrOf result Stop.Erred → called_with_nothing name.now (part_of found.old) ≡ None }
+    ensures { Finds result (part_of found.new) (called_with_nothing name.now (part_of found.old)) }
 {
     match *found {
         Meaning::Snapshot(place) => snapshot_call(name, place, found),
@@ -161,8 +155,7 @@ pub(crate) fn called_with<'a>(
     receiver: Meaning<'a>,
     given: Value<'a>,
 ) -> Result<Meaning<'a>, Stop>
-    ensures value { IfOk result (λ p. called_with name.now (part_of receiver.entry) (value_of given.entry) ≡ Some (part_of p)) }
-    ensures erred { IsErrOf result Stop.Erred → called_with name.now (part_of receiver.entry) (value_of given.entry) ≡ None }
+    ensures { Gives result part_of (called_with name.now (part_of receiver.entry) (value_of given.entry)) }
 {
     match receiver {
         Meaning::Value(value) => Ok(Meaning::Value(wanted(text_test(name, value, given))?)),
@@ -178,8 +171,7 @@ pub(crate) fn called_with_two<'a>(
     first: Value<'a>,
     second: Value<'a>,
 ) -> Result<Meaning<'a>, Stop>
-    ensures value { IfOk result (λ p. called_with_two name.now (part_of receiver.entry) (value_of first.entry) (value_of second.entry) ≡ Some (part_of p)) }
-    ensures erred { IsErrOf result Stop.Erred → called_with_two name.now (part_of receiver.entry) (value_of first.entry) (value_of second.entry) ≡ None }
+    ensures { Gives result part_of (called_with_two name.now (part_of receiver.entry) (value_of first.entry) (value_of second.entry)) }
 {
     match receiver {
         Meaning::Value(value) => {

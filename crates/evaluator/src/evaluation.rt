@@ -1,5 +1,5 @@
 //! The evaluator: what an expression means, and whether a rule holds.
-ghost use Rattle.std.specs.Prelude.{◌≡◌, ◌≤◌, Some, None, IfOk, OnOk, IsErrOf, true, option_map, pos};
+ghost use Rattle.std.specs.Prelude.{◌≡◌, ◌≤◌, Some, IfOk, true, option_map, pos};
 ghost use Rattle.std.specs.Option.{option_and_then};
 ghost use Rattle.tree_model.specs.declared.limits.TheConstants.{MAX_TEXT_BYTES};
 ghost use Rattle.expr_tokens.specs.Known.{text_of};
@@ -8,12 +8,13 @@ ghost use Rattle.expr_parser.specs.Tree.{Null, argument, no_argument};
 ghost use Rattle.expr_types.specs.HasSort.{is_value};
 ghost use Rattle.evaluator.specs.Value as meanings;
 ghost use Rattle.evaluator.specs.Value.{null, as_value, sort_of_part, value, truth, in_range};
-ghost use Rattle.evaluator.specs.Operators.{in_truth, as_truth, other_truth, minus_of, both, either, operated};
-ghost use Rattle.evaluator.specs.Calls.{call_of, called_with, called_with_two, called_with_list, have_children, child_of, called, nothing};
+ghost use Rattle.evaluator.specs.Operators.{as_truth, other_truth, minus_of, both, either, operated};
+ghost use Rattle.evaluator.specs.Calls.{call_of, called_with_two, called_with_list, have_children, child_of, called, nothing};
 ghost use Rattle.evaluator.specs.Members.{member};
 ghost use Rattle.evaluator.specs.Env.{env_of, variable, capture, Suits};
 ghost use Rattle.evaluator.specs.Mean.{mean, given as meant, values};
 ghost use Rattle.evaluator.specs.Holds.{outcome};
+ghost use Rattle.evaluator.specs.Working.Answers.{Finds, Gives};
 ghost use Rattle.evaluator.specs.Working.Parts.{value_of, part_of, argument_value, as_place, result_of};
 ghost use Rattle.evaluator.specs.Working.Seams.{IsSeam, led_by};
 
@@ -47,8 +48,7 @@ fn part<'a>(
     env: &Env<'a, '_>,
     found: &mut Meaning<'a>,
 ) -> Result<(), Stop>
-    ensures value { OnOk result (mean (view expr.now) (env_of env.now) ≡ Some (part_of found.new)) }
-    ensures erred { IsErrOf result Stop.Erred → mean (view expr.now) (env_of env.now) ≡ None }
+    ensures { Finds result (part_of found.new) (mean (view expr.now) (env_of env.now)) }
 {
     match expr {
         Expr::Number(number) => number_part(*number, found),
@@ -80,8 +80,7 @@ fn part<'a>(
 
 #[inline(never)]
 fn number_part<'a>(number: u64, found: &mut Meaning<'a>) -> Result<(), Stop>
-    ensures value { OnOk result (option_map value (in_range (pos number)) ≡ Some (part_of found.new)) }
-    ensures erred { IsErrOf result Stop.Erred → option_map value (in_range (pos number)) ≡ None }
+    ensures { Finds result (part_of found.new) (option_map value (in_range (pos number))) }
 {
     *found = Meaning::Value(wanted(literal(number))?);
     Ok(())
@@ -97,8 +96,7 @@ fn member_part<'a>(
     env: &Env<'a, '_>,
     found: &mut Meaning<'a>,
 ) -> Result<(), Stop>
-    ensures value { OnOk result (option_and_then (member name.now) (mean (view receiver.now) (env_of env.now)) ≡ Some (part_of found.new)) }
-    ensures erred { IsErrOf result Stop.Erred → option_and_then (member name.now) (mean (view receiver.now) (env_of env.now)) ≡ None }
+    ensures { Finds result (part_of found.new) (option_and_then (member name.now) (mean (view receiver.now) (env_of env.now))) }
 {
     receiver_of(arena, receiver, env, found)?;
     put_part(member(name, *found), found)
@@ -113,8 +111,7 @@ fn receiver_of<'a>(
     env: &Env<'a, '_>,
     found: &mut Meaning<'a>,
 ) -> Result<(), Stop>
-    ensures value { OnOk result (mean (view expr.now) (env_of env.now) ≡ Some (part_of found.new)) }
-    ensures erred { IsErrOf result Stop.Erred → mean (view expr.now) (env_of env.now) ≡ None }
+    ensures { Finds result (part_of found.new) (mean (view expr.now) (env_of env.now)) }
 {
     match expr {
         Expr::Variable(name) => put_part(variable(name, env), found),
@@ -135,8 +132,7 @@ fn call_with_nothing<'a>(
     env: &Env<'a, '_>,
     found: &mut Meaning<'a>,
 ) -> Result<(), Stop>
-    ensures value { OnOk result (called name.now (mean (view receiver.now) (env_of env.now)) nothing ≡ Some (part_of found.new)) }
-    ensures erred { IsErrOf result Stop.Erred → called name.now (mean (view receiver.now) (env_of env.now)) nothing ≡ None }
+    ensures { Finds result (part_of found.new) (called name.now (mean (view receiver.now) (env_of env.now)) nothing) }
 {
     let at = place(arena, receiver, env).get()?;
     snapshot_call(name, at, found)
@@ -151,8 +147,7 @@ fn value_part<'a>(
     env: &Env<'a, '_>,
     found: &mut Meaning<'a>,
 ) -> Result<(), Stop>
-    ensures value { OnOk result (option_map value (as_value (mean (view expr.now) (env_of env.now))) ≡ Some (part_of found.new)) }
-    ensures erred { IsErrOf result Stop.Erred → option_map value (as_value (mean (view expr.now) (env_of env.now))) ≡ None }
+    ensures { Finds result (part_of found.new) (option_map value (as_value (mean (view expr.now) (env_of env.now)))) }
 {
     let mut only = Value::Null;
     value(arena, expr, env, &mut only)?;
@@ -170,8 +165,7 @@ fn value<'a>(
     env: &Env<'a, '_>,
     found: &mut Value<'a>,
 ) -> Result<(), Stop>
-    ensures value { OnOk result (as_value (mean (view expr.now) (env_of env.now)) ≡ Some (value_of found.new)) }
-    ensures erred { IsErrOf result Stop.Erred → as_value (mean (view expr.now) (env_of env.now)) ≡ None }
+    ensures { Finds result (value_of found.new) (as_value (mean (view expr.now) (env_of env.now))) }
 {
     match expr {
         Expr::Text(text) => put_value(Some(Value::Words(text.as_str())), found),
@@ -197,8 +191,7 @@ fn compound_value<'a>(
     env: &Env<'a, '_>,
     found: &mut Value<'a>,
 ) -> Result<(), Stop>
-    ensures value { OnOk result (as_value (mean (view expr.now) (env_of env.now)) ≡ Some (value_of found.new)) }
-    ensures erred { IsErrOf result Stop.Erred → as_value (mean (view expr.now) (env_of env.now)) ≡ None }
+    ensures { Finds result (value_of found.new) (as_value (mean (view expr.now) (env_of env.now))) }
 {
     match expr {
         Expr::Operation(operator, left, right) => {
@@ -222,8 +215,7 @@ fn tested_value<'a>(
     env: &Env<'a, '_>,
     found: &mut Value<'a>,
 ) -> Result<(), Stop>
-    ensures value { OnOk result (as_value (mean (view expr.now) (env_of env.now)) ≡ Some (value_of found.new)) }
-    ensures erred { IsErrOf result Stop.Erred → as_value (mean (view expr.now) (env_of env.now)) ≡ None }
+    ensures { Finds result (value_of found.new) (as_value (mean (view expr.now) (env_of env.now))) }
 {
     match expr {
         Expr::Operation(_, _, _) => compound_value(arena, expr, env, found),
@@ -235,8 +227,7 @@ fn tested_value<'a>(
 // The value of a variable.
 #[inline(never)]
 fn variable_value<'a>(name: &Name, env: &Env<'a, '_>, found: &mut Value<'a>) -> Result<(), Stop>
-    ensures value { OnOk result (as_value (variable name.now (env_of env.now)) ≡ Some (value_of found.new)) }
-    ensures erred { IsErrOf result Stop.Erred → as_value (variable name.now (env_of env.now)) ≡ None }
+    ensures { Finds result (value_of found.new) (as_value (variable name.now (env_of env.now))) }
 {
     let part = wanted(variable(name, env))?;
     put_value(in_value(part), found)
@@ -245,8 +236,7 @@ fn variable_value<'a>(name: &Name, env: &Env<'a, '_>, found: &mut Value<'a>) -> 
 // The value of a capture.
 #[inline(never)]
 fn capture_value<'a>(name: &str, env: &Env<'a, '_>, found: &mut Value<'a>) -> Result<(), Stop>
-    ensures value { OnOk result (as_value (capture name.now (env_of env.now)) ≡ Some (value_of found.new)) }
-    ensures erred { IsErrOf result Stop.Erred → as_value (capture name.now (env_of env.now)) ≡ None }
+    ensures { Finds result (value_of found.new) (as_value (capture name.now (env_of env.now))) }
 {
     match env.captures.key_of(name) {
         Some(key) => put_value(Some(Value::Words(key.text())), found),
@@ -265,8 +255,7 @@ fn member_value<'a>(
     env: &Env<'a, '_>,
     found: &mut Value<'a>,
 ) -> Result<(), Stop>
-    ensures value { OnOk result (as_value (option_and_then (member name.now) (mean (view receiver.now) (env_of env.now))) ≡ Some (value_of found.new)) }
-    ensures erred { IsErrOf result Stop.Erred → as_value (option_and_then (member name.now) (mean (view receiver.now) (env_of env.now))) ≡ None }
+    ensures { Finds result (value_of found.new) (as_value (option_and_then (member name.now) (mean (view receiver.now) (env_of env.now)))) }
 {
     if let Expr::Variable(before) = receiver
         && let Some(Meaning::Auth(who)) = variable(before, env)
@@ -286,8 +275,7 @@ fn member_value_of_part<'a>(
     env: &Env<'a, '_>,
     found: &mut Value<'a>,
 ) -> Result<(), Stop>
-    ensures value { OnOk result (as_value (option_and_then (member name.now) (mean (view receiver.now) (env_of env.now))) ≡ Some (value_of found.new)) }
-    ensures erred { IsErrOf result Stop.Erred → as_value (option_and_then (member name.now) (mean (view receiver.now) (env_of env.now))) ≡ None }
+    ensures { Finds result (value_of found.new) (as_value (option_and_then (member name.now) (mean (view receiver.now) (env_of env.now)))) }
 {
     let mut before = Meaning::Value(Value::Null);
     receiver_of(arena, receiver, env, &mut before)?;
@@ -303,8 +291,7 @@ fn call_value<'a>(
     env: &Env<'a, '_>,
     found: &mut Value<'a>,
 ) -> Result<(), Stop>
-    ensures value { OnOk result (as_value (mean (view expr.now) (env_of env.now)) ≡ Some (value_of found.new)) }
-    ensures erred { IsErrOf result Stop.Erred → as_value (mean (view expr.now) (env_of env.now)) ≡ None }
+    ensures { Finds result (value_of found.new) (as_value (mean (view expr.now) (env_of env.now))) }
 {
     let Expr::Call(receiver, name, given) = expr else {
         return value_of_part(arena, expr, env, found);
@@ -344,8 +331,7 @@ fn is_named(name: &Name, known: KnownName) -> bool
 // The location that it is, where one is wanted: most are children, one below another.
 #[cycle(evaluation)]
 fn place<'a>(arena: &'a Bump, expr: &'a Expr, env: &Env<'a, '_>) -> Found<'a>
-    ensures value { IfOk (result_of result) (λ at. as_place (mean (view expr.now) (env_of env.now)) ≡ Some at.now) }
-    ensures erred { IsErrOf (result_of result) Stop.Erred → as_place (mean (view expr.now) (env_of env.now)) ≡ None }
+    ensures { Gives (result_of result) (λ at. at.now) (as_place (mean (view expr.now) (env_of env.now))) }
 {
     if let Expr::Variable(name) = expr {
         return variable_place(name, env);
@@ -366,8 +352,7 @@ fn place<'a>(arena: &'a Bump, expr: &'a Expr, env: &Env<'a, '_>) -> Found<'a>
 
 // The location that a variable is.
 fn variable_place<'a>(name: &Name, env: &Env<'a, '_>) -> Found<'a>
-    ensures value { IfOk (result_of result) (λ at. as_place (variable name.now (env_of env.now)) ≡ Some at.now) }
-    ensures erred { IsErrOf (result_of result) Stop.Erred → as_place (variable name.now (env_of env.now)) ≡ None }
+    ensures { Gives (result_of result) (λ at. at.now) (as_place (variable name.now (env_of env.now))) }
 {
     match variable(name, env) {
         Some(part) => Found::of(wanted(in_place(part))),
@@ -383,8 +368,7 @@ fn key_place<'a>(
     key: &'a Expr,
     env: &Env<'a, '_>,
 ) -> Found<'a>
-    ensures value { IfOk (result_of result) (λ found. option_and_then (child_of at.now) (as_value (mean (view key.now) (env_of env.now))) ≡ Some found.now) }
-    ensures erred { IsErrOf (result_of result) Stop.Erred → option_and_then (child_of at.now) (as_value (mean (view key.now) (env_of env.now))) ≡ None }
+    ensures { Gives (result_of result) (λ found. found.now) (option_and_then (child_of at.now) (as_value (mean (view key.now) (env_of env.now)))) }
 {
     match key {
         Expr::Text(text) => child_at(arena, at, text.as_str()),
@@ -402,8 +386,7 @@ fn value_place<'a>(
     key: &'a Expr,
     env: &Env<'a, '_>,
 ) -> Found<'a>
-    ensures value { IfOk (result_of result) (λ found. option_and_then (child_of at.now) (as_value (mean (view key.now) (env_of env.now))) ≡ Some found.now) }
-    ensures erred { IsErrOf (result_of result) Stop.Erred → option_and_then (child_of at.now) (as_value (mean (view key.now) (env_of env.now))) ≡ None }
+    ensures { Gives (result_of result) (λ found. found.now) (option_and_then (child_of at.now) (as_value (mean (view key.now) (env_of env.now)))) }
 {
     let mut found = Value::Null;
     match value(arena, key, env, &mut found) {
@@ -421,8 +404,7 @@ fn made_place<'a>(
     key: &'a Expr,
     env: &Env<'a, '_>,
 ) -> Found<'a>
-    ensures value { IfOk (result_of result) (λ found. option_and_then (child_of at.now) (as_value (mean (view key.now) (env_of env.now))) ≡ Some found.now) }
-    ensures erred { IsErrOf (result_of result) Stop.Erred → option_and_then (child_of at.now) (as_value (mean (view key.now) (env_of env.now))) ≡ None }
+    ensures { Gives (result_of result) (λ found. found.now) (option_and_then (child_of at.now) (as_value (mean (view key.now) (env_of env.now)))) }
 {
     if !is_seam(key) {
         return joined_place(arena, at, key, env);
@@ -440,8 +422,7 @@ fn joined_place<'a>(
     key: &'a Expr,
     env: &Env<'a, '_>,
 ) -> Found<'a>
-    ensures value { IfOk (result_of result) (λ found. option_and_then (child_of at.now) (as_value (mean (view key.now) (env_of env.now))) ≡ Some found.now) }
-    ensures erred { IsErrOf (result_of result) Stop.Erred → option_and_then (child_of at.now) (as_value (mean (view key.now) (env_of env.now))) ≡ None }
+    ensures { Gives (result_of result) (λ found. found.now) (option_and_then (child_of at.now) (as_value (mean (view key.now) (env_of env.now)))) }
 {
     let mut found = Value::Null;
     match value(arena, key, env, &mut found) {
@@ -462,8 +443,7 @@ fn sum_place<'a>(
 ) -> Found<'a>
     requires seam { IsSeam (view sum.now) }
     requires room { room.old ≤ MAX_TEXT_BYTES }
-    ensures value { IfOk (result_of result) (λ found. led_by (at.now, room.old) (as_value (mean (view sum.now) (env_of env.now))) ≡ Some (found.now, room.new)) }
-    ensures erred { IsErrOf (result_of result) Stop.Erred → led_by (at.now, room.old) (as_value (mean (view sum.now) (env_of env.now))) ≡ None }
+    ensures { Gives (result_of result) (λ found. (found.now, room.new)) (led_by (at.now, room.old) (as_value (mean (view sum.now) (env_of env.now)))) }
 {
     // No other expression is a sum.
     let Expr::Operation(_, left, right) = sum else {
@@ -488,8 +468,7 @@ fn inner_place<'a>(
 ) -> Found<'a>
     requires seam { IsSeam (view sum.now) }
     requires room { room.old ≤ MAX_TEXT_BYTES }
-    ensures value { IfOk (result_of result) (λ found. led_by (at.now, room.old) (as_value (mean (view sum.now) (env_of env.now))) ≡ Some (found.now, room.new)) }
-    ensures erred { IsErrOf (result_of result) Stop.Erred → led_by (at.now, room.old) (as_value (mean (view sum.now) (env_of env.now))) ≡ None }
+    ensures { Gives (result_of result) (λ found. (found.now, room.new)) (led_by (at.now, room.old) (as_value (mean (view sum.now) (env_of env.now)))) }
 {
     sum_place(arena, at, sum, env, room)
 }
@@ -505,8 +484,7 @@ fn operand_place<'a>(
     room: &mut usize,
 ) -> Found<'a>
     requires { room.old ≤ MAX_TEXT_BYTES }
-    ensures value { IfOk (result_of result) (λ found. led_by (at.now, room.old) (as_value (mean (view expr.now) (env_of env.now))) ≡ Some (found.now, room.new)) }
-    ensures erred { IsErrOf (result_of result) Stop.Erred → led_by (at.now, room.old) (as_value (mean (view expr.now) (env_of env.now))) ≡ None }
+    ensures { Gives (result_of result) (λ found. (found.now, room.new)) (led_by (at.now, room.old) (as_value (mean (view expr.now) (env_of env.now)))) }
 {
     if let Expr::Text(text) = expr {
         return literal_below(arena, at, text.as_str(), room);
@@ -527,8 +505,7 @@ fn text_place<'a>(
     env: &Env<'a, '_>,
     room: &mut usize,
 ) -> Found<'a>
-    ensures value { IfOk (result_of result) (λ found. led_by (at.now, room.old) (as_value (mean (view expr.now) (env_of env.now))) ≡ Some (found.now, room.new)) }
-    ensures erred { IsErrOf (result_of result) Stop.Erred → led_by (at.now, room.old) (as_value (mean (view expr.now) (env_of env.now))) ≡ None }
+    ensures { Gives (result_of result) (λ found. (found.now, room.new)) (led_by (at.now, room.old) (as_value (mean (view expr.now) (env_of env.now)))) }
 {
     let mut found = Value::Null;
     match value(arena, expr, env, &mut found) {
@@ -541,8 +518,7 @@ fn text_place<'a>(
 #[cycle(evaluation)]
 #[inline(never)]
 fn place_of_part<'a>(arena: &'a Bump, expr: &'a Expr, env: &Env<'a, '_>) -> Found<'a>
-    ensures value { IfOk (result_of result) (λ at. as_place (mean (view expr.now) (env_of env.now)) ≡ Some at.now) }
-    ensures erred { IsErrOf (result_of result) Stop.Erred → as_place (mean (view expr.now) (env_of env.now)) ≡ None }
+    ensures { Gives (result_of result) (λ at. at.now) (as_place (mean (view expr.now) (env_of env.now))) }
 {
     let mut found = Meaning::Value(Value::Null);
     match part(arena, expr, env, &mut found) {
@@ -560,8 +536,7 @@ fn value_of_part<'a>(
     env: &Env<'a, '_>,
     found: &mut Value<'a>,
 ) -> Result<(), Stop>
-    ensures value { OnOk result (as_value (mean (view expr.now) (env_of env.now)) ≡ Some (value_of found.new)) }
-    ensures erred { IsErrOf result Stop.Erred → as_value (mean (view expr.now) (env_of env.now)) ≡ None }
+    ensures { Finds result (value_of found.new) (as_value (mean (view expr.now) (env_of env.now))) }
 {
     let mut whole = Meaning::Value(Value::Null);
     part(arena, expr, env, &mut whole)?;
@@ -571,8 +546,7 @@ fn value_of_part<'a>(
 // Whether it is true, where a boolean is wanted. Most rules ask first whether something is not null.
 #[cycle(evaluation)]
 fn truth<'a>(arena: &'a Bump, expr: &'a Expr, env: &Env<'a, '_>) -> Result<bool, Stop>
-    ensures value { IfOk result (λ b. as_truth (as_value (mean (view expr.now) (env_of env.now))) ≡ Some b) }
-    ensures erred { IsErrOf result Stop.Erred → as_truth (as_value (mean (view expr.now) (env_of env.now))) ≡ None }
+    ensures { Gives result (λ b. b) (as_truth (as_value (mean (view expr.now) (env_of env.now)))) }
 {
     match expr {
         Expr::Operation(Operator::And | Operator::Or, _, _) | Expr::Choice(_, _, _) => {
@@ -591,8 +565,7 @@ fn truth<'a>(arena: &'a Bump, expr: &'a Expr, env: &Env<'a, '_>) -> Result<bool,
 #[cycle(evaluation)]
 #[inline(never)]
 fn compound_truth<'a>(arena: &'a Bump, expr: &'a Expr, env: &Env<'a, '_>) -> Result<bool, Stop>
-    ensures value { IfOk result (λ b. as_truth (as_value (mean (view expr.now) (env_of env.now))) ≡ Some b) }
-    ensures erred { IsErrOf result Stop.Erred → as_truth (as_value (mean (view expr.now) (env_of env.now))) ≡ None }
+    ensures { Gives result (λ b. b) (as_truth (as_value (mean (view expr.now) (env_of env.now)))) }
 {
     match expr {
         Expr::Operation(Operator::And, left, right) => {
@@ -615,8 +588,7 @@ fn compound_truth<'a>(arena: &'a Bump, expr: &'a Expr, env: &Env<'a, '_>) -> Res
 #[cycle(evaluation)]
 #[inline(never)]
 fn value_truth<'a>(arena: &'a Bump, expr: &'a Expr, env: &Env<'a, '_>) -> Result<bool, Stop>
-    ensures value { IfOk result (λ b. as_truth (as_value (mean (view expr.now) (env_of env.now))) ≡ Some b) }
-    ensures erred { IsErrOf result Stop.Erred → as_truth (as_value (mean (view expr.now) (env_of env.now))) ≡ None }
+    ensures { Gives result (λ b. b) (as_truth (as_value (mean (view expr.now) (env_of env.now)))) }
 {
     let mut found = Value::Null;
     tested_value(arena, expr, env, &mut found)?;
@@ -627,8 +599,7 @@ fn value_truth<'a>(arena: &'a Bump, expr: &'a Expr, env: &Env<'a, '_>) -> Result
 #[cycle(evaluation)]
 #[inline(never)]
 fn is_there<'a>(arena: &'a Bump, expr: &'a Expr, env: &Env<'a, '_>) -> Result<bool, Stop>
-    ensures value { IfOk result (λ b. operated Operator.NotEqual (as_value (mean (view expr.now) (env_of env.now))) (Some null) ≡ Some (truth b)) }
-    ensures erred { IsErrOf result Stop.Erred → as_value (mean (view expr.now) (env_of env.now)) ≡ None }
+    ensures { Gives result truth (operated Operator.NotEqual (as_value (mean (view expr.now) (env_of env.now))) (Some null)) }
 {
     let mut found = Value::Null;
     value(arena, expr, env, &mut found)?;
@@ -645,8 +616,7 @@ fn is_null(expr: &Expr) -> bool
 // Whether both are true, behind the left one. Where that is false, the right one is not evaluated.
 #[cycle(evaluation)]
 fn both<'a>(arena: &'a Bump, left: bool, right: &'a Expr, env: &Env<'a, '_>) -> Result<bool, Stop>
-    ensures value { IfOk result (λ b. both (Some (truth left)) (as_value (mean (view right.now) (env_of env.now))) ≡ Some (truth b)) }
-    ensures erred { IsErrOf result Stop.Erred → both (Some (truth left)) (as_value (mean (view right.now) (env_of env.now))) ≡ None }
+    ensures { Gives result truth (both (Some (truth left)) (as_value (mean (view right.now) (env_of env.now)))) }
 {
     if !left {
         return Ok(false);
@@ -657,8 +627,7 @@ fn both<'a>(arena: &'a Bump, left: bool, right: &'a Expr, env: &Env<'a, '_>) -> 
 // Whether one of both is true, behind the left one. Where that is, the right one is not evaluated.
 #[cycle(evaluation)]
 fn either<'a>(arena: &'a Bump, left: bool, right: &'a Expr, env: &Env<'a, '_>) -> Result<bool, Stop>
-    ensures value { IfOk result (λ b. either (Some (truth left)) (as_value (mean (view right.now) (env_of env.now))) ≡ Some (truth b)) }
-    ensures erred { IsErrOf result Stop.Erred → either (Some (truth left)) (as_value (mean (view right.now) (env_of env.now))) ≡ None }
+    ensures { Gives result truth (either (Some (truth left)) (as_value (mean (view right.now) (env_of env.now)))) }
 {
     if left {
         return Ok(true);
@@ -675,8 +644,7 @@ fn other_truth<'a>(
     env: &Env<'a, '_>,
     found: &mut Meaning<'a>,
 ) -> Result<(), Stop>
-    ensures value { OnOk result (option_map value (other_truth (as_value (mean (view expr.now) (env_of env.now)))) ≡ Some (part_of found.new)) }
-    ensures erred { IsErrOf result Stop.Erred → option_map value (other_truth (as_value (mean (view expr.now) (env_of env.now)))) ≡ None }
+    ensures { Finds result (part_of found.new) (option_map value (other_truth (as_value (mean (view expr.now) (env_of env.now))))) }
 {
     let b = truth(arena, expr, env)?;
     *found = Meaning::Value(Value::Truth(!b));
@@ -692,8 +660,7 @@ fn opposite<'a>(
     env: &Env<'a, '_>,
     found: &mut Meaning<'a>,
 ) -> Result<(), Stop>
-    ensures value { OnOk result (option_map value (option_and_then minus_of (as_value (mean (view expr.now) (env_of env.now)))) ≡ Some (part_of found.new)) }
-    ensures erred { IsErrOf result Stop.Erred → option_map value (option_and_then minus_of (as_value (mean (view expr.now) (env_of env.now)))) ≡ None }
+    ensures { Finds result (part_of found.new) (option_map value (option_and_then minus_of (as_value (mean (view expr.now) (env_of env.now))))) }
 {
     let mut number = Value::Null;
     value(arena, expr, env, &mut number)?;
@@ -712,8 +679,7 @@ fn operation<'a>(
     env: &Env<'a, '_>,
     found: &mut Meaning<'a>,
 ) -> Result<(), Stop>
-    ensures value { OnOk result (option_map value (operated operator (Some (value_of left.entry)) (as_value (mean (view right.now) (env_of env.now)))) ≡ Some (part_of found.new)) }
-    ensures erred { IsErrOf result Stop.Erred → option_map value (operated operator (Some (value_of left.entry)) (as_value (mean (view right.now) (env_of env.now)))) ≡ None }
+    ensures { Finds result (part_of found.new) (option_map value (operated operator (Some (value_of left.entry)) (as_value (mean (view right.now) (env_of env.now))))) }
 {
     let mut made = left;
     operated(arena, operator, right, env, &mut made)?;
@@ -731,8 +697,7 @@ fn operated<'a>(
     env: &Env<'a, '_>,
     found: &mut Value<'a>,
 ) -> Result<(), Stop>
-    ensures value { OnOk result (operated operator (Some (value_of found.old)) (as_value (mean (view right.now) (env_of env.now))) ≡ Some (value_of found.new)) }
-    ensures erred { IsErrOf result Stop.Erred → operated operator (Some (value_of found.old)) (as_value (mean (view right.now) (env_of env.now))) ≡ None }
+    ensures { Finds result (value_of found.new) (operated operator (Some (value_of found.old)) (as_value (mean (view right.now) (env_of env.now)))) }
 {
     match operator {
         Operator::And => {
@@ -761,8 +726,7 @@ fn call<'a>(
     env: &Env<'a, '_>,
     found: &mut Meaning<'a>,
 ) -> Result<(), Stop>
-    ensures value { OnOk result (call_of name.now (part_of found.old) (meant (arguments list.now) (env_of env.now)) ≡ Some (part_of found.new)) }
-    ensures erred { IsErrOf result Stop.Erred → call_of name.now (part_of found.old) (meant (arguments list.now) (env_of env.now)) ≡ None }
+    ensures { Finds result (part_of found.new) (call_of name.now (part_of found.old) (meant (arguments list.now) (env_of env.now))) }
 {
     match list {
         [] => called_with_nothing(name, found),
@@ -786,8 +750,7 @@ fn call_with_second<'a>(
     env: &Env<'a, '_>,
     found: &mut Meaning<'a>,
 ) -> Result<(), Stop>
-    ensures value { OnOk result (option_and_then (called_with_two name.now (part_of found.old) (value_of first.entry)) (argument_value (view_argument given.now) (env_of env.now)) ≡ Some (part_of found.new)) }
-    ensures erred { IsErrOf result Stop.Erred → option_and_then (called_with_two name.now (part_of found.old) (value_of first.entry)) (argument_value (view_argument given.now) (env_of env.now)) ≡ None }
+    ensures { Finds result (part_of found.new) (option_and_then (called_with_two name.now (part_of found.old) (value_of first.entry)) (argument_value (view_argument given.now) (env_of env.now))) }
 {
     let mut second = Value::Null;
     argument_of(arena, given, env, &mut second)?;
@@ -804,8 +767,7 @@ fn call_with<'a>(
     env: &Env<'a, '_>,
     found: &mut Meaning<'a>,
 ) -> Result<(), Stop>
-    ensures value { OnOk result (call_of name.now (part_of found.old) (meant (argument (view_argument given.now) no_argument) (env_of env.now)) ≡ Some (part_of found.new)) }
-    ensures erred { IsErrOf result Stop.Erred → call_of name.now (part_of found.old) (meant (argument (view_argument given.now) no_argument) (env_of env.now)) ≡ None }
+    ensures { Finds result (part_of found.new) (call_of name.now (part_of found.old) (meant (argument (view_argument given.now) no_argument) (env_of env.now))) }
 {
     match given {
         Argument::One(only) => {
@@ -827,8 +789,7 @@ fn call_listed<'a>(
     env: &Env<'a, '_>,
     found: &mut Meaning<'a>,
 ) -> Result<(), Stop>
-    ensures value { OnOk result (option_and_then (called_with_list name.now (part_of found.old)) (values (views items.now) (env_of env.now)) ≡ Some (part_of found.new)) }
-    ensures erred { IsErrOf result Stop.Erred → option_and_then (called_with_list name.now (part_of found.old)) (values (views items.now) (env_of env.now)) ≡ None }
+    ensures { Finds result (part_of found.new) (option_and_then (called_with_list name.now (part_of found.old)) (values (views items.now) (env_of env.now))) }
 {
     let place = wanted(holder(name, *found))?;
     let all = have_children(arena, place, items, env)?;
@@ -844,8 +805,7 @@ fn have_children<'a>(
     items: &'a [Expr],
     env: &Env<'a, '_>,
 ) -> Result<bool, Stop>
-    ensures value { IfOk result (λ b. option_and_then (have_children place.now) (values (views items.now) (env_of env.now)) ≡ Some b) }
-    ensures erred { IsErrOf result Stop.Erred → option_and_then (have_children place.now) (values (views items.now) (env_of env.now)) ≡ None }
+    ensures { Gives result (λ b. b) (option_and_then (have_children place.now) (values (views items.now) (env_of env.now))) }
 {
     let mut all = true;
     for item in items {
@@ -865,8 +825,7 @@ fn argument_of<'a>(
     env: &Env<'a, '_>,
     found: &mut Value<'a>,
 ) -> Result<(), Stop>
-    ensures value { OnOk result (argument_value (view_argument given.now) (env_of env.now) ≡ Some (value_of found.new)) }
-    ensures erred { IsErrOf result Stop.Erred → argument_value (view_argument given.now) (env_of env.now) ≡ None }
+    ensures { Finds result (value_of found.new) (argument_value (view_argument given.now) (env_of env.now)) }
 {
     match given {
         Argument::One(only) => value(arena, only, env, found),

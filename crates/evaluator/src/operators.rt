@@ -1,7 +1,8 @@
 //! What operators make of values.
-ghost use Rattle.std.specs.Prelude.{◌≡◌, ◌++◌, ◌+ℤ◌, ◌-ℤ◌, ◌*ℤ◌, neg_ℤ, Some, None, OnOk, IsErrOf, option_map, pos};
+ghost use Rattle.std.specs.Prelude.{◌≡◌, ◌++◌, ◌+ℤ◌, ◌-ℤ◌, ◌*ℤ◌, neg_ℤ, Some, option_map, pos};
 ghost use Rattle.evaluator.specs.Value.{null, truth, whole, words, in_range};
 ghost use Rattle.evaluator.specs.Operators.{in_truth, is_opaque, same, equal, compared, minus, times, remainder, minus_of, plus, text_within, of_both};
+ghost use Rattle.evaluator.specs.Working.Answers.{Finds};
 ghost use Rattle.evaluator.specs.Working.Parts.{value_of, numbers_in};
 
 use crate::value::{Stop, Value, put_truth, put_value, wanted};
@@ -197,8 +198,7 @@ pub(crate) fn minus_of<'a>(value: Value) -> Option<Value<'a>>
 
 // One text behind another, in one growth.
 fn joined<'a>(arena: &'a Bump, front: &str, back: &str, found: &mut Value<'a>) -> Result<(), Stop>
-    ensures value { OnOk result (text_within (front.now ++ back.now) ≡ Some (value_of found.new)) }
-    ensures erred { IsErrOf result Stop.Erred → text_within (front.now ++ back.now) ≡ None }
+    ensures { Finds result (value_of found.new) (text_within (front.now ++ back.now)) }
 {
     if front.len() > MAX_TEXT_BYTES || back.len() > MAX_TEXT_BYTES - front.len() {
         return Err(Stop::Erred);
@@ -211,11 +211,11 @@ fn joined<'a>(arena: &'a Bump, front: &str, back: &str, found: &mut Value<'a>) -
     Ok(())
 }
 
-// A text behind a number.
+// A text behind a number. It stays a function of its own, as the next one does, since room for the digits would be
+// made and cleared at each sum.
 #[inline(never)]
 fn joined_to_number<'a>(arena: &'a Bump, a: i64, b: &str, found: &mut Value<'a>) -> Result<(), Stop>
-    ensures value { OnOk result (plus (whole a) (words b.now) ≡ Some (value_of found.new)) }
-    ensures erred { IsErrOf result Stop.Erred → plus (whole a) (words b.now) ≡ None }
+    ensures { Finds result (value_of found.new) (plus (whole a) (words b.now)) }
 {
     let digits = a.to_string(arena)?;
     joined(arena, digits.as_str(), b, found)
@@ -229,8 +229,7 @@ fn joined_with_number<'a>(
     b: i64,
     found: &mut Value<'a>,
 ) -> Result<(), Stop>
-    ensures value { OnOk result (plus (words a.now) (whole b) ≡ Some (value_of found.new)) }
-    ensures erred { IsErrOf result Stop.Erred → plus (words a.now) (whole b) ≡ None }
+    ensures { Finds result (value_of found.new) (plus (words a.now) (whole b)) }
 {
     let digits = b.to_string(arena)?;
     joined(arena, a, digits.as_str(), found)
@@ -238,8 +237,7 @@ fn joined_with_number<'a>(
 
 // The sum, put where the left value was.
 fn plus<'a>(arena: &'a Bump, right: &Value<'a>, found: &mut Value<'a>) -> Result<(), Stop>
-    ensures value { OnOk result (plus (value_of found.old) (value_of right.now) ≡ Some (value_of found.new)) }
-    ensures erred { IsErrOf result Stop.Erred → plus (value_of found.old) (value_of right.now) ≡ None }
+    ensures { Finds result (value_of found.new) (plus (value_of found.old) (value_of right.now)) }
 {
     match *found {
         Value::Whole(a) => match *right {
@@ -266,8 +264,7 @@ pub(crate) fn of_both<'a>(
     right: &Value<'a>,
     found: &mut Value<'a>,
 ) -> Result<(), Stop>
-    ensures value { OnOk result (of_both operator (value_of found.old) (value_of right.now) ≡ Some (value_of found.new)) }
-    ensures erred { IsErrOf result Stop.Erred → of_both operator (value_of found.old) (value_of right.now) ≡ None }
+    ensures { Finds result (value_of found.new) (of_both operator (value_of found.old) (value_of right.now)) }
 {
     match operator {
         Operator::Equal => put_truth(wanted(equal(found, right))?, found),

@@ -1,10 +1,11 @@
 //! Texts of keys that are joined with a slash between them: one text leads on from where the other leads, and nothing
 //! is joined.
-ghost use Rattle.std.specs.Prelude.{◌≡◌, ◌<◌, ◌≤◌, ◌-◌, ◌∷◌, ◌++◌, [], ℕ, List, length, true, false, Some, None, IfOk, IfSome, IsErrOf};
+ghost use Rattle.std.specs.Prelude.{◌≡◌, ◌<◌, ◌≤◌, ◌-◌, ◌∷◌, ◌++◌, [], ℕ, List, length, true, false, Some, IfSome};
 ghost use Rattle.expr_parser.specs.Tree.{Text};
 ghost use Rattle.expr_parser.specs.View.{view};
 ghost use Rattle.path_capture.specs.Path.{segments};
 ghost use Rattle.evaluator.specs.Value.{whole};
+ghost use Rattle.evaluator.specs.Working.Answers.{Gives};
 ghost use Rattle.evaluator.specs.Working.Parts.{value_of, result_of};
 ghost use Rattle.evaluator.specs.Working.Seams.{BeginsBelow, IsClosed, EndsBelow, IsSeam, led, led_by};
 
@@ -111,8 +112,7 @@ fn text_below<'a>(
     text: &'a str,
     room: &mut usize,
 ) -> Found<'a>
-    ensures value { IfOk (result_of result) (λ found. led (at.now, room.old) text.now ≡ Some (found.now, room.new)) }
-    ensures erred { IsErrOf (result_of result) Stop.Erred → led (at.now, room.old) text.now ≡ None }
+    ensures { Gives (result_of result) (λ found. (found.now, room.new)) (led (at.now, room.old) text.now) }
 {
     if !has_room(text, room) {
         return Found::Erred;
@@ -148,8 +148,7 @@ pub(crate) fn literal_below<'a>(
     text: &'a str,
     room: &mut usize,
 ) -> Found<'a>
-    ensures value { IfOk (result_of result) (λ found. led (at.now, room.old) text.now ≡ Some (found.now, room.new)) }
-    ensures erred { IsErrOf (result_of result) Stop.Erred → led (at.now, room.old) text.now ≡ None }
+    ensures { Gives (result_of result) (λ found. (found.now, room.new)) (led (at.now, room.old) text.now) }
 {
     if !has_room(text, room) {
         return Found::Erred;
@@ -157,7 +156,8 @@ pub(crate) fn literal_below<'a>(
     child_at(arena, at, behind_slash(before_slash(text)))
 }
 
-// A number stands for its digits.
+// A number stands for its digits. It stays a function of its own, since room for them would be made and cleared for
+// each operand.
 #[inline(never)]
 fn number_below<'a>(
     arena: &'a Bump,
@@ -165,8 +165,7 @@ fn number_below<'a>(
     number: i64,
     room: &mut usize,
 ) -> Found<'a>
-    ensures value { IfOk (result_of result) (λ found. led_by (at.now, room.old) (Some (whole number)) ≡ Some (found.now, room.new)) }
-    ensures erred { IsErrOf (result_of result) Stop.Erred → led_by (at.now, room.old) (Some (whole number)) ≡ None }
+    ensures { Gives (result_of result) (λ found. (found.now, room.new)) (led_by (at.now, room.old) (Some (whole number))) }
 {
     match number.to_string(arena) {
         Ok(digits) => text_below(arena, at, into_bump_str(digits), room),
@@ -182,8 +181,7 @@ pub(crate) fn value_below<'a>(
     value: Value<'a>,
     room: &mut usize,
 ) -> Found<'a>
-    ensures value { IfOk (result_of result) (λ found. led_by (at.now, room.old) (Some (value_of value.entry)) ≡ Some (found.now, room.new)) }
-    ensures erred { IsErrOf (result_of result) Stop.Erred → led_by (at.now, room.old) (Some (value_of value.entry)) ≡ None }
+    ensures { Gives (result_of result) (λ found. (found.now, room.new)) (led_by (at.now, room.old) (Some (value_of value.entry))) }
 {
     if let Value::Words(text) = value {
         return text_below(arena, at, text, room);

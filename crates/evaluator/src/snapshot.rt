@@ -1,5 +1,5 @@
 //! A snapshot: a location of a tree.
-ghost use Rattle.std.specs.Prelude.{◌≡◌, ◌<◌, ◌≤◌, [], true, IfOk, IsErrOf, IsSome, Some, None, Err, option_map, length};
+ghost use Rattle.std.specs.Prelude.{◌≡◌, ◌<◌, ◌≤◌, [], true, IfOk, IsSome, Some, Err, option_map, length};
 ghost use Rattle.std.specs.Bool.{OnTrue};
 ghost use Rattle.tree_model.specs.declared.limits.TheConstants.{MAX_DEPTH};
 ghost use Rattle.tree_model.specs.Key.{is_key};
@@ -8,6 +8,7 @@ ghost use Rattle.tree_model.specs.Tree.{non_null};
 ghost use Rattle.json_tree.specs.Leaf.{primitive_of};
 ghost use Rattle.path_capture.specs.Write.{tree_or_null};
 ghost use Rattle.evaluator.specs.Snapshot.{root_of, below, parent_at, exists_at, primitive_at, val_at, has_children_at, child_at};
+ghost use Rattle.evaluator.specs.Working.Answers.{Gives};
 ghost use Rattle.evaluator.specs.Working.Parts.{value_of, result_of};
 ghost use Rattle.evaluator.specs.Working.Places.{down, stepped};
 
@@ -221,7 +222,8 @@ fn shared<'a>(view: &Option<View<'a>>) -> Option<View<'a>>
     }
 }
 
-// What stands at the key below a location.
+// What stands at the key below a location. It stays a function of its own, since room for the way there would be
+// made and cleared in each function that looks.
 #[cycle(look)]
 #[inline(never)]
 fn looked_up<'a>(above: &Snapshot<'a>, key: &str) -> Option<View<'a>>
@@ -291,8 +293,7 @@ pub(crate) fn has_children_at(place: &Snapshot) -> bool
 // The location at a text of keys: a look-up and a place in the arena for each key. Most texts are one key, and
 // most of these stand there.
 pub(crate) fn child_at<'a>(arena: &'a Bump, place: &'a Snapshot<'a>, text: &'a str) -> Found<'a>
-    ensures value { IfOk (result_of result) (λ at. child_at place.now text.now ≡ Some at.now) }
-    ensures erred { IsErrOf (result_of result) Stop.Erred → child_at place.now text.now ≡ None }
+    ensures { Gives (result_of result) (λ at. at.now) (child_at place.now text.now) }
 {
     let child = child_of(place.view(), text);
     if is_key_of(&child, text) {
@@ -302,15 +303,15 @@ pub(crate) fn child_at<'a>(arena: &'a Bump, place: &'a Snapshot<'a>, text: &'a s
     Found::of(at_keys(arena, place, text))
 }
 
-// The same, by one key after another.
+// The same, by one key after another. It stays a function of its own, as the next one does, since most texts are the key
+// of a child, and room for several would be made and cleared for each.
 #[inline(never)]
 pub(crate) fn at_keys<'a>(
     arena: &'a Bump,
     place: &'a Snapshot<'a>,
     text: &'a str,
 ) -> Result<&'a Snapshot<'a>, Stop>
-    ensures value { IfOk result (λ at. child_at place.now text.now ≡ Some at.now) }
-    ensures erred { IsErrOf result Stop.Erred → child_at place.now text.now ≡ None }
+    ensures { Gives result (λ at. at.now) (child_at place.now text.now) }
 {
     place.depth();
     let mut at = step(arena, place, "")?;
@@ -327,8 +328,7 @@ pub(crate) fn exists_below<'a>(
     place: &'a Snapshot<'a>,
     text: &'a str,
 ) -> Result<bool, Stop>
-    ensures value { IfOk result (λ there. option_map exists_at (child_at place.now text.now) ≡ Some there) }
-    ensures erred { IsErrOf result Stop.Erred → option_map exists_at (child_at place.now text.now) ≡ None }
+    ensures { Gives result (λ there. there) (option_map exists_at (child_at place.now text.now)) }
 {
     if is_child(place, text) {
         return Ok(true);
@@ -348,8 +348,7 @@ fn step<'a>(
     place: &'a Snapshot<'a>,
     piece: &'a str,
 ) -> Result<&'a Snapshot<'a>, Stop>
-    ensures value { IfOk result (λ at. stepped place.now piece.now ≡ Some at.now) }
-    ensures erred { IsErrOf result Stop.Erred → stepped place.now piece.now ≡ None }
+    ensures { Gives result (λ at. at.now) (stepped place.now piece.now) }
 {
     if piece.is_empty() {
         return Ok(place);
@@ -378,8 +377,7 @@ fn at_key<'a>(
 ) -> Result<&'a Snapshot<'a>, Stop>
     requires key { is_key key.now ≡ true }
     requires child { child ≡ down key.now (non_null (sub place.now.0 place.now.1)) }
-    ensures value { IfOk result (λ at. stepped place.now key.now ≡ Some at.now) }
-    ensures erred { IsErrOf result Stop.Erred → stepped place.now key.now ≡ None }
+    ensures { Gives result (λ at. at.now) (stepped place.now key.now) }
 {
     if place.depth() >= MAX_DEPTH {
         return Err(Stop::Erred);

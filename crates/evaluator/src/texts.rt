@@ -1,11 +1,12 @@
 //! Methods of texts.
-ghost use Rattle.std.specs.Prelude.{◌≡◌, ◌++◌, ◌<◌, ◌≤◌, length, nat_eq, Some, None, IfOk, IsErrOf, option_map, string_bytes};
+ghost use Rattle.std.specs.Prelude.{◌≡◌, ◌++◌, ◌<◌, ◌≤◌, length, nat_eq, IfOk, IsErrOf, option_map, string_bytes};
 ghost use Rattle.std.specs.List.{starts_with, ends_with};
 ghost use Rattle.std.specs.Str.{chars};
 ghost use Rattle.tree_model.specs.declared.limits.TheConstants.{MAX_TEXT_BYTES};
 ghost use Rattle.evaluator.specs.Value.{words};
 ghost use Rattle.evaluator.specs.Operators.{text_within};
 ghost use Rattle.evaluator.specs.Texts.{length_of, is_inside, text_test, split_at_first, replaced, replace, text_change};
+ghost use Rattle.evaluator.specs.Working.Answers.{Gives};
 ghost use Rattle.evaluator.specs.Working.Parts.{value_of, texts_in};
 
 use crate::value::{Stop, Value};
@@ -114,8 +115,7 @@ fn split<'b>(text: &'b str, part: &str) -> Option<(&'b str, &'b str)>
 
 // The text itself, within the limit.
 fn unchanged<'a>(text: &'a str) -> Result<Value<'a>, Stop>
-    ensures value { IfOk result (λ v. text_within text.now ≡ Some (value_of v)) }
-    ensures erred { IsErrOf result Stop.Erred → text_within text.now ≡ None }
+    ensures { Gives result value_of (text_within text.now) }
 {
     if text.len() > MAX_TEXT_BYTES {
         return Err(Stop::Erred);
@@ -127,8 +127,7 @@ fn unchanged<'a>(text: &'a str) -> Result<Value<'a>, Stop>
 // growths where the new one is longer.
 fn made_anew<'a>(arena: &'a Bump, text: &str, part: &str, with: &str) -> Result<Value<'a>, Stop>
     requires some { 0 < length part.now }
-    ensures value { IfOk result (λ v. text_within (replaced part.now with.now text.now) ≡ Some (value_of v)) }
-    ensures erred { IsErrOf result Stop.Erred → text_within (replaced part.now with.now text.now) ≡ None }
+    ensures { Gives result value_of (text_within (replaced part.now with.now text.now)) }
 {
     let mut made = String::with_capacity(arena, text.len())?;
     let mut rest = text;
@@ -144,8 +143,7 @@ fn made_anew<'a>(arena: &'a Bump, text: &str, part: &str, with: &str) -> Result<
 // Every occurrence of a text, from the left, becomes another. Where there is none, the text is lent on, and no memory
 // is taken.
 fn replaced<'a>(arena: &'a Bump, text: &'a str, part: &str, with: &str) -> Result<Value<'a>, Stop>
-    ensures value { IfOk result (λ v. replace (words text.now) (words part.now) (words with.now) ≡ Some (value_of v)) }
-    ensures erred { IsErrOf result Stop.Erred → replace (words text.now) (words part.now) (words with.now) ≡ None }
+    ensures { Gives result value_of (replace (words text.now) (words part.now) (words with.now)) }
 {
     if part.is_empty() {
         return Err(Stop::Erred);
@@ -163,8 +161,7 @@ fn replace<'a>(
     part: Value<'a>,
     with: Value<'a>,
 ) -> Result<Value<'a>, Stop>
-    ensures value { IfOk result (λ v. replace (value_of receiver.entry) (value_of part.entry) (value_of with.entry) ≡ Some (value_of v)) }
-    ensures erred { IsErrOf result Stop.Erred → replace (value_of receiver.entry) (value_of part.entry) (value_of with.entry) ≡ None }
+    ensures { Gives result value_of (replace (value_of receiver.entry) (value_of part.entry) (value_of with.entry)) }
 {
     match receiver {
         Value::Words(text) => match part {
@@ -187,8 +184,7 @@ pub(crate) fn text_change<'a>(
     first: Value<'a>,
     second: Value<'a>,
 ) -> Result<Value<'a>, Stop>
-    ensures value { IfOk result (λ v. text_change name.now (value_of receiver.entry) (value_of first.entry) (value_of second.entry) ≡ Some (value_of v)) }
-    ensures erred { IsErrOf result Stop.Erred → text_change name.now (value_of receiver.entry) (value_of first.entry) (value_of second.entry) ≡ None }
+    ensures { Gives result value_of (text_change name.now (value_of receiver.entry) (value_of first.entry) (value_of second.entry)) }
 {
     match name {
         "replace" => replace(arena, receiver, first, second),

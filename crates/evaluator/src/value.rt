@@ -1,9 +1,10 @@
 //! Values, and the other parts of expressions.
-ghost use Rattle.std.specs.Prelude.{◌≡◌, Some, None, IsOk, IfOk, OnOk, IsErrOf, option_map};
+ghost use Rattle.std.specs.Prelude.{◌≡◌, IsOk, OnOk, option_map};
 ghost use Rattle.json_tree.specs.Leaf.{primitive_of};
 ghost use Rattle.evaluator.specs.declared.value.Stop.TheVariants.{NoMemory as no_memory};
 ghost use Rattle.evaluator.specs.Value.{in_value, of_primitive, truth as of_truth};
 ghost use Rattle.evaluator.specs.Members.{text_or_null, primitive_or_null, number_or_null};
+ghost use Rattle.evaluator.specs.Working.Answers.{Finds, Gives};
 ghost use Rattle.evaluator.specs.Working.Parts.{value_of, part_of, in_place};
 
 use crate::asked::Asked;
@@ -67,8 +68,7 @@ impl<T: Drop> From<AllocFailed<T>> for Stop {
 // What was found, or an error.
 #[inline(always)]
 pub(crate) fn wanted<T>(found: Option<T>) -> Result<T, Stop>
-    ensures value { IfOk result (λ x. found ≡ Some x) }
-    ensures erred { IsErrOf result Stop.Erred → found ≡ None }
+    ensures { Gives result (λ x. x) found }
 {
     found.ok_or(Stop::Erred)
 }
@@ -77,8 +77,7 @@ pub(crate) fn wanted<T>(found: Option<T>) -> Result<T, Stop>
 // from where it would be copied.
 #[inline(always)]
 pub(crate) fn put_value<'a>(value: Option<Value<'a>>, found: &mut Value<'a>) -> Result<(), Stop>
-    ensures value { OnOk result (option_map value_of value.entry ≡ Some (value_of found.new)) }
-    ensures erred { IsErrOf result Stop.Erred → option_map value_of value.entry ≡ None }
+    ensures { Finds result (value_of found.new) (option_map value_of value.entry) }
 {
     *found = wanted(value)?;
     Ok(())
@@ -97,8 +96,7 @@ pub(crate) fn put_truth<'a>(truth: bool, found: &mut Value<'a>) -> Result<(), St
 // Puts a part where it is wanted, or errs.
 #[inline(always)]
 pub(crate) fn put_part<'a>(part: Option<Meaning<'a>>, found: &mut Meaning<'a>) -> Result<(), Stop>
-    ensures value { OnOk result (option_map part_of part.entry ≡ Some (part_of found.new)) }
-    ensures erred { IsErrOf result Stop.Erred → option_map part_of part.entry ≡ None }
+    ensures { Finds result (part_of found.new) (option_map part_of part.entry) }
 {
     *found = wanted(part)?;
     Ok(())

@@ -1,7 +1,7 @@
 //! What a session asks, in the texts that it is made of.
 use crate::rules::rules_of;
 use evaluator::{Claims, Identity};
-use json_tree::{Leaf, Node, Number};
+use json_tree::{Draft, Leaf, Node, Number};
 use listeners::{ListenerId, Query};
 use path_capture::{Path, Write};
 use rtdb_core::{Event, Removal, Writes};
@@ -91,7 +91,7 @@ fn identity_of(alloc: Global, name: &str) -> Option<Identity> {
 pub(crate) fn write_of(alloc: Global, number: u64, below: &str, value: i64) -> Option<Write> {
     let path = path_of(alloc, number, below)?;
     let tree = Node::of_leaf(Leaf::Whole(Number::new(value)?)).ok()?;
-    Write::new(path, Some(tree)).ok()
+    Write::new(path, Some(Draft::fixed(tree))).ok()
 }
 
 fn writes_of(alloc: Global, number: u64, paths: &str) -> Option<Writes> {

@@ -3,7 +3,7 @@ ghost use Rattle.std.specs.Prelude.{◌≡◌, IfOk};
 
 use crate::trouble::Trouble;
 use bumpalo::Bump;
-use json_tree::{Leaf, Node, Number};
+use json_tree::{Draft, Leaf, Node, Number};
 use locked_server::{Hall, Seat};
 use path_capture::{Path, Write};
 use rtdb_core::{Event, Refusal, Reply};
@@ -19,7 +19,7 @@ fn write_of(alloc: Global, session: u64, number: u64) -> Option<Write> {
     let path = Path::parse(alloc, text.as_str()).ok()?;
     let value = Number::new(i64::try_from(number).ok()?)?;
     let tree = Node::of_leaf(Leaf::Whole(value)).ok()?;
-    Write::new(path, Some(tree)).ok()
+    Write::new(path, Some(Draft::fixed(tree))).ok()
 }
 
 /// Opens the session of this number, and writes all its numbers.

@@ -6,3 +6,4 @@ pub mod Sixteens
 pub mod Naming
 pub mod MemberNames
 pub mod Outlines
+pub mod Drafts

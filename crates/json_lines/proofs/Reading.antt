@@ -8,7 +8,8 @@ use Rattle.json.specs.Json.{Json, parse_map, after_end_array, read_key, items, m
 use Rattle.json.proofs.Grammar.{value_is, value-begin_object, read_key-shorter, members_end, members_more}
 use Rattle.serde_json.specs.Data.{Data, null, boolean, number, string, object, Members, no_members, put}
 use Rattle.serde_json.specs.Read.{of_json, of_members, number_of, converted, read}
-use Rattle.json_lines.specs.Outline.{IsRead, read_on, Gives}
+use Rattle.tree_model.specs.Draft.{Draft}
+use Rattle.json_lines.specs.Outline.{IsRead, read_on, Gives, IsObject}
 
 -- ---- what was converted
 
@@ -52,38 +53,50 @@ number_read depth s ts d e = ap (converted of_json) (value_is depth (token.numbe
 
 -- ---- members
 
--- reading has come from `all` to `now`, and has put `there`
+-- reading has come from `all`, where `first` was there, to `now`, and has put `there`
+abbrev pub LeadsFrom : Members → ℕ → List Token → List Token → Members → Type 0
+LeadsFrom first depth all now there = (n : ℕ) → length all ≤ n → (m : ℕ) × (length now ≤ m) × (read_on depth n all first ≡ read_on depth m now there)
+
+-- the same, where nothing was there
 abbrev pub Leads : ℕ → List Token → List Token → Members → Type 0
-Leads depth all now there = (n : ℕ) → length all ≤ n → (m : ℕ) × (length now ≤ m) × (read_on depth n all no_members ≡ read_on depth m now there)
+Leads = LeadsFrom no_members
 
 with_member : (k : List ℕ) (j : Json) (d : Data) (there : Members) → of_json j ≡ Some d → (o : Option (json.Members × List Token))
     → converted (λ ms. of_members ms there) (parse_map (json.member k j) o) ≡ converted (λ ms. of_members ms (put k d there)) o
 with_member k j d there e None = refl
 with_member k j d there e (Some p) = rw e refl
 
-pub at_first : (depth : ℕ) (all : List Token) → Leads depth all all no_members
-at_first depth all = λ n h. (n, h, refl)
+pub at_first : (depth : ℕ) (all : List Token) (first : Members) → LeadsFrom first depth all all first
+at_first depth all first = λ n h. (n, h, refl)
 
-pub one_more : (depth : ℕ) (all now left behind after : List Token) (there : Members) (k : List ℕ) (t : Token) (d : Data) → Leads depth all now there → read_key now ≡ Some (Some k, left) → left ≡ t ∷ behind
-    → IsRead depth t behind d after → length after ≤ length behind → Leads depth all after (put k d there)
-one_more depth all now left behind after there k t d leads key first is within = λ n h.
+pub one_more : (depth : ℕ) (all now left behind after : List Token) (there : Members) (k : List ℕ) (t : Token) (d : Data) (first : Members) → LeadsFrom first depth all now there → read_key now ≡ Some (Some k, left) → left ≡ t ∷ behind
+    → IsRead depth t behind d after → length after ≤ length behind → LeadsFrom first depth all after (put k d there)
+one_more depth all now left behind after there k t d first leads key begins is within = λ n h.
     let so_far = leads n h in
     let m = so_far.0 in
     let room : length now ≤ m = so_far.1 in
     let shorter : length left < length now = read_key-shorter now (Some k) left key in
-    let longer : length left ≡ length (t ∷ behind) = ap length first in
+    let longer : length left ≡ length (t ∷ behind) = ap length begins in
     let turns : 0 < m = omega arith in
     let one = converted_from of_json (value depth (t ∷ behind)) d after is in
-    let found : value depth left ≡ Some (one.0, after) = ap (value depth) first ∙ one.1 in (
+    let found : value depth left ≡ Some (one.0, after) = ap (value depth) begins ∙ one.1 in (
       m - 1,
       omega arith,
       so_far.2 ∙ ap (converted (λ ms. of_members ms there)) (members_more (value depth) m k now left after one.0 turns key found) ∙ with_member k one.0 d there one.2 _,
     )
 
-pub at_last : (depth : ℕ) (all now rest : List Token) (there : Members) → Leads depth all now there → read_key now ≡ Some (None, rest) → Gives depth all there rest
-at_last depth all now rest there leads key = λ n h.
+pub at_last : (depth : ℕ) (all now rest : List Token) (there first : Members) → LeadsFrom first depth all now there → read_key now ≡ Some (None, rest) → (n : ℕ) → length all ≤ n → read_on depth n all first ≡ Some (there, rest)
+at_last depth all now rest there first leads key = λ n h.
     let so_far = leads n h in
     so_far.2 ∙ ap (converted (λ ms. of_members ms there)) (members_end (value depth) so_far.0 now rest so_far.1 key)
+
+-- the rest of an object is read as the rest was
+pub goes_on : (depth : ℕ) (all now : List Token) (first there : Members) (draft : Draft) (rest : List Token) → LeadsFrom first depth all now there → IsObject depth there now draft rest → IsObject depth first all draft rest
+goes_on depth all now first there draft rest leads h = record {
+  members = h.members;
+  is = h.is;
+  gives = λ n enough. let so_far = leads n enough in so_far.2 ∙ h.gives so_far.0 so_far.1;
+}
 
 converted_object : (o : Option (json.Members × List Token)) → converted of_json (parse_map json.object o) ≡ parse_map object (converted (λ ms. of_members ms no_members) o)
 converted_object None = refl

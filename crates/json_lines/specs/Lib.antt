@@ -1,6 +1,6 @@
 pub mod Lines
 pub mod MemberName
-pub mod TreeMembers
+pub mod DraftMembers
 pub mod Outline
 pub mod Tokens
 pub mod Working

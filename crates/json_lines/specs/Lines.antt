@@ -9,8 +9,10 @@ use Rattle.tree_model.specs.Key.{is_key}
 use Rattle.tree_model.specs.Path.{Path}
 use Rattle.tree_model.specs.PathMap.{depth}
 use Rattle.tree_model.specs.Tree.{Tree}
+use Rattle.tree_model.specs.Draft.{Draft}
 use Rattle.tree_model.specs.Write.{Write}
 use Rattle.json_tree.specs.Json.{is_lawful, of_json}
+use Rattle.json_tree.specs.Draft.{is_lawful_draft, draft_of_json}
 use Rattle.path_capture.specs.Path.{segments}
 use Rattle.json_lines.specs.declared.limits.TheConstants.{MAX_MESSAGE_BYTES}
 use Rattle.json_lines.specs.declared.fault.MessageFault.{MessageFault}
@@ -47,9 +49,13 @@ path_of text = if list_all is_key (segments text) then (if nat_le (length (segme
 abbrev pub tree_of_value : Data → Result Tree MessageFault
 tree_of_value d = if is_lawful d then (if nat_le (depth (of_json d)) MAX_DEPTH then Ok (of_json d) else Err TooDeep) else Err BadValue
 
--- the write of a tree at a path: together they are at most 32 deep
-abbrev pub write_at : Path → Tree → Result Write MessageFault
-write_at path tree = if nat_le (length path + depth tree) MAX_DEPTH then Ok (path, tree) else Err TooDeep
+-- the draft of a value that is written: the same, where the form `{".sv":"timestamp"}` may stand in the place of a primitive. (REST reference, server values.)
+abbrev pub draft_of_value : Data → Result Draft MessageFault
+draft_of_value d = if is_lawful_draft d then (if nat_le (depth (draft_of_json d)) MAX_DEPTH then Ok (draft_of_json d) else Err TooDeep) else Err BadValue
+
+-- the write of a draft at a path: together they are at most 32 deep
+abbrev pub write_at : Path → Draft → Result Write MessageFault
+write_at path draft = if nat_le (length path + depth draft) MAX_DEPTH then Ok (path, draft) else Err TooDeep
 
 -- the path of a text below another path: both together have at most 32 keys
 abbrev pub path_below : Path → List ℕ → Result Path MessageFault
@@ -59,7 +65,7 @@ path_below path name = unless_fault (path_of name) (λ below. if nat_le (length 
 abbrev pub write_below : Path → List ℕ → Data → Result Write MessageFault
 write_below path name d =
     unless_fault (path_below path name) (λ at.
-    unless_fault (tree_of_value d) (λ tree. write_at at tree))
+    unless_fault (draft_of_value d) (λ draft. write_at at draft))
 
 -- the writes of an update, one member after another, in the byte order of their names, in which they are read
 abbrev pub writes_below : Path → Members → Result (List Write) MessageFault

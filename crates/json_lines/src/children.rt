@@ -1,13 +1,15 @@
 //! The children of a node, as they are read.
-ghost use Rattle.std.specs.Prelude.{◌≡◌, ◌≢◌, [], false, length, IfOk, IfSome, OnSome};
+ghost use Rattle.std.specs.Prelude.{◌≡◌, ◌≢◌, ◌↔◌, [], true, IsTrue, map, length, IfOk, IfSome, OnSome};
 ghost use Rattle.std.specs.List.Sorted.{IsSearchInRange, IsBinarySearchResult};
 ghost use Rattle.serde_json.specs.Data.{object, put};
-ghost use Rattle.tree_model.specs.Key.{key_cmp};
+ghost use Rattle.tree_model.specs.Key.{key_cmp, is_key};
+ghost use Rattle.tree_model.specs.Draft.{as_draft};
 ghost use Rattle.json_tree.specs.Json.{value_of};
-ghost use Rattle.json_lines.specs.TreeMembers.{members_named};
+ghost use Rattle.json_lines.specs.DraftMembers.{members_named};
+ghost use Rattle.json_lines.specs.Working.Children.{AreRead};
 
 use crate::limits::MAX_MOVED;
-use json_tree::{Child, Key, NoMemory, Node, is_lawful_key};
+use json_tree::{Child, Draft, Key, NoMemory, Node};
 use std::alloc::Global;
 use std::marker::Model;
 use tree_model::MAX_DEPTH;
@@ -47,15 +49,16 @@ impl Children {
         })
     }
 
-    /// Puts a child among the others, by a binary search. None where the name is no lawful key or is the key
-    /// of one of them, where the tree has no room for a key above it, where more than [`MAX_MOVED`] of them
-    /// would have to move, and where memory is wanted.
+    /// Puts a child of a lawful key among the others, by a binary search. None where one of them has its key, where
+    /// the tree has no room for a key above it, where more than [`MAX_MOVED`] of them would have to move, and where
+    /// memory is wanted.
     pub fn put(&mut self, alloc: Global, name: &str, node: Node) -> Option<()>
+        requires { is_key name.now ≡ true }
         ensures { OnSome result (members_named self.new
             ≡ put name.now (value_of node) (members_named self.old)) }
     {
         node.law();
-        if node.depth() >= MAX_DEPTH || !is_lawful_key(name) {
+        if node.depth() >= MAX_DEPTH {
             return None;
         }
         match index_of(&self.held, name) {
@@ -74,7 +77,7 @@ impl Children {
 
     /// Whether there is no child.
     pub fn is_empty(&self) -> bool
-        ensures { result ≡ false → self.now ≢ [] }
+        ensures { IsTrue result ↔ (self.now ≡ []) }
     {
         self.held.is_empty()
     }
@@ -87,6 +90,26 @@ impl Children {
         let node = Node::of_children(self.held)?;
         Ok(node)
     }
+
+    /// They as drafts, with room for one more. None where memory is wanted.
+    pub fn into_drafts(self, alloc: Global) -> Option<Vec<(Key, Draft)>>
+        ensures drafts { IfSome result (λ drafts. drafts.items ≡ map (λ child. (child.0, as_draft child.1)) self) }
+        ensures read { IfSome result (λ drafts. AreRead drafts.items) }
+    {
+        let drafts = drafts_of(alloc, self.held)?;
+        Some(drafts)
+    }
+}
+
+fn drafts_of(alloc: Global, held: Vec<Child>) -> Option<Vec<(Key, Draft)>>
+    ensures { IfSome result (λ drafts. drafts.items ≡ map (λ child. (child.0, as_draft child.1)) held.items) }
+{
+    let mut drafts = Vec::with_capacity(alloc, held.len() + 1).ok()?;
+    for child in held {
+        let (key, node) = child.into_parts();
+        drafts.push((key, Draft::fixed(node))).ok()?;
+    }
+    Some(drafts)
 }
 
 // Where the child of a key is, or where it would go, by a binary search.

@@ -1,5 +1,5 @@
 //! The outline of a message: its members, read in one pass. Their names and texts are borrowed from the
-//! line, and only trees take memory.
+//! line, and only drafts take memory.
 ghost use Rattle.std.specs.Prelude.{◌≡◌, ◌≤◌, Some, Ok, IfSome, IsSome, length, option_map};
 ghost use Rattle.json.specs.Reads.{token_of};
 ghost use Rattle.serde_json.specs.Data.{no_members, object};
@@ -11,11 +11,11 @@ ghost use Rattle.json_lines.specs.Outline.{said_data, part_data, message_data, p
 ghost use Rattle.json_lines.specs.declared.limits.TheConstants.{MAX_MESSAGE_BYTES};
 ghost use Rattle.json_lines.specs.declared.source.Message.{Message};
 
+use crate::draft_members::DraftMembers;
 use crate::limits::MAX_MESSAGE_BYTES;
 use crate::member_name::MemberName;
+use crate::nested::{named_from, negative_of, whole_of};
 use crate::token_reader::TokenReader;
-use crate::tree_members::TreeMembers;
-use crate::trees::{named_from, negative_of, whole_of};
 use bumpalo::Bump;
 use json::{Scratch, Token};
 use serde_json::Value;
@@ -38,8 +38,8 @@ pub(crate) enum Said<'a> {
     /// A whole number below 0.
     Negative(i64),
     Words(&'a str),
-    /// An object of trees.
-    Trees(TreeMembers<'a>),
+    /// An object of drafts.
+    Drafts(DraftMembers<'a>),
 }
 
 /// What a member of a message is, borrowed.
@@ -52,8 +52,8 @@ pub enum MemberValue<'a> {
     /// A whole number below 0.
     Negative(i64),
     Words(&'a str),
-    /// An object of trees.
-    Trees(&'a TreeMembers<'a>),
+    /// An object of drafts.
+    Drafts(&'a DraftMembers<'a>),
     /// Any value.
     Held(&'a Value),
 }
@@ -68,7 +68,7 @@ impl Said<'_> {
             Said::Whole(whole) => MemberValue::Whole(*whole),
             Said::Negative(negative) => MemberValue::Negative(*negative),
             Said::Words(text) => MemberValue::Words(text),
-            Said::Trees(named) => MemberValue::Trees(named),
+            Said::Drafts(named) => MemberValue::Drafts(named),
         }
     }
 }
@@ -160,7 +160,7 @@ fn said_from<'a>(alloc: Global, reader: &mut TokenReader<'a>, token: Token<'a>) 
         Token::Null => Some(Said::Null),
         Token::BeginObject => {
             let named = named_from(alloc, reader, MAX_MEMBER_LEVELS - 1)?;
-            Some(Said::Trees(named))
+            Some(Said::Drafts(named))
         }
         _ => None,
     }

@@ -28,7 +28,7 @@ pub(crate) fn past_blanks(text: &str) -> &str
     }
 }
 
-// The same where a blank may come.
+// The same where a blank may come. It stays a function of its own, since no blank stands in most messages.
 #[inline(never)]
 fn behind_blanks(text: &str) -> &str
     ensures { lex between result.now ≡ lex between text.now }

@@ -5,17 +5,17 @@
 ghost use Rattle.std.specs.Prelude.{◌≡◌, option_map, option_and_then, unwrap_or};
 ghost use Rattle.serde_json.specs.Data.{null, no_members};
 ghost use Rattle.serde_json.specs.Find.{get, as_str, as_number, as_u64, as_object};
-ghost use Rattle.path_capture.specs.Write.{tree_or_null};
-ghost use Rattle.json_lines.specs.Lines.{Tells, tree_of_value, writes_below};
+ghost use Rattle.path_capture.specs.Write.{draft_or_null};
+ghost use Rattle.json_lines.specs.Lines.{Tells, draft_of_value, writes_below};
 ghost use Rattle.json_lines.specs.MemberName.{name_text};
 ghost use Rattle.json_lines.specs.Outline.{part_data, object_data, source_data, message_data};
 
+use crate::draft_members::DraftMembers;
 use crate::fault::MessageFault;
 use crate::member_name::MemberName;
 use crate::outline::{Member, MemberValue, Outline, Said, part_at};
-use crate::tree_members::TreeMembers;
-use crate::writes::{tree_of, tree_of_value, writes_below};
-use json_tree::Node;
+use crate::writes::{draft_of, draft_of_value, writes_below};
+use json_tree::Draft;
 use path_capture::{Path, Write};
 use serde_json::Value;
 use std::alloc::Global;
@@ -38,19 +38,19 @@ impl<'a> Message<'a> {
         }
     }
 
-    /// The tree of a member, which is taken out of an outline; null where none has the name.
-    pub fn take_tree(
+    /// The draft of a member, which is taken out of an outline; null where none has the name.
+    pub fn take_draft(
         &mut self,
         alloc: Global,
         name: MemberName,
-    ) -> Result<Option<Node>, MessageFault>
-        ensures { Tells tree_or_null result (tree_of_value (unwrap_or (get (name_text name) (message_data self.old)) null)) }
+    ) -> Result<Option<Draft>, MessageFault>
+        ensures { Tells draft_or_null result (draft_of_value (unwrap_or (get (name_text name) (message_data self.old)) null)) }
     {
         match self {
-            Message::Outlined(outline) => tree_of(alloc, outline.take(name).unwrap_or_default()),
+            Message::Outlined(outline) => draft_of(alloc, outline.take(name).unwrap_or_default()),
             Message::Held(value) => match value.get(name.text()) {
-                Some(member) => tree_of_value(alloc, member),
-                None => tree_of_value(alloc, &Value::Null),
+                Some(member) => draft_of_value(alloc, member),
+                None => draft_of_value(alloc, &Value::Null),
             },
         }
     }
@@ -68,7 +68,7 @@ impl<'a> Message<'a> {
     {
         match self {
             Message::Outlined(outline) => match outline.take(name) {
-                Some(Said::Trees(named)) => named.into_writes(alloc, path),
+                Some(Said::Drafts(named)) => named.into_writes(alloc, path),
                 _ => Ok(Vec::new(alloc)),
             },
             Message::Held(value) => match value.get(name.text()).and_then(Value::as_object) {
@@ -89,7 +89,7 @@ pub enum Source<'a> {
 /// An object, borrowed.
 #[derive(Clone, Copy)]
 pub enum Object<'a> {
-    Trees(&'a TreeMembers<'a>),
+    Drafts(&'a DraftMembers<'a>),
     Held(&'a Value),
 }
 
@@ -124,7 +124,7 @@ impl<'a> MemberValue<'a> {
             | MemberValue::Truth(_)
             | MemberValue::Whole(_)
             | MemberValue::Negative(_)
-            | MemberValue::Trees(_) => None,
+            | MemberValue::Drafts(_) => None,
         }
     }
 
@@ -139,7 +139,7 @@ impl<'a> MemberValue<'a> {
             MemberValue::Null
             | MemberValue::Truth(_)
             | MemberValue::Words(_)
-            | MemberValue::Trees(_) => None,
+            | MemberValue::Drafts(_) => None,
         }
     }
 
@@ -148,7 +148,7 @@ impl<'a> MemberValue<'a> {
         ensures { option_map object_data result ≡ option_map (λ members. part_data self.entry) (as_object (part_data self.entry)) }
     {
         match self {
-            MemberValue::Trees(named) => Some(Object::Trees(named)),
+            MemberValue::Drafts(named) => Some(Object::Drafts(named)),
             MemberValue::Held(value) => if value.is_object() {
                 Some(Object::Held(value))
             } else {

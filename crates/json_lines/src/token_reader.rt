@@ -94,7 +94,8 @@ impl<'a> TokenReader<'a> {
         }
     }
 
-    // The same from the kit's reader.
+    // The same from the kit's reader. It stays a function of its own, as the next two do, since in most messages each
+    // token is plain, and room for the reader's way would be made and cleared at each.
     #[inline(never)]
     fn key_of_reader(&mut self) -> Option<Option<&'a str>>
         ensures { IfSome result (λ key. read_key self.old ≡ Some (option_map (λ text. text.now) key, self.new)) }

@@ -1,17 +1,18 @@
-//! Writes: what paths and trees the members of a message are.
+//! Writes: what paths and drafts the members of a message are.
 ghost use Rattle.std.specs.Prelude.{◌≡◌, ◌++◌, ◌∷◌, [], IfOk, OnOk};
 ghost use Rattle.serde_json.specs.Data.{number, unsigned, string};
 ghost use Rattle.serde_json.specs.View.{view, members_view};
-ghost use Rattle.path_capture.specs.Write.{tree_or_null};
-ghost use Rattle.json_lines.specs.Lines.{Tells, path_of, path_below, tree_of_value, write_at, write_below, writes_below};
+ghost use Rattle.tree_model.specs.Draft.{as_draft};
+ghost use Rattle.path_capture.specs.Write.{tree_or_null, draft_or_null};
+ghost use Rattle.json_lines.specs.Lines.{Tells, path_of, path_below, tree_of_value, draft_of_value, write_at, write_below, writes_below};
 ghost use Rattle.json_lines.specs.Working.Faults.{fault_of_path, fault_of_value};
 ghost use Rattle.json_lines.specs.Outline.{said_data};
 
+use crate::draft_members::is_read_back;
 use crate::fault::MessageFault;
+use crate::nested::node_of_whole;
 use crate::outline::Said;
-use crate::tree_members::is_read_back;
-use crate::trees::node_of_whole;
-use json_tree::{Leaf, NoMemory, Node, ValueFault, from_json, from_value};
+use json_tree::{Draft, Leaf, NoMemory, Node, ValueFault, draft_from_json, from_json, from_value};
 use path_capture::{Path, PathFault, Write};
 use serde_json::{Map, Value};
 use std::alloc::Global;
@@ -53,8 +54,8 @@ fn write_below(alloc: Global, path: &Path, name: &str, value: &Value) -> Result<
     ensures { Tells (λ write. write) result (write_below path.now name.now (view value.now)) }
 {
     let at = path_below(alloc, path, name)?;
-    let tree = tree_of_value(alloc, value)?;
-    write_at(at, tree)
+    let draft = draft_of_value(alloc, value)?;
+    write_at(at, draft)
 }
 
 /// The path that a name leads to, below a path.
@@ -87,55 +88,78 @@ fn fault_of_path(fault: PathFault) -> MessageFault
     }
 }
 
-/// The tree of a member of an outline.
-pub(crate) fn tree_of(alloc: Global, said: Said<'_>) -> Result<Option<Node>, MessageFault>
-    ensures { Tells tree_or_null result (tree_of_value (said_data said.entry)) }
+/// The draft of a member of an outline.
+pub(crate) fn draft_of(alloc: Global, said: Said<'_>) -> Result<Option<Draft>, MessageFault>
+    ensures { Tells draft_or_null result (draft_of_value (said_data said.entry)) }
 {
     match said {
-        Said::Null => tree_of_value(alloc, &Value::Null),
-        Said::Truth(truth) => tree_of_value(alloc, &Value::Bool(truth)),
-        Said::Whole(whole) => tree_of_whole(alloc, whole),
-        Said::Negative(negative) => tree_of_value(alloc, &Value::from(negative)),
-        Said::Words(text) => tree_of_text(alloc, text),
-        Said::Trees(named) => named.into_tree(alloc),
+        Said::Null => draft_of_value(alloc, &Value::Null),
+        Said::Truth(truth) => draft_of_value(alloc, &Value::Bool(truth)),
+        Said::Whole(whole) => draft_of_whole(alloc, whole),
+        Said::Negative(negative) => draft_of_value(alloc, &Value::from(negative)),
+        Said::Words(text) => draft_of_text(alloc, text),
+        Said::Drafts(named) => named.into_draft(alloc),
     }
 }
 
-fn tree_of_whole(alloc: Global, whole: u64) -> Result<Option<Node>, MessageFault>
-    ensures { Tells tree_or_null result (tree_of_value (number (unsigned whole))) }
+fn draft_of_whole(alloc: Global, whole: u64) -> Result<Option<Draft>, MessageFault>
+    ensures { Tells draft_or_null result (draft_of_value (number (unsigned whole))) }
 {
     match node_of_whole(whole) {
         Some(node) => {
-            let tree = Some(node);
-            is_read_back(&tree);
-            Ok(tree)
+            let draft = Some(Draft::fixed(node));
+            is_read_back(&draft);
+            Ok(draft)
         }
-        None => tree_of_value(alloc, &Value::from(whole)),
+        None => draft_of_value(alloc, &Value::from(whole)),
     }
 }
 
-fn tree_of_text(alloc: Global, text: &str) -> Result<Option<Node>, MessageFault>
-    ensures { Tells tree_or_null result (tree_of_value (string text.now)) }
+fn draft_of_text(alloc: Global, text: &str) -> Result<Option<Draft>, MessageFault>
+    ensures { Tells draft_or_null result (draft_of_value (string text.now)) }
 {
     if text.len() > MAX_TEXT_BYTES {
         return Err(MessageFault::BadValue);
     }
     let leaf = Leaf::words(alloc, text)?;
     let node = Node::of_leaf(leaf)?;
-    Ok(Some(node))
+    Ok(Some(Draft::fixed(node)))
 }
 
-/// The tree of a value.
-pub(crate) fn tree_of_value(alloc: Global, value: &Value) -> Result<Option<Node>, MessageFault>
-    ensures { Tells tree_or_null result (tree_of_value (view value.now)) }
+/// The draft of a value. A value that is a tree is read as one, since a draft is built by way of a list more; only
+/// one that is none is looked through for the form of the moment.
+pub(crate) fn draft_of_value(alloc: Global, value: &Value) -> Result<Option<Draft>, MessageFault>
+    ensures { Tells draft_or_null result (draft_of_value (view value.now)) }
 {
     match from_json(alloc, value) {
-        Ok(tree) => Ok(tree),
+        Ok(tree) => Ok(fixed(tree)),
+        Err(ValueFault::BadValue) => draft_with_moments(alloc, value),
+        Err(ValueFault::TooDeep) => Err(MessageFault::TooDeep),
+        Err(ValueFault::NoMemory) => Err(MessageFault::NoMemory),
+    }
+}
+
+// The draft that is this tree at each moment.
+fn fixed(tree: Option<Node>) -> Option<Draft>
+    ensures { draft_or_null result ≡ as_draft (tree_or_null tree) }
+{
+    match tree {
+        Some(node) => Some(Draft::fixed(node)),
+        None => None,
+    }
+}
+
+// The draft of a value in which the form may stand.
+fn draft_with_moments(alloc: Global, value: &Value) -> Result<Option<Draft>, MessageFault>
+    ensures { Tells draft_or_null result (draft_of_value (view value.now)) }
+{
+    match draft_from_json(alloc, value) {
+        Ok(draft) => Ok(draft),
         Err(fault) => Err(fault_of_value(fault)),
     }
 }
 
-/// The same of a value that is given away.
+/// The tree of a value that is given away.
 pub fn tree_of_given(alloc: Global, value: Value) -> Result<Option<Node>, MessageFault>
     ensures { Tells tree_or_null result (tree_of_value (view value)) }
 {
@@ -155,13 +179,13 @@ fn fault_of_value(fault: ValueFault) -> MessageFault
     }
 }
 
-/// The write of a tree at a path, None for null; both together may be too deep. It is made one with the functions
-/// that call it: a write that is handed back lies in memory, and is copied from there.
+/// The write of a draft at a path, None for null; both together may be too deep. It is inlined into
+/// its callers: a write that is handed back lies in memory, and is copied from there.
 #[inline(always)]
-pub fn write_at(path: Path, tree: Option<Node>) -> Result<Write, MessageFault>
-    ensures { Tells (λ write. write) result (write_at path (tree_or_null tree)) }
+pub fn write_at(path: Path, draft: Option<Draft>) -> Result<Write, MessageFault>
+    ensures { Tells (λ write. write) result (write_at path (draft_or_null draft)) }
 {
-    match Write::new(path, tree) {
+    match Write::new(path, draft) {
         Ok(write) => Ok(write),
         Err(_) => Err(MessageFault::TooDeep),
     }

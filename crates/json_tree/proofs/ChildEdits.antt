@@ -13,7 +13,7 @@ use Rattle.tree_model.specs.Path.{Path}
 use Rattle.tree_model.specs.PathMap.{depth}
 use Rattle.tree_model.specs.Tree.{Tree, null, IsLawful}
 use Rattle.tree_model.specs.Children.{graft, IsLawfulChild}
-use Rattle.tree_model.specs.Write.{proposed}
+use Rattle.tree_model.specs.Put.{merged}
 use Rattle.tree_model.proofs.Orders.{exact_keys}
 use Rattle.tree_model.proofs.Grafts.{child_of}
 use Rattle.json_tree.specs.Node.{AreLawfulChildren}
@@ -21,7 +21,7 @@ use Rattle.json_tree.proofs.Lists.{all_from_recursion}
 use Rattle.json_tree.proofs.Nodes.{room_of}
 use Rattle.json_tree.proofs.Places.{find_at, searched}
 use Rattle.json_tree.proofs.Edits.{set_value, sorted-set, find-set_other, find-set_same, IsGap, gap_at, sorted-insert, find-insert_other, find-insert_same, sorted-remove, find-remove_other, find-remove_same, all-set, all-insert, all-remove, not_empty, alone}
-use Rattle.json_tree.proofs.Proposing.{proposed-graft, removed-null, empty_graft}
+use Rattle.json_tree.proofs.Proposing.{merged-graft, removed-null, empty_graft}
 
 -- ---- the child of a key
 
@@ -33,25 +33,25 @@ pub record StandsAt (cs : List (Key × Tree)) (i : ℕ) (d : Key × Tree) (name 
   pub tied : key_cmp (get_or cs i d).0 name ≡ Equal
 
 module _ {cs : List (Key × Tree)} {i : ℕ} {d : Key × Tree} {name : Key} (h : StandsAt cs i d name) where
-  key_is : (get_or cs i d).0 ≡ name
+  pub key_is : (get_or cs i d).0 ≡ name
   key_is = exact_keys (get_or cs i d).0 name h.tied
 
   pub child_is : child_of name cs ≡ d.1
   child_is = ap (λ o. unwrap_or o null) (find_at name cs i d h.children.0.ascending h.within h.tied) ∙ ap (λ (c : Key × Tree). c.1) (sym h.at)
 
-  another : (l : Key) → bytes_eq l name ≡ false → bytes_eq l (get_or cs i d).0 ≡ false
+  pub another : (l : Key) → bytes_eq l name ≡ false → bytes_eq l (get_or cs i d).0 ≡ false
   another l other = ap (bytes_eq l) key_is ∙ other
 
   pub depth_there : depth d.1 < MAX_DEPTH
   depth_there = subst (λ (c : Key × Tree). depth c.1 < MAX_DEPTH) (sym h.at) (room_of cs h.children i d h.within)
 
-  set_is : (t : Tree) → set_value d t cs i ≡ set cs i (d.0, t)
+  pub set_is : (t : Tree) → set_value d t cs i ≡ set cs i (d.0, t)
   set_is t = ap (λ (c : Key × Tree). set cs i (c.0, t)) (sym h.at)
 
   key_there : is_key d.0 ≡ true
   key_there = ap (λ (c : Key × Tree). is_key c.0) h.at ∙ (all_from_recursion IsLawfulChild cs h.children.1 i d h.within).key
 
-  set_ascends : (t : Tree) → is_sorted key_cmp (set cs i (d.0, t)) ≡ true
+  pub set_ascends : (t : Tree) → is_sorted key_cmp (set cs i (d.0, t)) ≡ true
   set_ascends t = subst (λ ds. is_sorted key_cmp ds ≡ true) (set_is t) (sorted-set d t cs i ∙ h.children.0.ascending)
 
   pub children-set : (t : Tree) → t ≢ null → IsLawful t → depth t < MAX_DEPTH → AreLawfulChildren (set cs i (d.0, t))
@@ -66,11 +66,11 @@ module _ {cs : List (Key × Tree)} {i : ℕ} {d : Key × Tree} {name : Key} (h :
         all-set IsLawfulChild cs i (d.0, t) h.children.1 (record { key = key_there; tree = lawful; depth = room }),
       )
 
-  pub graft-set : (p : Path) (t u : Tree) → t ≡ proposed d.1 ((p, u) ∷ []) → graft (set cs i (d.0, t)) ≡ proposed (graft cs) ((name ∷ p, u) ∷ [])
+  pub graft-set : (p : Path) (t u : Tree) → t ≡ merged d.1 ((p, u) ∷ []) → graft (set cs i (d.0, t)) ≡ merged (graft cs) ((name ∷ p, u) ∷ [])
   graft-set p t u is =
       let found : find key_cmp name (set cs i (d.0, t)) ≡ Some t = ap (find key_cmp name) (sym (set_is t)) ∙ find-set_same d t name cs i h.children.0.ascending h.within key_is in
-      proposed-graft cs (set cs i (d.0, t)) name p u h.children.0.ascending (set_ascends t)
-      (ap (λ o. unwrap_or o null) found ∙ is ∙ ap (λ v. proposed v ((p, u) ∷ [])) (sym child_is))
+      merged-graft cs (set cs i (d.0, t)) name p u h.children.0.ascending (set_ascends t)
+      (ap (λ o. unwrap_or o null) found ∙ is ∙ ap (λ v. merged v ((p, u) ∷ [])) (sym child_is))
       (λ l other. ap (find key_cmp l) (sym (set_is t)) ∙ find-set_other d t l cs i (another l other))
 
   -- a child that is set to what it was
@@ -88,14 +88,14 @@ module _ {cs : List (Key × Tree)} {i : ℕ} {d : Key × Tree} {name : Key} (h :
         all-remove IsLawfulChild cs i h.children.1,
       )
 
-  pub graft-remove : (p : Path) → proposed d.1 ((p, null) ∷ []) ≡ null → graft (remove cs i) ≡ proposed (graft cs) ((name ∷ p, null) ∷ [])
+  pub graft-remove : (p : Path) → merged d.1 ((p, null) ∷ []) ≡ null → graft (remove cs i) ≡ merged (graft cs) ((name ∷ p, null) ∷ [])
   graft-remove p gone =
-      proposed-graft cs (remove cs i) name p null h.children.0.ascending (sorted-remove cs i h.children.0.ascending)
-      (ap (λ o. unwrap_or o null) (find-remove_same name cs i d h.children.0.ascending h.within key_is) ∙ sym gone ∙ ap (λ v. proposed v ((p, null) ∷ [])) (sym child_is))
+      merged-graft cs (remove cs i) name p null h.children.0.ascending (sorted-remove cs i h.children.0.ascending)
+      (ap (λ o. unwrap_or o null) (find-remove_same name cs i d h.children.0.ascending h.within key_is) ∙ sym gone ∙ ap (λ v. merged v ((p, null) ∷ [])) (sym child_is))
       (λ l other. find-remove_other l cs i d (another l other))
 
   -- the last child vanishes, and its parent with it
-  pub last_vanishes : (p : Path) → length cs ≡ 1 → proposed d.1 ((p, null) ∷ []) ≡ null → proposed (graft cs) ((name ∷ p, null) ∷ []) ≡ null
+  pub last_vanishes : (p : Path) → length cs ≡ 1 → merged d.1 ((p, null) ∷ []) ≡ null → merged (graft cs) ((name ∷ p, null) ∷ []) ≡ null
   last_vanishes p one gone = sym (graft-remove p gone) ∙ ap graft (alone cs i one h.within) ∙ empty_graft
 
 -- ---- a key that no child has
@@ -121,12 +121,12 @@ module _ {cs : List (Key × Tree)} {i : ℕ} {name : Key} (h : IsMissing cs i na
         all-insert IsLawfulChild cs i (name, t) h.children.1 (record { key = key; tree = lawful; depth = room }),
       )
 
-  pub graft-insert : (p : Path) (t u : Tree) → t ≡ proposed null ((p, u) ∷ []) → graft (insert cs i (name, t)) ≡ proposed (graft cs) ((name ∷ p, u) ∷ [])
+  pub graft-insert : (p : Path) (t u : Tree) → t ≡ merged null ((p, u) ∷ []) → graft (insert cs i (name, t)) ≡ merged (graft cs) ((name ∷ p, u) ∷ [])
   graft-insert p t u is =
-      proposed-graft cs (insert cs i (name, t)) name p u h.children.0.ascending (sorted-insert name t cs i h.children.0.ascending h.gap)
-      (ap (λ o. unwrap_or o null) (find-insert_same name t cs i h.children.0.ascending h.gap) ∙ is ∙ ap (λ o. proposed (unwrap_or o null) ((p, u) ∷ [])) (sym h.none))
+      merged-graft cs (insert cs i (name, t)) name p u h.children.0.ascending (sorted-insert name t cs i h.children.0.ascending h.gap)
+      (ap (λ o. unwrap_or o null) (find-insert_same name t cs i h.children.0.ascending h.gap) ∙ is ∙ ap (λ o. merged (unwrap_or o null) ((p, u) ∷ [])) (sym h.none))
       (λ l other. find-insert_other name t l cs i other)
 
   -- there is nothing to remove
-  pub nothing_there : (p : Path) → graft cs ≡ proposed (graft cs) ((name ∷ p, null) ∷ [])
-  nothing_there p = proposed-graft cs cs name p null h.children.0.ascending h.children.0.ascending (ap (λ o. unwrap_or o null) h.none ∙ sym (removed-null p) ∙ ap (λ o. proposed (unwrap_or o null) ((p, null) ∷ [])) (sym h.none)) (λ l other. refl)
+  pub nothing_there : (p : Path) → graft cs ≡ merged (graft cs) ((name ∷ p, null) ∷ [])
+  nothing_there p = merged-graft cs cs name p null h.children.0.ascending h.children.0.ascending (ap (λ o. unwrap_or o null) h.none ∙ sym (removed-null p) ∙ ap (λ o. merged (unwrap_or o null) ((p, null) ∷ [])) (sym h.none)) (λ l other. refl)

@@ -19,3 +19,9 @@ pub mod ChildEdits
 pub mod Undoing
 pub mod Fronts
 pub mod Searching
+pub mod Marks
+pub mod Stamping
+pub mod Grafting
+pub mod Drafting
+pub mod Forms
+pub mod DraftWritten

@@ -12,7 +12,7 @@ use Rattle.tree_model.specs.Primitive.{Primitive}
 use Rattle.tree_model.specs.PathMap.{get, is_null, sub, exists, depth}
 use Rattle.tree_model.specs.Tree.{Tree, null, non_null, lone, IsLawful}
 use Rattle.tree_model.specs.Children.{graft}
-use Rattle.tree_model.specs.Write.{is_covered, proposed}
+use Rattle.tree_model.specs.Put.{is_covered, merged}
 use Rattle.tree_model.proofs.Choices.{not_true, none_is_not_some, or_else, or_else-None}
 use Rattle.tree_model.proofs.Orders.{same_key}
 use Rattle.tree_model.proofs.Paths.{strip_is, prefix-append}
@@ -20,8 +20,8 @@ use Rattle.tree_model.proofs.Lookups.{same_tree, get-null, get-sub, sub-sub, sub
 use Rattle.tree_model.proofs.Existence.{is_null-null, non_null-null, non_null-some, some_path, exists_above, found_at_or_below, exists-sub, depth_le}
 use Rattle.tree_model.proofs.Grafts.{child_of, get-graft-root, sub-graft, IsTree-lone, get-lone-root}
 use Rattle.tree_model.proofs.Lawful.{path_length}
-use Rattle.tree_model.proofs.Writes.{get-proposed, above_or_below, sub-proposed_written}
-use Rattle.tree_model.proofs.Proposals.{prefix_from_proper, prefix_trans, none_below}
+use Rattle.tree_model.proofs.Placing.{get-merged, above_or_below, sub-merged_written}
+use Rattle.tree_model.proofs.Merging.{prefix_from_proper, prefix_trans, none_below}
 use Rattle.json_tree.specs.Node.{AreLawfulChildren}
 use Rattle.json_tree.specs.Undo.{Undoes}
 use Rattle.json_tree.specs.Working.Changed.{changed_at}
@@ -96,27 +96,27 @@ module _ (t : Tree) (p q r : Path) (u : Tree) (is : p ≡ q ++ r) (clear : (x : 
   ] refl
 
   -- apart from q nothing has changed
-  same_apart : (x : Path) → strip_prefix q x ≡ None → get (proposed t ((p, u) ∷ [])) x ≡ get t x
+  same_apart : (x : Path) → strip_prefix q x ≡ None → get (merged t ((p, u) ∷ [])) x ≡ get t x
   same_apart x e =
       let none = not_reached x e in
-      get-proposed t ((p, u) ∷ []) x
+      get-merged t ((p, u) ∷ []) x
       ∙ (λ i. or_else (cond (not (is_some (none i) || false) && not (is_covered x (p, u) || false)) (get t x) None) (or_else (option_and_then (get u) (none i)) None))
       ∙ kept (is_covered x (p, u)) (get t x) (λ c. clear x (above_or_below x q p (prefix_from_proper x p (first_so _ _ c)) above (ap is_some e)))
 
-  pub put_back : proposed (proposed t ((p, u) ∷ [])) ((q, sub t q) ∷ []) ≡ t
+  pub put_back : merged (merged t ((p, u) ∷ [])) ((q, sub t q) ∷ []) ≡ t
   put_back = same_tree _ _ (λ x.
-      get-proposed (proposed t ((p, u) ∷ [])) ((q, sub t q) ∷ []) x
-      ∙ elim (strip_prefix q x) as (λ o. strip_prefix q x ≡ o → or_else (cond (not (is_some o || false) && not (is_covered x (q, sub t q) || false)) (get (proposed t ((p, u) ∷ [])) x) None) (or_else (option_and_then (get (sub t q)) o) None) ≡ get t x) [
-        | None ↦ λ e. kept (is_covered x (q, sub t q)) (get (proposed t ((p, u) ∷ [])) x) (λ c. same_apart x e ∙ clear x (first_so _ _ c)) ∙ same_apart x e
+      get-merged (merged t ((p, u) ∷ [])) ((q, sub t q) ∷ []) x
+      ∙ elim (strip_prefix q x) as (λ o. strip_prefix q x ≡ o → or_else (cond (not (is_some o || false) && not (is_covered x (q, sub t q) || false)) (get (merged t ((p, u) ∷ [])) x) None) (or_else (option_and_then (get (sub t q)) o) None) ≡ get t x) [
+        | None ↦ λ e. kept (is_covered x (q, sub t q)) (get (merged t ((p, u) ∷ [])) x) (λ c. same_apart x e ∙ clear x (first_so _ _ c)) ∙ same_apart x e
         | (Some y) ↦ λ e. or_else-None (get (sub t q) y) ∙ get-sub t q y ∙ ap (get t) (sym (strip_is q x y e))
       ] refl)
 
   -- something is there now
-  pub put_there : u ≢ null → exists (proposed t ((p, u) ∷ [])) q ≡ true
+  pub put_there : u ≢ null → exists (merged t ((p, u) ∷ [])) q ≡ true
   put_there some =
       let found = some_path u some in
-      let new = proposed t ((p, u) ∷ []) in
-      let there : get new (p ++ found.0) ≡ get u found.0 = sym (get-sub new p found.0) ∙ ap (λ v. get v found.0) (sub-proposed_written t ((p, u) ∷ []) (p, u) refl (inl refl)) in
+      let new = merged t ((p, u) ∷ []) in
+      let there : get new (p ++ found.0) ≡ get u found.0 = sym (get-sub new p found.0) ∙ ap (λ v. get v found.0) (sub-merged_written t ((p, u) ∷ []) (p, u) refl (inl refl)) in
       let below : exists new p ≡ true = exists_above new p found.0 (ap is_some there ∙ found.1) in
       let at = found_at_or_below new p below in
       exists_above_prefix new at.0 at.1
@@ -207,13 +207,13 @@ module _ {cs : List (Key × Tree)} {i : ℕ} {name : Key} (h : IsMissing cs i na
 pub take-changed : (t : Tree) (p : Path) → take (length (changed_at t p)) p ≡ changed_at t p
 take-changed t p = let above = changed-above t p in ap (take (length (changed_at t p))) above.1 ∙ take-append_seam (changed_at t p) above.0
 
-pub undoes : (t new : Tree) (p : Path) (u : Tree) → u ≢ null → new ≡ proposed t ((p, u) ∷ []) → Undoes (changed_at t p, sub t (changed_at t p)) new t
+pub undoes : (t new : Tree) (p : Path) (u : Tree) → u ≢ null → new ≡ merged t ((p, u) ∷ []) → Undoes (changed_at t p, sub t (changed_at t p)) new t
 undoes t new p u some is =
     let above = changed-above t p in
     let q = changed_at t p in
     record {
       there = ap (λ v. exists v q) is ∙ put_there t p q above.0 u above.1 (λ x h. changed-clear t p x h) some;
-      back = ap (λ v. proposed v ((q, sub t q) ∷ [])) is ∙ put_back t p q above.0 u above.1 (λ x h. changed-clear t p x h);
+      back = ap (λ v. merged v ((q, sub t q) ∷ [])) is ∙ put_back t p q above.0 u above.1 (λ x h. changed-clear t p x h);
     }
 
 pub undo_room : (t : Tree) (p : Path) → IsLawful t → length p ≤ MAX_DEPTH → length (changed_at t p) + depth (sub t (changed_at t p)) ≤ MAX_DEPTH

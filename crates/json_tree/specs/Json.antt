@@ -1,5 +1,5 @@
 -- The tree that a JSON value describes, and the value that a tree is written as.
-use Rattle.std.specs.Prelude.{ℕ, zero, suc, ◌&&◌, List, [], ◌∷◌, ◌++◌, map, Bool, true, ℤ, if◌then◌else◌, Option, Some, None, is_some, option_and_then, decimal}
+use Rattle.std.specs.Prelude.{ℕ, zero, suc, ◌&&◌, List, [], ◌∷◌, ◌++◌, map, Bool, true, ℤ, if◌then◌else◌, Option, Some, None, is_some, option_map, option_and_then, decimal}
 use Rattle.std.specs.Option.{option_map_or}
 use Rattle.std.specs.FinMap as map_of
 use Rattle.serde_json.specs.Data.{Num, Data, null, boolean, number, string, array, object, Items, no_items, item, Members, no_members, member}
@@ -7,7 +7,7 @@ use Rattle.serde_json.specs.Find.{as_i64, of_integer}
 use Rattle.tree_model.specs.Key.{Key, is_key}
 use Rattle.tree_model.specs.Path.{Path}
 use Rattle.tree_model.specs.Primitive.{Primitive, truth, whole, words, is_whole, is_text}
-use Rattle.tree_model.specs.PathMap.{get, depth, under}
+use Rattle.tree_model.specs.PathMap.{PathMap, get, depth, under}
 use Rattle.tree_model.specs.Tree.{Tree, children}
 
 -- ---- what a value describes
@@ -34,28 +34,37 @@ abbrev mutual
   are_lawful_members no_members = true
   are_lawful_members (member k d ms) = is_key k && is_lawful d && are_lawful_members ms
 
--- the primitives with their paths: an array has the keys 0, 1, 2 and so on, and null has none. (Guide "Structure Your Database", how data is structured; arrays: this project's profile.)
+-- the primitive that a value is, if it is one
+abbrev pub primitive_in : Data → Option Primitive
+primitive_in (boolean b) = Some (truth b)
+primitive_in (number n) = option_map whole (whole_of n)
+primitive_in (string s) = Some (words s)
+primitive_in d = None
+
+-- the leaves of a value with their paths, where f says which values are leaves: an array has the keys 0, 1, 2 and so on, and null has none. (Guide "Structure Your Database", how data is structured; arrays: this project's profile.)
 abbrev mutual
-  pub pairs_of : Data → List (Path × Primitive)
-  pairs_of null = []
-  pairs_of (boolean b) = ([], truth b) ∷ []
-  pairs_of (number n) = option_map_or (λ z. ([], whole z) ∷ []) (whole_of n) []
-  pairs_of (string s) = ([], words s) ∷ []
-  pairs_of (array ds) = pairs_of_items 0 ds
-  pairs_of (object ms) = pairs_of_members ms
+  pub leaves : {X : Type 0} → (Data → Option X) → Data → List (Path × X)
+  leaves f null = []
+  leaves f (array ds) = leaves_of_items f 0 ds
+  leaves f (object ms) = option_map_or (λ x. ([], x) ∷ []) (f (object ms)) (leaves_of_members f ms)
+  leaves f d = option_map_or (λ x. ([], x) ∷ []) (f d) []
 
   -- from the key i on
-  pub pairs_of_items : ℕ → Items → List (Path × Primitive)
-  pairs_of_items i no_items = []
-  pairs_of_items i (item d ds) = under (decimal i) (pairs_of d) ++ pairs_of_items (suc i) ds
+  pub leaves_of_items : {X : Type 0} → (Data → Option X) → ℕ → Items → List (Path × X)
+  leaves_of_items f i no_items = []
+  leaves_of_items f i (item d ds) = under (decimal i) (leaves f d) ++ leaves_of_items f (suc i) ds
 
-  pub pairs_of_members : Members → List (Path × Primitive)
-  pairs_of_members no_members = []
-  pairs_of_members (member k d ms) = under k (pairs_of d) ++ pairs_of_members ms
+  pub leaves_of_members : {X : Type 0} → (Data → Option X) → Members → List (Path × X)
+  leaves_of_members f no_members = []
+  leaves_of_members f (member k d ms) = under k (leaves f d) ++ leaves_of_members f ms
+
+-- what the leaves of a value make, each at its path
+unfoldable pub read_by : {X : Type 0} → (Data → Option X) → Data → PathMap X
+read_by f d = map_of.from_entries (leaves f d)
 
 -- the tree that a value describes
-unfoldable pub of_json : Data → Tree
-of_json d = map_of.from_entries (pairs_of d)
+abbrev pub of_json : Data → Tree
+of_json d = read_by primitive_in d
 
 -- ---- the value of a tree
 
@@ -73,11 +82,11 @@ abbrev pub object_of : List (Key × Data) → Data
 object_of [] = null
 object_of (m ∷ ms) = object (member m.0 m.1 (members_of ms))
 
--- a primitive, or an object of the children's values, down to a depth
-abbrev pub value_within : ℕ → Tree → Data
-value_within zero t = option_map_or data_of (get t []) null
-value_within (suc n) t = option_map_or data_of (get t []) (object_of (map (λ c. (c.0, value_within n c.1)) (map_of.entries (children t))))
+-- what f says of the root, or an object of the children's values, down to a depth
+abbrev pub value_by : {X : Type 0} → (X → Data) → ℕ → PathMap X → Data
+value_by f zero t = option_map_or f (get t []) null
+value_by f (suc n) t = option_map_or f (get t []) (object_of (map (λ c. (c.0, value_by f n c.1)) (map_of.entries (children t))))
 
 -- the value that a tree is written as: of objects alone. (This project's profile.)
 unfoldable pub value_of : Tree → Data
-value_of t = value_within (depth t) t
+value_of t = value_by data_of (depth t) t

@@ -2,9 +2,9 @@
 use Rattle.std.specs.Prelude.{◌≡◌, [], ◌∷◌, true}
 use Rattle.tree_model.specs.PathMap.{exists}
 use Rattle.tree_model.specs.Tree.{Tree}
-use Rattle.tree_model.specs.Write.{Write, location, proposed}
+use Rattle.tree_model.specs.Put.{Put, location, merged}
 
 -- a write to a location that exists in the new tree, by which the old one is there again
-pub record Undoes (undo : Write) (new old : Tree) : Type 0 where
+pub record Undoes (undo : Put) (new old : Tree) : Type 0 where
   pub there : exists new (location undo) ≡ true
-  pub back : proposed new (undo ∷ []) ≡ old
+  pub back : merged new (undo ∷ []) ≡ old

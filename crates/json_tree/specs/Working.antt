@@ -8,3 +8,4 @@ pub mod Changed
 pub mod Held
 pub mod Words
 pub mod Front
+pub mod Marks

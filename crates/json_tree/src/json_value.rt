@@ -8,7 +8,7 @@ ghost use Rattle.tree_model.specs.PathMap.{depth};
 ghost use Rattle.tree_model.specs.Tree.{null, lone, non_null};
 ghost use Rattle.tree_model.specs.Children.{graft};
 ghost use Rattle.json_tree.specs.Leaf.{primitive_of};
-ghost use Rattle.json_tree.specs.Json.{whole_of, is_lawful, are_lawful_items, are_lawful_members, of_json, data_of, members_of, value_of};
+ghost use Rattle.json_tree.specs.Json.{whole_of, primitive_in, is_lawful, are_lawful_items, are_lawful_members, of_json, data_of, members_of, value_of};
 ghost use Rattle.json_tree.specs.Working.Levels.{levels, levels_of_items, levels_of_members, raised};
 ghost use Rattle.json_tree.specs.Working.Members.{members_at, children_of};
 ghost use Rattle.json_tree.specs.declared.json_value.ValueFault.TheVariants.{NoMemory as no_memory};
@@ -112,7 +112,7 @@ fn check(value: &Value) -> Result<(), ValueFault>
 
 // How many levels a lawful value has, counted up to `MANY_LEVELS`; None where it is not lawful.
 #[cycle(levels)]
-fn levels(value: &Value) -> Option<usize>
+pub(crate) fn levels(value: &Value) -> Option<usize>
     ensures lawful { is_some result ≡ is_lawful (view value.now) }
     ensures count { IfSome result (λ n. n ≡ min (levels (view value.now)) MANY_LEVELS) }
 {
@@ -160,7 +160,7 @@ fn levels_of_members(members: &Map<String, Value>) -> Option<usize>
 }
 
 // The levels of a member with so many, below its key.
-fn raised(count: usize) -> usize
+pub(crate) fn raised(count: usize) -> usize
     requires { count ≤ MANY_LEVELS }
     ensures { result ≡ min (raised count) MANY_LEVELS }
 {
@@ -181,7 +181,7 @@ fn whole_of(number: &serde_json::Number) -> Option<Number>
 // ---- the second pass: the tree of a lawful value
 
 #[cycle(build)]
-fn build(alloc: Global, value: &Value) -> Result<Option<Node>, NoMemory>
+pub(crate) fn build(alloc: Global, value: &Value) -> Result<Option<Node>, NoMemory>
     requires lawful { is_lawful (view value.now) ≡ true }
     requires room { levels (view value.now) ≤ MAX_DEPTH + 1 }
     ensures { IfOk result (λ node. node ≡ non_null (of_json (view value.now))) }
@@ -206,7 +206,7 @@ fn build_items(alloc: Global, items: &Vec<Value>) -> Result<Vec<Child>, NoMemory
     requires lawful { are_lawful_items (items_view items.now.items) ≡ true }
     requires room { levels_of_items (items_view items.now.items) ≤ MAX_DEPTH + 1 }
     ensures { IfOk result
-        (λ children. children.items ≡ children_of (members_at 0 (items_view items.now.items))) }
+        (λ children. children.items ≡ children_of primitive_in (members_at 0 (items_view items.now.items))) }
 {
     let mut children = Vec::with_capacity(alloc, items.len())?;
     for (index, item) in items.iter().enumerate() {
@@ -224,7 +224,7 @@ fn build_members(alloc: Global, members: &Map<String, Value>) -> Result<Vec<Chil
     requires lawful { are_lawful_members (members_view members.now.entries) ≡ true }
     requires room { levels_of_members (members_view members.now.entries) ≤ MAX_DEPTH + 1 }
     ensures children { IfOk result
-        (λ children. children.items ≡ children_of (members_view members.now.entries)) }
+        (λ children. children.items ≡ children_of primitive_in (members_view members.now.entries)) }
     ensures ascending { IfOk result (λ children. is_sorted key_cmp children.items ≡ true) }
 {
     let mut children = Vec::with_capacity(alloc, members.len())?;
@@ -255,7 +255,7 @@ fn build_owned_members(alloc: Global, members: Map<String, Value>) -> Result<Vec
     requires lawful { are_lawful_members (members_view members.entries) ≡ true }
     requires room { levels_of_members (members_view members.entries) ≤ MAX_DEPTH + 1 }
     ensures children { IfOk result
-        (λ children. children.items ≡ children_of (members_view members.entries)) }
+        (λ children. children.items ≡ children_of primitive_in (members_view members.entries)) }
     ensures ascending { IfOk result (λ children. is_sorted key_cmp children.items ≡ true) }
 {
     let mut children = Vec::with_capacity(alloc, members.len())?;
@@ -323,7 +323,7 @@ fn write_children(alloc: Global, children: &[Child]) -> Result<Map<String, Value
     Ok(members)
 }
 
-fn write_leaf(alloc: Global, leaf: &Leaf) -> Result<Value, NoMemory>
+pub(crate) fn write_leaf(alloc: Global, leaf: &Leaf) -> Result<Value, NoMemory>
     ensures { IfOk result (λ value. view value ≡ data_of (primitive_of leaf.now)) }
 {
     match leaf {

@@ -5,6 +5,8 @@
 //! says exactly why there is none.
 #![tactic(auto)]
 
+mod draft;
+mod draft_value;
 mod front;
 mod json_laws;
 mod json_text;
@@ -18,8 +20,12 @@ mod search;
 mod share;
 mod undo;
 
+pub use draft::{Draft, DraftRef, Part, number_of};
+pub use draft_value::{draft_from_json, draft_to_json, is_form_of};
 pub use json_laws::{
+    a_lawful_value_is_its_tree, a_written_draft_is_read_back, what_a_draft_is_written_as,
     what_a_tree_is_written_as, what_a_value_describes, what_is_written_is_read_back,
+    what_the_form_describes,
 };
 pub use json_text::{write_json, write_node};
 pub use json_value::{ValueFault, from_json, from_value, to_json};

@@ -117,6 +117,13 @@ impl Child {
         &self.held.1
     }
 
+    /// Its key and its tree. It takes no memory.
+    pub fn into_parts(self) -> (Key, Node)
+        ensures { result ≡ self }
+    {
+        Box::into_inner(self.held)
+    }
+
     // Whether the front alone tells that the key stands before a text.
     pub(crate) fn is_in_front_of(&self, sought: &Sought<'_>) -> bool
         ensures { result ≡ true → key_cmp self.now.0 sought.now ≡ Less }

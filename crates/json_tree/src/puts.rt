@@ -5,7 +5,7 @@ ghost use Rattle.std.specs.Bool.{OnTrue, OnFalse};
 ghost use Rattle.tree_model.specs.PathMap.{sub, exists, depth};
 ghost use Rattle.tree_model.specs.Tree.{null, IsLawful};
 ghost use Rattle.tree_model.specs.Children.{graft};
-ghost use Rattle.tree_model.specs.Write.{proposed};
+ghost use Rattle.tree_model.specs.Put.{merged};
 ghost use Rattle.json_tree.specs.Node.{AreLawfulChildren};
 ghost use Rattle.json_tree.specs.Working.Changed.{changed_at};
 ghost use Rattle.json_tree.specs.Working.Share.{Exchanges};
@@ -33,7 +33,7 @@ pub fn put(
 ) -> Result<(), NoMemory>
     requires { length path.items + depth (unwrap_or value null) ≤ MAX_DEPTH }
     ensures ok { OnOk result (unwrap_or tree.new null
-        ≡ proposed (unwrap_or tree.old null) ((path.items, unwrap_or value null) ∷ [])) }
+        ≡ merged (unwrap_or tree.old null) ((path.items, unwrap_or value null) ∷ [])) }
     ensures err { OnErr result (tree.new ≡ tree.old) }
     ensures removal { IsNone value → IsOk result }
     ensures existing { exists (unwrap_or tree.old null) path.items ≡ true → IsOk result }
@@ -66,7 +66,7 @@ pub(crate) fn put_node(
     requires room { length path.now + depth value ≤ MAX_DEPTH }
     requires reach { reach.old + length path.now ≤ MAX_DEPTH }
     ensures ok { OnOk result (unwrap_or tree.new null
-        ≡ proposed (unwrap_or tree.old null) ((path.now, value) ∷ [])) }
+        ≡ merged (unwrap_or tree.old null) ((path.now, value) ∷ [])) }
     ensures was { IfOk result (λ was. unwrap_or was null
         ≡ sub (unwrap_or tree.old null) (changed_at (unwrap_or tree.old null) path.now)) }
     ensures reach { OnOk result (reach.new
@@ -107,7 +107,7 @@ fn insert(
 ) -> Result<bool, NoMemory>
     requires room { length path.now + depth value.old ≤ MAX_DEPTH }
     requires reach { reach.old + length path.now ≤ MAX_DEPTH }
-    ensures ok { OnOk result (node.new ≡ proposed node.old ((path.now, value.old) ∷ [])) }
+    ensures ok { OnOk result (node.new ≡ merged node.old ((path.now, value.old) ∷ [])) }
     ensures was { IfOk result (λ stood. (if stood then value.new else null)
         ≡ sub node.old (changed_at node.old path.now)) }
     ensures reach { OnOk result (reach.new ≡ reach.old + length (changed_at node.old path.now)) }
@@ -156,7 +156,7 @@ fn insert_below(
     ensures children { AreLawfulChildren children.new.items }
     ensures exchange { IfOk result (λ made. Exchanges children.old.items children.new.items made.0) }
     ensures ok { OnOk result (graft children.new.items
-        ≡ proposed (graft children.old.items) ((key.now ∷ rest.now, value.old) ∷ [])) }
+        ≡ merged (graft children.old.items) ((key.now ∷ rest.now, value.old) ∷ [])) }
     ensures was { IfOk result (λ made. (if made.1 then value.new else null)
         ≡ sub (graft children.old.items) (changed_at (graft children.old.items) (key.now ∷ rest.now))) }
     ensures reach { OnOk result (reach.new
@@ -201,7 +201,7 @@ fn taken(value: &mut Node) -> Node
 // The tree of a tree at a path: one child at each key.
 fn chain(alloc: Global, path: &[Key], value: Node) -> Result<Node, NoMemory>
     requires { length path.now + depth value ≤ MAX_DEPTH }
-    ensures { IfOk result (λ node. node ≡ proposed null ((path.now, value) ∷ [])) }
+    ensures { IfOk result (λ node. node ≡ merged null ((path.now, value) ∷ [])) }
 {
     match path {
         [key, rest @ ..] => only_child(alloc, key, chain(alloc, rest, value)?),
@@ -223,7 +223,7 @@ fn only_child(alloc: Global, key: &Key, child: Node) -> Result<Node, NoMemory>
 // ---- what is removed
 
 fn remove_from(tree: &mut Option<Node>, path: &[Key])
-    ensures { unwrap_or tree.new null ≡ proposed (unwrap_or tree.old null) ((path.now, null) ∷ []) }
+    ensures { unwrap_or tree.new null ≡ merged (unwrap_or tree.old null) ((path.now, null) ∷ []) }
 {
     match tree {
         Some(node) => {
@@ -238,9 +238,9 @@ fn remove_from(tree: &mut Option<Node>, path: &[Key])
 // Removes what is at a path of a node. True where nothing is left, and then the node is as it was.
 #[cycle(remove)]
 fn remove(node: &mut Node, path: &[Key]) -> bool
-    ensures gone { OnTrue result (proposed node.old ((path.now, null) ∷ []) ≡ null) }
+    ensures gone { OnTrue result (merged node.old ((path.now, null) ∷ []) ≡ null) }
     ensures same { OnTrue result (node.new ≡ node.old) }
-    ensures left { OnFalse result (node.new ≡ proposed node.old ((path.now, null) ∷ [])) }
+    ensures left { OnFalse result (node.new ≡ merged node.old ((path.now, null) ∷ [])) }
 {
     let [key, rest @ ..] = path else {
         return true;
@@ -270,10 +270,10 @@ fn remove_below(children: &mut Vec<Child>, key: &Key, rest: &[Key]) -> Option<Ex
     ensures children { AreLawfulChildren children.new.items }
     ensures exchange { IfSome result (λ exchange. Exchanges children.old.items children.new.items exchange) }
     ensures gone { IfNone result
-        (proposed (graft children.old.items) ((key.now ∷ rest.now, null) ∷ []) ≡ null) }
+        (merged (graft children.old.items) ((key.now ∷ rest.now, null) ∷ []) ≡ null) }
     ensures same { IfNone result (children.new.items ≡ children.old.items) }
     ensures left { OnSome result (graft children.new.items
-        ≡ proposed (graft children.old.items) ((key.now ∷ rest.now, null) ∷ [])) }
+        ≡ merged (graft children.old.items) ((key.now ∷ rest.now, null) ∷ [])) }
 {
     match index_of(children, key.text()) {
         Ok(index) => {

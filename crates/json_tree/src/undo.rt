@@ -2,7 +2,7 @@
 ghost use Rattle.std.specs.Prelude.{◌≡◌, ◌+◌, ◌≤◌, ◌∷◌, [], true, length, unwrap_or, IfOk, OnOk, OnErr};
 ghost use Rattle.tree_model.specs.PathMap.{exists, depth};
 ghost use Rattle.tree_model.specs.Tree.{null};
-ghost use Rattle.tree_model.specs.Write.{location, proposed};
+ghost use Rattle.tree_model.specs.Put.{location, merged};
 ghost use Rattle.json_tree.specs.Undo.{Undoes};
 
 use crate::key::Key;
@@ -42,7 +42,7 @@ impl Undo {
     /// has to exist, so it takes no memory; the time is that of [`put`].
     pub fn undo(self, tree: &mut Option<Node>)
         requires { exists (unwrap_or tree.old null) (location self) ≡ true }
-        ensures { unwrap_or tree.new null ≡ proposed (unwrap_or tree.old null) (self ∷ []) }
+        ensures { unwrap_or tree.new null ≡ merged (unwrap_or tree.old null) (self ∷ []) }
     {
         let Undo { path, was } = self;
         let alloc = *path.allocator();
@@ -61,7 +61,7 @@ pub fn put_with_undo(
 ) -> Result<Undo, NoMemory>
     requires { length path.items + depth value ≤ MAX_DEPTH }
     ensures ok { OnOk result (unwrap_or tree.new null
-        ≡ proposed (unwrap_or tree.old null) ((path.items, value) ∷ [])) }
+        ≡ merged (unwrap_or tree.old null) ((path.items, value) ∷ [])) }
     ensures undo { IfOk result (λ undo. Undoes undo (unwrap_or tree.new null) (unwrap_or tree.old null)) }
     ensures err { OnErr result (tree.new ≡ tree.old) }
 {

@@ -1,5 +1,5 @@
 -- A view that was laid over the stored tree is the proposed tree.
-use Rattle.std.proofs.Common.{◌≡◌, cond, List, Some, None, Option, sym, ap, ◌∙◌, refl}
+use Rattle.std.proofs.Common.{◌≡◌, ℕ, cond, List, Some, None, Option, sym, ap, ◌∙◌, refl}
 use Rattle.std.specs.Prelude.{option_map}
 use Rattle.std.specs.Borrow.{Bor}
 use Rattle.tree_model.specs.Tree.{Tree, non_null}
@@ -16,7 +16,7 @@ node_is_tree : (base : Option (Bor Tree)) → node_or_null base ≡ tree_or_null
 node_is_tree None = refl
 node_is_tree (Some node) = refl
 
-pub is_proposed : (base : Option (Bor Tree)) (old coming : Option Tree) (ws : List Write) → old ≡ option_map (λ (node : Bor Tree). node.now) base → coming ≡ non_null (proposed (node_or_null base) ws) → tree_or_null coming ≡ proposed (tree_or_null old) ws
-is_proposed base old coming ws stored laid =
-    ap tree_or_null laid ∙ tree_or_null-non_null (proposed (node_or_null base) ws)
-    ∙ ap (λ (t : Tree). proposed t ws) (node_is_tree base ∙ ap tree_or_null (sym stored))
+pub is_proposed : (base : Option (Bor Tree)) (old coming : Option Tree) (ws : List Write) (now : ℕ) → old ≡ option_map (λ (node : Bor Tree). node.now) base → coming ≡ non_null (proposed (node_or_null base) ws now) → tree_or_null coming ≡ proposed (tree_or_null old) ws now
+is_proposed base old coming ws now stored laid =
+    ap tree_or_null laid ∙ tree_or_null-non_null (proposed (node_or_null base) ws now)
+    ∙ ap (λ (t : Tree). proposed t ws now) (node_is_tree base ∙ ap tree_or_null (sym stored))

@@ -2,7 +2,7 @@
 use Rattle.std.proofs.Common.{◌≡◌, true, ◌++◌, ap, ◌∙◌, append_assoc}
 use Rattle.tree_model.specs.Path.{Path, is_prefix}
 use Rattle.tree_model.proofs.Paths.{prefix-append}
-use Rattle.tree_model.proofs.Proposals.{prefix_is}
+use Rattle.tree_model.proofs.Merging.{prefix_is}
 use Rattle.rules_reader.specs.declared.kind.Kind.{Kind}
 use Rattle.judge.specs.Question.{Question}
 use Rattle.judge.specs.Granting.{IsGranted}

@@ -1,6 +1,7 @@
 //! Judging a read, and writes.
 ghost use Rattle.std.specs.Prelude.{◌≡◌, ◌↔◌, [], ◌∷◌, true, map, IfOk, OnOk, MatchOption};
-ghost use Rattle.tree_model.specs.Write.{location, proposed};
+ghost use Rattle.tree_model.specs.Put.{location};
+ghost use Rattle.tree_model.specs.Write.{proposed};
 ghost use Rattle.path_capture.specs.Write.{tree_or_null};
 ghost use Rattle.evaluator.specs.Asked.{asked_of};
 ghost use Rattle.judge.specs.Question.{scene_of, access_at, reading};
@@ -83,7 +84,7 @@ pub fn may_read<'a>(
     granted_along(&asking, &spot, path.keys(), &mut captures)
 }
 
-/// Judges writes that propose this tree together: denied for write at the least location where no
+/// Judges writes that propose this tree together at the moment of the scene: denied for write at the least location where no
 /// `.write` holds at it or above it, with all `.write` rules there; else denied for validate at the
 /// first failing place, with its pattern and the reason; else granted. The locations are sorted once,
 /// whatever their order. A `.write` is evaluated once for all locations below it, and none behind the
@@ -101,8 +102,8 @@ pub fn judge_write<'a>(
     coming: Option<View<'a>>,
     writes: &'a [Write],
 ) -> Result<Verdict, NoMemory>
-    requires { tree_or_null coming ≡ proposed (tree_or_null scene.now.old) writes.now }
-    ensures { IfOk result (IsWriteVerdict (scene_of scene.now) (proposed (tree_or_null scene.now.old) writes.now) (map location writes.now)) }
+    requires { tree_or_null coming ≡ proposed (tree_or_null scene.now.old) writes.now scene.now.moment }
+    ensures { IfOk result (IsWriteVerdict (scene_of scene.now) (proposed (tree_or_null scene.now.old) writes.now scene.now.moment) (map location writes.now)) }
 {
     match writes {
         [write] => judge_one(alloc, arena, scene, &coming, write),

@@ -3,7 +3,8 @@ ghost use Rattle.std.specs.Prelude.{◌≡◌, ◌↔◌, ◌++◌, List, true, 
 ghost use Rattle.tree_model.specs.Path.{Path, is_prefix};
 ghost use Rattle.tree_model.specs.Tree.{Tree};
 ghost use Rattle.tree_model.specs.PathMap.{sub};
-ghost use Rattle.tree_model.specs.Write.{Write, location, written, overlaps, proposed};
+ghost use Rattle.tree_model.specs.Put.{location, written, overlaps};
+ghost use Rattle.tree_model.specs.Write.{Write, made, proposed};
 ghost use Rattle.rules_reader.specs.Part.{Pattern};
 ghost use Rattle.rules_reader.specs.declared.kind.Kind.{Kind};
 ghost use Rattle.rules_reader.specs.Place.{HasOneCapture};
@@ -32,10 +33,10 @@ pub fn only_rules_above_grant()
 {}
 
 /// Whatever rule is asked for one of the writes of an event, the tree that its `newData` is of has all
-/// of them: at each location that the event writes stands there what it writes. It does nothing.
-/// (Reference, `newData` variable.)
+/// of them: at each location that the event writes stands there what it writes at the moment of the scene. It does
+/// nothing. (Reference, `newData` variable.)
 pub fn every_write_sees_the_whole()
-    ensures { (scene : Scene) (t : Tree) (all : List Write) (w : Write) (pattern : Pattern) (place : Path) → overlaps all ≡ false → Contains all w → (whole : Tree) × ((env_at (writing scene (proposed t all)) pattern place).access ≡ writes (whole, place)) × (sub whole (location w) ≡ written w) }
+    ensures { (scene : Scene) (t : Tree) (all : List Write) (w : Write) (pattern : Pattern) (place : Path) → overlaps all ≡ false → Contains all w → (whole : Tree) × ((env_at (writing scene (proposed t all scene.moment)) pattern place).access ≡ writes (whole, place)) × (sub whole (location w) ≡ written (made scene.moment w)) }
 {}
 
 /// In which order the locations of an event stand changes no verdict. It does nothing.

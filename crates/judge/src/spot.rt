@@ -107,7 +107,8 @@ fn apart(asking: &Asking<'_>) -> Option<Global> {
     spare.needed(asking.arena)
 }
 
-// What this rule answers, evaluated in an arena that is given back.
+// What this rule answers, evaluated in an arena that is given back. It stays a function of its own, since only rules of
+// an update are evaluated so.
 #[inline(never)]
 fn answer_apart<'a>(
     alloc: Global,

@@ -109,8 +109,13 @@ fn of_writes(
         return Err("they overlap")?;
     }
     let laid = Bump::new(alloc);
-    let coming = overlay(&laid, world.base.as_ref(), writes)?;
     let scene = scene_of(world);
+    let coming = overlay(
+        &laid,
+        world.base.as_ref(),
+        writes,
+        scene.moment.milliseconds(),
+    )?;
     Ok(judge_write(alloc, arena, &scene, coming, writes))
 }
 

@@ -1,6 +1,6 @@
 //! What a case is made of, as texts: rules, trees, writes and who asks.
 use evaluator::{Claims, Identity, MAX_MOMENT, Moment};
-use json_tree::{Leaf, NoMemory, Node, Number, ValueFault, from_json};
+use json_tree::{Draft, Leaf, NoMemory, Node, Number, ValueFault, draft_from_json, from_json};
 use path_capture::{Path, Write};
 use rules_reader::{Rules, compile};
 use serde_json::Value;
@@ -27,6 +27,15 @@ pub(crate) fn tree_of(alloc: Global, text: &str) -> Result<Option<Node>, Fail> {
     }
 }
 
+fn draft_of(alloc: Global, text: &str) -> Result<Option<Draft>, Fail> {
+    let value = Value::from_str(alloc, text)?;
+    match draft_from_json(alloc, &value) {
+        Ok(draft) => Ok(draft),
+        Err(ValueFault::NoMemory) => Err(NoMemory)?,
+        Err(_) => Err("no draft")?,
+    }
+}
+
 /// The writes between the bars, as `/a=1 | /b=null`.
 pub(crate) fn writes_of(alloc: Global, text: &str) -> Result<Vec<Write>, Fail> {
     let mut writes = Vec::new(alloc);
@@ -39,7 +48,7 @@ pub(crate) fn writes_of(alloc: Global, text: &str) -> Result<Vec<Write>, Fail> {
 fn write_of(alloc: Global, text: &str) -> Result<Write, Fail> {
     let (path, value) = text.split_once('=').ok_or("a write has a sign")?;
     let path = Path::parse(alloc, path)?;
-    match Write::new(path, tree_of(alloc, value)?) {
+    match Write::new(path, draft_of(alloc, value)?) {
         Ok(write) => Ok(write),
         Err(_) => Err("too deep")?,
     }

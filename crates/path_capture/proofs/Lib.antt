@@ -3,3 +3,4 @@ pub mod Segments
 pub mod Prefixes
 pub mod Parts
 pub mod Rewinding
+pub mod Drafted

@@ -1,16 +1,18 @@
 -- Writes of one update that are made one after another, and undone again.
 use Rattle.std.proofs.Common.{◌≡◌, ◌≢◌, ◌<◌, ◌≤◌, ◌+◌, ℕ, zero, suc, true, false, cond, reverse, List, [], ◌∷◌, ◌++◌, length, drop, get_or, Option, Some, None, option_map, is_some, unwrap_or, Result, Ok, Err, OnOk, refl, sym, ap, ◌∙◌, subst, arith}
 use Rattle.std.specs.List.{swap_remove}
+use Rattle.std.specs.FinMap as map_of
 use Rattle.std.specs.Result.{IsOk}
 use Rattle.std.proofs.lemmas.Bool.{false≢true}
 use Rattle.std.proofs.lemmas.List.{reverse-append}
 use Rattle.std.proofs.lemmas.List.Sorted.{IsPermutation-swap_remove}
 use Rattle.tree_model.specs.Tree.{Tree, null, non_null}
-use Rattle.tree_model.specs.Write.{Write, overlaps, proposed}
+use Rattle.tree_model.specs.PathMap.{PathMap}
+use Rattle.tree_model.specs.Put.{Put, overlaps}
+use Rattle.tree_model.specs.Write.{Write, proposed}
 use Rattle.tree_model.proofs.Choices.{neither, none_is_not_some}
-use Rattle.tree_model.proofs.Existence.{by_null, non_null-null}
-use Rattle.tree_model.proofs.Order.{overlaps-permutation, proposed-permutation}
-use Rattle.tree_model.proofs.OneByOne.{proposed-cons}
+use Rattle.tree_model.proofs.Existence.{by_null, non_null-empty}
+use Rattle.tree_model.proofs.Writes.{apart_in_any_order, proposed-permutation, proposed-cons}
 use Rattle.json_tree.specs.Undo.{Undoes}
 use Rattle.json_tree.proofs.Lists.{drop_next}
 use Rattle.path_capture.specs.Write.{tree_or_null}
@@ -25,15 +27,15 @@ pub same_or_null : (o : Option Tree) → unwrap_or o null ≡ tree_or_null o
 same_or_null None = refl
 same_or_null (Some t) = refl
 
-pub undoes_or_null : (undo : Write) (new old : Option Tree) → Undoes undo (unwrap_or new null) (unwrap_or old null) → Undoes undo (tree_or_null new) (tree_or_null old)
+pub undoes_or_null : (undo : Put) (new old : Option Tree) → Undoes undo (unwrap_or new null) (unwrap_or old null) → Undoes undo (tree_or_null new) (tree_or_null old)
 undoes_or_null undo new old h = subst (λ t. Undoes undo t (tree_or_null old)) (same_or_null new) (subst (Undoes undo (unwrap_or new null)) (same_or_null old) h)
 
 -- the way back to a tree
-abbrev pub LeadsBack : List Write → Tree → Tree → Type 0
+abbrev pub LeadsBack : List Put → Tree → Tree → Type 0
 LeadsBack undos t start = CanRewind (reverse undos) t × (rewound (reverse undos) t ≡ start)
 
 -- one change more, and what undoes it, lead back as far
-pub one_more_back : (old new : List Write) (before after start : Tree) → IsOneMore old new before after → LeadsBack old before start → LeadsBack new after start
+pub one_more_back : (old new : List Put) (before after start : Tree) → IsOneMore old new before after → LeadsBack old before start → LeadsBack new after start
 one_more_back old new before after start more back =
     let turned = popped new old more.undo more.added in
     subst (λ us. CanRewind us after × (rewound us after ≡ start)) (sym turned) (
@@ -42,18 +44,18 @@ one_more_back old new before after start more back =
     )
 
 -- one of the writes is made, and the others are left
-pub one_made : (t : Tree) (ws : List Write) (i : ℕ) (w : Write) → i < length ws → w ≡ get_or ws i w → overlaps ws ≡ false → (overlaps (swap_remove ws i w) ≡ false) × (proposed t ws ≡ proposed (proposed t (w ∷ [])) (swap_remove ws i w))
+pub one_made : (t : Tree) (ws : List Write) (i : ℕ) (w : Write) → i < length ws → w ≡ get_or ws i w → overlaps ws ≡ false → (overlaps (swap_remove ws i w) ≡ false) × (proposed t ws 0 ≡ proposed (proposed t (w ∷ []) 0) (swap_remove ws i w) 0)
 one_made t ws i w within at apart =
     let moved = IsPermutation-swap_remove ws i w within at in
-    let still = overlaps-permutation ws _ moved apart in
-    ((neither _ _ still).1, proposed-permutation t ws _ moved apart ∙ proposed-cons t w _ still)
+    let still = apart_in_any_order ws _ moved apart in
+    ((neither _ _ still).1, proposed-permutation t ws _ 0 moved apart ∙ proposed-cons t w _ 0 still)
 
 -- the first of the writes is made, and the others are left
-pub first_made : (t : Tree) (ws : List Write) (i : ℕ) (w : Write) → i < length ws → w ≡ get_or ws i w → overlaps (drop i ws) ≡ false → (overlaps (drop (i + 1) ws) ≡ false) × (proposed t (drop i ws) ≡ proposed (proposed t (w ∷ [])) (drop (i + 1) ws))
+pub first_made : (t : Tree) (ws : List Write) (i : ℕ) (w : Write) → i < length ws → w ≡ get_or ws i w → overlaps (drop i ws) ≡ false → (overlaps (drop (i + 1) ws) ≡ false) × (proposed t (drop i ws) 0 ≡ proposed (proposed t (w ∷ []) 0) (drop (i + 1) ws) 0)
 first_made t ws i w within at apart =
     let next = drop_next ws i w within at in
     let still = sym (ap overlaps next) ∙ apart in
-    ((neither _ _ still).1, ap (proposed t) next ∙ proposed-cons t w (drop (i + 1) ws) still)
+    ((neither _ _ still).1, ap (λ us. proposed t us 0) next ∙ proposed-cons t w (drop (i + 1) ws) 0 still)
 
 pub nothing_left : {X : Type 0} (xs : List X) (n : ℕ) → length xs ≤ n → drop n xs ≡ []
 nothing_left [] zero h = refl
@@ -73,11 +75,12 @@ from_ok (Err e) h p = absurd (false≢true h)
 
 -- ---- whether a write puts something
 
-pub is_put : {X : Type 0} (f : X → Tree) (o : Option X) (t : Tree) → option_map f o ≡ non_null t → is_some o ≡ true → t ≢ null
-is_put f None t h s none = false≢true s
-is_put f (Some x) t h s none = none_is_not_some (Some (f x)) (h ∙ ap non_null none ∙ non_null-null) refl
+module _ {X Y : Type 0} (f : X → PathMap Y) where
+  pub is_put : (o : Option X) (t : PathMap Y) → option_map f o ≡ non_null t → is_some o ≡ true → t ≢ map_of.empty
+  is_put None t h s none = false≢true s
+  is_put (Some x) t h s none = none_is_not_some (Some (f x)) (h ∙ ap non_null none ∙ non_null-empty) refl
 
-pub is_removal : {X : Type 0} (f : X → Tree) (o : Option X) (t : Tree) → option_map f o ≡ non_null t → is_some o ≡ false → t ≡ null
-unfolding non_null
-is_removal f None t h s = by_null (λ b. None ≡ cond b None (Some t) → t ≡ null) t (λ e _. e) (λ _ g. absurd (none_is_not_some (Some t) (sym g) refl)) h
-is_removal f (Some x) t h s = absurd (false≢true (sym s))
+  pub is_removal : (o : Option X) (t : PathMap Y) → option_map f o ≡ non_null t → is_some o ≡ false → t ≡ map_of.empty
+  unfolding non_null
+  is_removal None t h s = by_null (λ b. None ≡ cond b None (Some t) → t ≡ map_of.empty) t (λ e _. e) (λ _ g. absurd (none_is_not_some (Some t) (sym g) refl)) h
+  is_removal (Some x) t h s = absurd (false≢true (sym s))

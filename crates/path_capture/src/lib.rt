@@ -1,7 +1,7 @@
 //! Paths, which name locations, patterns, which name where rules stand, captures and writes.
 //!
 //! Contracts see a [`Path`] as a path of `tree_model`, a [`Pattern`] as a list of keys and captures,
-//! and a [`Write`] as a location and a tree. What the layers above need most is [`Write::make`]:
+//! and a [`Write`] as a location and a draft. What the layers above need most is [`Write::make`]:
 //! it leaves the tree that the write proposes, or at an `Err` the tree that there was.
 #![tactic(auto)]
 

@@ -1,8 +1,10 @@
 //! The writes of one update, made in a stored tree in place: all of them, or none.
-ghost use Rattle.std.specs.Prelude.{◌≡◌, ◌≢◌, ◌∷◌, [], false, reverse, All, IsOk, OnOk, OnErr};
+ghost use Rattle.std.specs.Prelude.{◌≡◌, ◌≢◌, ◌∷◌, [], ℕ, false, reverse, All, IsOk, OnOk, OnErr};
 ghost use Rattle.std.specs.List.Sorted.{IsPermutation};
-ghost use Rattle.tree_model.specs.Tree.{null, non_null};
-ghost use Rattle.tree_model.specs.Write.{written, overlaps, proposed};
+ghost use Rattle.tree_model.specs.Tree.{non_null};
+ghost use Rattle.tree_model.specs.Put.{written, overlaps};
+ghost use Rattle.tree_model.specs.Draft.{null_draft};
+ghost use Rattle.tree_model.specs.Write.{proposed, AreFixed};
 ghost use Rattle.path_capture.specs.Write.{tree_or_null};
 ghost use Rattle.path_capture.specs.Working.Rewind.{rewound, CanRewind, IsOneMore};
 
@@ -18,10 +20,11 @@ use std::alloc::Global;
 /// so that of many children of one node none is moved for those that come behind all others, or go from there. The
 /// writes are sorted for it: n · log n comparisons, and n where they are in order.
 pub fn make_all(alloc: Global, tree: &mut Option<Node>, writes: Vec<Write>) -> Result<(), NoMemory>
-    requires { overlaps writes.items ≡ false }
-    ensures ok { OnOk result (tree_or_null tree.new ≡ proposed (tree_or_null tree.old) writes.items) }
+    requires apart { overlaps writes.items ≡ false }
+    requires fixed { AreFixed writes.items }
+    ensures ok { OnOk result ((now : ℕ) → tree_or_null tree.new ≡ proposed (tree_or_null tree.old) writes.items now) }
     ensures err { OnErr result (tree.new ≡ tree.old) }
-    ensures removals { All (λ write. written write ≡ null) writes.items → IsOk result }
+    ensures removals { All (λ write. written write ≡ null_draft) writes.items → IsOk result }
 {
     law_of(tree);
     let mut left = writes;
@@ -66,12 +69,12 @@ fn make_puts(
     requires apart { overlaps left.old.items ≡ false }
     requires none { undos.old.items ≡ [] }
     ensures apart { OnOk result (overlaps left.new.items ≡ false) }
-    ensures goal { OnOk result (proposed (tree_or_null tree.new) left.new.items
-        ≡ proposed (tree_or_null tree.old) left.old.items) }
-    ensures removals { OnOk result (All (λ write. written write ≡ null) left.new.items) }
+    ensures goal { OnOk result (proposed (tree_or_null tree.new) left.new.items 0
+        ≡ proposed (tree_or_null tree.old) left.old.items 0) }
+    ensures removals { OnOk result (All (λ write. written write ≡ null_draft) left.new.items) }
     ensures can_rewind { CanRewind (reverse undos.new.items) (tree_or_null tree.new) }
     ensures rewound { rewound (reverse undos.new.items) (tree_or_null tree.new) ≡ tree_or_null tree.old }
-    ensures nothing { All (λ write. written write ≡ null) left.old.items → IsOk result }
+    ensures nothing { All (λ write. written write ≡ null_draft) left.old.items → IsOk result }
 {
     let mut i = left.len();
     while i > 0 {
@@ -91,18 +94,19 @@ fn make_put(
     write: Write,
     undos: &mut Vec<Undo>,
 ) -> Result<(), NoMemory>
-    requires { written write ≢ null }
-    ensures ok { OnOk result (tree_or_null tree.new ≡ proposed (tree_or_null tree.old) (write ∷ [])) }
+    requires { written write ≢ null_draft }
+    ensures ok { OnOk result (tree_or_null tree.new ≡ proposed (tree_or_null tree.old) (write ∷ []) 0) }
     ensures one_more { OnOk result (IsOneMore undos.old.items undos.new.items (tree_or_null tree.old) (tree_or_null tree.new)) }
     ensures err { OnErr result (tree.new ≡ tree.old) }
     ensures same_undos { OnErr result (undos.new.items ≡ undos.old.items) }
 {
     undos.reserve(1)?;
-    let Write { path, tree: value } = write;
-    let Some(node) = value else {
+    let Write { path, draft } = write;
+    let Some(draft) = draft else {
         return Ok(());
     };
-    let undo = put_with_undo(alloc, tree, path.into_keys(), node)?;
+    draft.law();
+    let undo = put_with_undo(alloc, tree, path.into_keys(), draft.into_at_zero())?;
     undos.push(undo)?;
     Ok(())
 }
@@ -132,8 +136,8 @@ fn law_of(tree: &Option<Node>)
 // Makes removals.
 fn make_removals(alloc: Global, tree: &mut Option<Node>, removals: Vec<Write>)
     requires apart { overlaps removals.items ≡ false }
-    requires removals { All (λ write. written write ≡ null) removals.items }
-    ensures { tree_or_null tree.new ≡ proposed (tree_or_null tree.old) removals.items }
+    requires removals { All (λ write. written write ≡ null_draft) removals.items }
+    ensures { tree_or_null tree.new ≡ proposed (tree_or_null tree.old) removals.items 0 }
 {
     for write in removals {
         let _made = write.make(alloc, tree);

@@ -15,7 +15,7 @@ use Rattle.requests.specs.declared.message.Verb.TheVariants as verbs
 use Rattle.requests.specs.declared.message.Wanted.{Wanted}
 use Rattle.requests.specs.declared.message.Wanted.TheVariants.{Step, SignIn, Deploy}
 use Rattle.requests.specs.declared.ask.Asked.{Asked}
-use Rattle.json_lines.specs.Lines.{or_fault, unless_fault, value_of, path_of, tree_of_value, write_at, writes_below}
+use Rattle.json_lines.specs.Lines.{or_fault, unless_fault, value_of, path_of, draft_of_value, write_at, writes_below}
 use Rattle.requests.specs.Message.{form_members, verb_members, stamp_of, query_at, query_said, id_at, path_in, wanted_by, verb_in, request_of, asks}
 use Rattle.requests.specs.Ask.{ComesTo, IsAsked}
 
@@ -51,8 +51,8 @@ wanted_plain verbs.Set d =
     in_turn IsPlain (or_fault BadRequest (text_at (codes "path") d)) _ (λ text.
     in_turn IsPlain (or_fault BadRequest (get (codes "value") d)) _ (λ value.
     in_turn IsPlain (path_of text) _ (λ path.
-    in_turn IsPlain (tree_of_value value) _ (λ tree.
-    in_turn IsPlain (write_at path tree) _ (λ write. tt)))))
+    in_turn IsPlain (draft_of_value value) _ (λ draft.
+    in_turn IsPlain (write_at path draft) _ (λ write. tt)))))
 wanted_plain verbs.Remove d = in_turn IsPlain (path_in d) _ (λ path. tt)
 wanted_plain verbs.Update d =
     in_turn IsPlain (or_fault BadRequest (text_at (codes "path") d)) _ (λ text.

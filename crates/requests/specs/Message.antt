@@ -28,7 +28,7 @@ use Rattle.requests.specs.declared.message.Verb.TheVariants as verbs
 use Rattle.requests.specs.declared.message.Wanted.{Wanted}
 use Rattle.requests.specs.declared.message.Wanted.TheVariants.{Step, SignIn, Deploy}
 use Rattle.requests.specs.declared.message.Request.{Request}
-use Rattle.json_lines.specs.Lines.{or_fault, unless_fault, value_of, path_of, tree_of_value, write_at, writes_below}
+use Rattle.json_lines.specs.Lines.{or_fault, unless_fault, value_of, path_of, draft_of_value, write_at, writes_below}
 use Rattle.json_lines.specs.declared.fault.MessageFault.{MessageFault}
 use Rattle.json_lines.specs.declared.fault.MessageFault.TheVariants.{TooLarge, BadJson, BadRequest, BadPath, BadValue, TooDeep, BadQuery, NoMemory}
 
@@ -125,8 +125,8 @@ wanted_by verbs.Set d =
     unless_fault (or_fault BadRequest (text_at (codes "path") d)) (λ text.
     unless_fault (or_fault BadRequest (get (codes "value") d)) (λ value.
     unless_fault (path_of text) (λ path.
-    unless_fault (tree_of_value value) (λ tree.
-    unless_fault (write_at path tree) (λ write. Ok (Step (Set write)))))))
+    unless_fault (draft_of_value value) (λ draft.
+    unless_fault (write_at path draft) (λ write. Ok (Step (Set write)))))))
 wanted_by verbs.Remove d = unless_fault (path_in d) (λ path. Ok (Step (Remove path)))
 wanted_by verbs.Update d =
     unless_fault (or_fault BadRequest (text_at (codes "path") d)) (λ text.

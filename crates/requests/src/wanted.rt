@@ -129,7 +129,7 @@ fn query_said(alloc: Global, said: Option<Object<'_>>) -> Result<Option<Query>, 
     ensures { Tells (λ query. query) result (query_said (option_map object_data said.entry)) }
 {
     match said {
-        Some(Object::Trees(named)) => {
+        Some(Object::Drafts(named)) => {
             let value = named.value(alloc)?;
             query_of(alloc, &value)
         }
@@ -159,8 +159,8 @@ fn set_of(alloc: Global, message: &mut Message<'_>) -> Result<Wanted, MessageFau
         return Err(MessageFault::BadRequest);
     }
     let path = path_of(alloc, text)?;
-    let tree = message.take_tree(alloc, MemberName::Value)?;
-    let write = write_at(path, tree)?;
+    let draft = message.take_draft(alloc, MemberName::Value)?;
+    let write = write_at(path, draft)?;
     Ok(Wanted::Step(Event::Set(write)))
 }
 

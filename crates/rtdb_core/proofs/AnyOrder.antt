@@ -5,8 +5,9 @@ use Rattle.std.proofs.lemmas.Bool.{false≢true}
 use Rattle.std.proofs.lemmas.List.Sorted.{IsPermutation-map, IsPermutation-sym, length_permutation}
 use Rattle.tree_model.specs.Path.{Path}
 use Rattle.tree_model.specs.Tree.{Tree, count}
-use Rattle.tree_model.specs.Write.{Write, location, overlaps}
-use Rattle.tree_model.proofs.Order.{overlaps-permutation, proposed-permutation}
+use Rattle.tree_model.specs.Put.{location, overlaps}
+use Rattle.tree_model.specs.Write.{Write, AreFixed}
+use Rattle.tree_model.proofs.Writes.{apart_in_any_order, proposed-permutation, proposed_alike}
 use Rattle.rules_reader.specs.Place.{HasOneCapture}
 use Rattle.judge.specs.Question.{Scene}
 use Rattle.judge.specs.Tests.{write_verdict}
@@ -36,17 +37,17 @@ verdict_same scene t ls ms one p =
 makes_same : (old : State) (now session : ℕ) (ws xs : List Write) → HasOneCapture old.rules → IsPermutation ws xs → overlaps ws ≡ false → makes old now session ws ≡ makes old now session xs
 unfolding write_refusal
 makes_same old now session ws xs one p apart =
-    let tree = proposed-permutation old.tree ws xs p apart in
-    let verdict = verdict_same (scene_at old now session) (tree_with old ws) (map location ws) (map location xs) one (IsPermutation-map location ws xs p) ∙ ap (λ (t : Tree). write_verdict (scene_at old now session) t (map location xs)) tree in
+    let tree = proposed-permutation old.tree ws xs now p apart in
+    let verdict = verdict_same (scene_at old now session) (tree_with old now ws) (map location ws) (map location xs) one (IsPermutation-map location ws xs p) ∙ ap (λ (t : Tree). write_verdict (scene_at old now session) t (map location xs)) tree in
     λ i. unless_refused old (or_full (denial (verdict i)) (tree i)) (record { reply = Done; after = all_rejudged old.tree now (record old { tree = tree i }) })
 
 pub overlap_same : (ws xs : List Write) → IsPermutation ws xs → overlaps ws ≡ overlaps xs
 overlap_same ws xs p = by_one (overlaps ws) (overlaps xs) refl refl
   where
     by_one : (b c : Bool) → overlaps ws ≡ b → overlaps xs ≡ c → overlaps ws ≡ overlaps xs
-    by_one false c e f = e ∙ sym (overlaps-permutation ws xs p e)
+    by_one false c e f = e ∙ sym (apart_in_any_order ws xs p e)
     by_one true true e f = e ∙ sym f
-    by_one true false e f = absurd (false≢true (sym (overlaps-permutation xs ws (IsPermutation-sym ws xs p) f) ∙ e))
+    by_one true false e f = absurd (false≢true (sym (apart_in_any_order xs ws (IsPermutation-sym ws xs p) f) ∙ e))
 
 -- writes are some in any order
 pub some_in_any_order : (ws xs : List Write) → IsPermutation ws xs → length xs == 0 ≡ false → length ws == 0 ≡ false
@@ -73,11 +74,11 @@ module _ (old : State) (now session : ℕ) (ws xs : List Write) (opened : is_ope
   update_takes_memory h = λ i. not (opened i) || some i || (overlap_same ws xs p ∙ h) i
 
 -- what writes propose in another order
-pub tree_same : (old : State) (ws xs : List Write) → IsPermutation ws xs → overlaps xs ≡ false → tree_with old ws ≡ tree_with old xs
-tree_same old ws xs p h = proposed-permutation old.tree ws xs p (overlap_same ws xs p ∙ h)
+pub tree_same : (old : State) (now : ℕ) (ws xs : List Write) → IsPermutation ws xs → overlaps xs ≡ false → tree_with old now ws ≡ tree_with old now xs
+tree_same old now ws xs p h = proposed-permutation old.tree ws xs now p (overlap_same ws xs p ∙ h)
 
-pub same_with_tree : (old : State) (ws xs : List Write) (ds : List Decision) → IsPermutation ws xs → overlaps xs ≡ false → with_settled (with_tree old ws) ds ≡ with_settled (with_tree old xs) ds
-same_with_tree old ws xs ds p h = ap (λ (t : Tree). with_settled (record old { tree = t }) ds) (tree_same old ws xs p h)
+pub same_with_tree : (old : State) (now : ℕ) (ws xs : List Write) (ds : List Decision) → IsPermutation ws xs → overlaps xs ≡ false → with_settled (with_tree old now ws) ds ≡ with_settled (with_tree old now xs) ds
+same_with_tree old now ws xs ds p h = ap (λ (t : Tree). with_settled (record old { tree = t }) ds) (tree_same old now ws xs p h)
 
 -- ---- what an update comes to, by what its writes come to in another order
 module _ (old : State) (now session : ℕ) (who : Option Identity) (ws xs : List Write) (is : who ≡ identity_of old session) (opened : is_open old session ≡ true) (some : length ws == 0 ≡ false) (p : IsPermutation ws xs) (one : HasOneCapture old.rules) (apart : overlaps xs ≡ false) where
@@ -86,15 +87,16 @@ module _ (old : State) (now session : ℕ) (who : Option Identity) (ws xs : List
       subst (λ (o : Outcome). Refuses old o (takes_no_memory old session (Update ws)) (refusal_of refusal)) (sym (update_made old now session ws xs opened some p one apart))
       (writes_refuse old now session who xs is (takes_no_memory old session (Update ws)) (update_takes_memory old now session ws xs opened some p apart) refusal h)
 
-  pub update_comes : (found : Found) → AreGranted old now who xs found → Comes (updates old now session ws) found (with_settled (with_tree old ws) found.decisions.made.items)
-  update_comes found g =
+  pub update_comes : (found : Found) → AreGranted old now who xs found → AreFixed ws → Comes (updates old now session ws) found (with_settled (with_tree old 0 ws) found.decisions.made.items)
+  update_comes found g fixed =
       update_made old now session ws xs opened some p one apart
       ∙ writes_come old now session who xs is found g
-      ∙ (λ i. let o : Outcome = record { reply = reply_of found.reply; after = sym (same_with_tree old ws xs found.decisions.made.items p apart) i } in o)
+      ∙ (λ i. let o : Outcome = record { reply = reply_of found.reply; after = (sym (same_with_tree old now ws xs found.decisions.made.items p apart) ∙ ap (λ (t : Tree). with_settled (record old { tree = t }) found.decisions.made.items) (proposed_alike old.tree ws now 0 fixed)) i } in o)
 
-  pub update_can_be_made : (found : Found) → AreGranted old now who xs found → CanBeMade old session ws
-  update_can_be_made found g = record {
+  pub update_can_be_made : (found : Found) → AreGranted old now who xs found → AreFixed ws → CanBeMade old session ws
+  update_can_be_made found g fixed = record {
     opened = opened;
     apart = overlap_same ws xs p ∙ apart;
-    room = subst (λ (t : Tree). count t ≤ MAX_LOCATIONS) (sym (tree_same old ws xs p apart)) (has_room old now who xs g.granted);
+    fixed = fixed;
+    room = subst (λ (t : Tree). count t ≤ MAX_LOCATIONS) (sym (tree_same old now ws xs p apart) ∙ proposed_alike old.tree ws now 0 fixed) (has_room old now who xs g.granted);
   }

@@ -3,7 +3,7 @@ use Rattle.std.proofs.Common.{◌≡◌, ◌==◌, ◌||◌, ℕ, Bool, true, fa
 use Rattle.std.proofs.lemmas.Bool.{false≢true}
 use Rattle.std.specs.Prelude.{nat_le}
 use Rattle.std.specs.FinMap as map_of
-use Rattle.tree_model.specs.Write.{overlaps}
+use Rattle.tree_model.specs.Put.{overlaps}
 use Rattle.listeners.specs.declared.limits.TheConstants.{MAX_LISTENERS}
 use Rattle.listeners.specs.Table.{has_id}
 use Rattle.rtdb_model.specs.declared.limits.TheConstants.{MAX_SESSIONS}

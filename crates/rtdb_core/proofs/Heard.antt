@@ -7,7 +7,8 @@ use Rattle.std.specs.FinMap as map_of
 use Rattle.std.specs.Ordering.{nat_cmp}
 use Rattle.tree_model.specs.Path.{Path}
 use Rattle.tree_model.specs.Tree.{Tree}
-use Rattle.tree_model.specs.Write.{Write, overlaps}
+use Rattle.tree_model.specs.Put.{overlaps}
+use Rattle.tree_model.specs.Write.{Write}
 use Rattle.evaluator.specs.Identity.{Identity}
 use Rattle.evaluator.specs.Asked.{Asked}
 use Rattle.rules_reader.specs.Book.{Book}
@@ -113,7 +114,7 @@ module _ (old : State) (now n : ℕ) (heard : AllHeard old) where
   unless_heard (Some refusal) o h = heard
 
   make_heard : (writes : List Write) → AllHeard (makes old now n writes).after
-  make_heard writes = unless_heard (write_refusal old now n writes) _ (λ _. again_heard old.tree now (record { tree = tree_with old writes; rules = old.rules; sessions = old.sessions }))
+  make_heard writes = unless_heard (write_refusal old now n writes) _ (λ _. again_heard old.tree now (record { tree = tree_with old now writes; rules = old.rules; sessions = old.sessions }))
 
   set_heard : (write : Write) → AllHeard (sets old now n write).after
   set_heard write = test_heard (not (is_open old n)) NoSession _ (make_heard (write ∷ []))

@@ -1,10 +1,13 @@
 -- Why reads and writes are refused, from their verdicts.
-use Rattle.std.proofs.Common.{◌≡◌, ◌≤◌, ◌∷◌, [], ℕ, Bool, List, map, true, false, not, cond, Some, None, Option, inl, inr, option_map, sym, ap, subst, refl, ◌∙◌}
+use Rattle.std.proofs.Common.{◌≡◌, ◌≤◌, ◌<◌, ◌∷◌, [], ℕ, zero, suc, Bool, List, map, true, false, not, cond, Some, None, Option, inl, inr, option_map, sym, ap, subst, refl, arith, ◌∙◌}
 use Rattle.std.specs.Prelude.{MatchOption}
 use Rattle.std.specs.Borrow.{Bor}
 use Rattle.tree_model.specs.Path.{Path}
 use Rattle.tree_model.specs.Tree.{Tree, non_null, count}
-use Rattle.tree_model.specs.Write.{Write, location, proposed}
+use Rattle.tree_model.specs.Put.{location, written}
+use Rattle.tree_model.specs.Draft.{IsFixed}
+use Rattle.tree_model.specs.Write.{Write, proposed, AreFixed}
+use Rattle.tree_model.proofs.Writes.{proposed_alike}
 use Rattle.path_capture.specs.Write.{tree_or_null}
 use Rattle.arena_snapshot.specs.View.{node_or_null}
 use Rattle.rules_reader.specs.Place.{HasOneCapture}
@@ -68,29 +71,29 @@ module _ (old : State) (now session : ℕ) (who : Option Identity) (path : Path)
 
 -- ---- writes
 
-pub tree_is_proposed : (base : Option (Bor Tree)) (tree : Option Tree) (old : Tree) (coming : Option Tree) (ws : List Write) → option_map (λ (node : Bor Tree). node.now) base ≡ tree → tree_or_null tree ≡ old → coming ≡ non_null (proposed (node_or_null base) ws) → tree_or_null coming ≡ proposed old ws
-tree_is_proposed base tree old coming ws stored is laid =
-    is_proposed base (option_map (λ (node : Bor Tree). node.now) base) coming ws (λ i. option_map (λ (node : Bor Tree). node.now) base) laid
-    ∙ ap (λ (t : Tree). proposed t ws) (ap tree_or_null stored ∙ is)
+pub tree_is_proposed : (base : Option (Bor Tree)) (tree : Option Tree) (old : Tree) (coming : Option Tree) (ws : List Write) (now : ℕ) → option_map (λ (node : Bor Tree). node.now) base ≡ tree → tree_or_null tree ≡ old → coming ≡ non_null (proposed (node_or_null base) ws now) → tree_or_null coming ≡ proposed old ws now
+tree_is_proposed base tree old coming ws now stored is laid =
+    is_proposed base (option_map (λ (node : Bor Tree). node.now) base) coming ws now (λ i. option_map (λ (node : Bor Tree). node.now) base) laid
+    ∙ ap (λ (t : Tree). proposed t ws now) (ap tree_or_null stored ∙ is)
 
-pub verdict_is : (old : State) (now : ℕ) (who : Option Identity) (scene : Scene) (ws : List Write) (v : Verdict) → scene ≡ scene_for old now who → HasOneCapture old.rules → IsWriteVerdict scene (proposed scene.old ws) (map location ws) v → v ≡ verdict_for old now who ws
+pub verdict_is : (old : State) (now : ℕ) (who : Option Identity) (scene : Scene) (ws : List Write) (v : Verdict) → scene ≡ scene_for old now who → HasOneCapture old.rules → IsWriteVerdict scene (proposed scene.old ws scene.moment) (map location ws) v → v ≡ verdict_for old now who ws
 verdict_is old now who scene ws v same one h =
-    one_verdict (scene_for old now who) (tree_with old ws) (map location ws) v one (subst (λ (s : Scene). IsWriteVerdict s (proposed s.old ws) (map location ws) v) same h)
+    one_verdict (scene_for old now who) (tree_with old now ws) (map location ws) v one (subst (λ (s : Scene). IsWriteVerdict s (proposed s.old ws s.moment) (map location ws) v) same h)
 
 pub is_denied : (old : State) (now : ℕ) (who : Option Identity) (ws : List Write) (v : Verdict) (refusal : Refusal) → v ≡ verdict_for old now who ws → denial v ≡ Some refusal → Some refusal ≡ write_refusal_for old now who ws
 unfolding write_refusal_for
-is_denied old now who ws v refusal is denied = ap (λ (o : Option Refusal). or_full o (tree_with old ws)) (sym denied ∙ ap denial is)
+is_denied old now who ws v refusal is denied = ap (λ (o : Option Refusal). or_full o (tree_with old now ws)) (sym denied ∙ ap denial is)
 
-pub is_granted : (old : State) (now : ℕ) (who : Option Identity) (ws : List Write) (v : Verdict) → v ≡ verdict_for old now who ws → denial v ≡ None → full (tree_with old ws) ≡ write_refusal_for old now who ws
+pub is_granted : (old : State) (now : ℕ) (who : Option Identity) (ws : List Write) (v : Verdict) → v ≡ verdict_for old now who ws → denial v ≡ None → full (tree_with old now ws) ≡ write_refusal_for old now who ws
 unfolding write_refusal_for
-is_granted old now who ws v is none = ap (λ (o : Option Refusal). or_full o (tree_with old ws)) (sym none ∙ ap denial is)
+is_granted old now who ws v is none = ap (λ (o : Option Refusal). or_full o (tree_with old now ws)) (sym none ∙ ap denial is)
 
 -- ---- writes of a session, as they are judged for who is signed in on it
 
 module _ (old : State) (now session : ℕ) (who : Option Identity) (ws : List Write) (is : who ≡ identity_of old session) where
   writes_as : write_refusal_for old now who ws ≡ write_refusal old now session ws
   unfolding write_refusal write_refusal_for
-  writes_as = ap (λ (w : Option Identity). or_full (denial (verdict_for old now w ws)) (tree_with old ws)) is
+  writes_as = ap (λ (w : Option Identity). or_full (denial (verdict_for old now w ws)) (tree_with old now ws)) is
 
   abbrev done_with : Option Refusal → Outcome
   done_with o = unless_refused old o (record { reply = Done; after = written_to old now ws })
@@ -99,10 +102,15 @@ module _ (old : State) (now session : ℕ) (who : Option Identity) (ws : List Wr
   writes_refuse takes t refusal (inl h) = inl (ap done_with (sym writes_as ∙ h))
   writes_refuse takes t refusal (inr h) = inr (ap Refused h, refl, t)
 
-  pub writes_come : (found : Found) → AreGranted old now who ws found → Comes (makes old now session ws) found (with_settled (with_tree old ws) found.decisions.made.items)
+  pub writes_come : (found : Found) → AreGranted old now who ws found → Comes (makes old now session ws) found (with_settled (with_tree old now ws) found.decisions.made.items)
   writes_come found g =
       ap done_with (sym writes_as ∙ g.granted)
       ∙ (λ i. let o : Outcome = record { reply = reply_of (sym g.done i); after = sym g.decided i } in o)
+
+-- one write without a moment
+one_fixed : (write : Write) → IsFixed (written write) → AreFixed (write ∷ [])
+one_fixed write fixed zero d h = fixed
+one_fixed write fixed (suc i) d h = absurd (omega arith)
 
 -- one write of an open session
 module _ (old : State) (now session : ℕ) (who : Option Identity) (ws : List Write) (write : Write) (is : who ≡ identity_of old session) (opened : true ≡ is_open old session) (one : ws ≡ write ∷ []) where
@@ -114,14 +122,20 @@ module _ (old : State) (now session : ℕ) (who : Option Identity) (ws : List Wr
   pub set_refuses : (refusal : BorrowedRefusal) → IsRefused (write_refusal_for old now who ws) refusal → Refuses old (sets old now session write) (not (is_open old session)) (refusal_of refusal)
   set_refuses refusal h = subst (λ (o : Outcome). Refuses old o (not (is_open old session)) (refusal_of refusal)) (sym sets_as) (writes_refuse old now session who ws is (not (is_open old session)) (ap not (sym opened)) refusal h)
 
-  pub set_comes : (found : Found) → AreGranted old now who ws found → Comes (sets old now session write) found (with_settled (with_tree old (write ∷ [])) found.decisions.made.items)
-  set_comes found g =
+  pub set_comes : (found : Found) → AreGranted old now who ws found → IsFixed (written write) → Comes (sets old now session write) found (with_settled (with_tree old 0 (write ∷ [])) found.decisions.made.items)
+  set_comes found g fixed =
       sets_as
       ∙ writes_come old now session who ws is found g
-      ∙ (λ i. let o : Outcome = record { reply = reply_of found.reply; after = with_settled (with_tree old (one i)) found.decisions.made.items } in o)
+      ∙ (λ i. let o : Outcome = record { reply = reply_of found.reply; after = with_settled (with_tree old now (one i)) found.decisions.made.items } in o)
+      ∙ (λ i. let o : Outcome = record { reply = reply_of found.reply; after = with_settled (record old { tree = proposed_alike old.tree (write ∷ []) now 0 (one_fixed write fixed) i }) found.decisions.made.items } in o)
 
-  pub set_can_be_made : (found : Found) → AreGranted old now who ws found → CanBeMade old session (write ∷ [])
-  set_can_be_made found g = record { opened = sym opened; apart = refl; room = subst (λ (xs : List Write). count (tree_with old xs) ≤ MAX_LOCATIONS) one (has_room old now who ws g.granted) }
+  pub set_can_be_made : (found : Found) → AreGranted old now who ws found → IsFixed (written write) → CanBeMade old session (write ∷ [])
+  set_can_be_made found g fixed = record {
+    opened = sym opened;
+    apart = refl;
+    fixed = one_fixed write fixed;
+    room = subst (λ (t : Tree). count t ≤ MAX_LOCATIONS) (ap (tree_with old now) one ∙ proposed_alike old.tree (write ∷ []) now 0 (one_fixed write fixed)) (has_room old now who ws g.granted);
+  }
 
 -- ---- one write, whose denial is borrowed
 
@@ -135,7 +149,7 @@ alone_denied scene t ls v refusal one h denied = ap (λ (o : Option Refusal). or
 pub alone_granted : (scene : Scene) (t : Tree) (ls : List Path) (v : Verdict) → HasOneCapture scene.book → IsWriteVerdict scene t ls v → denial v ≡ None → full t ≡ or_full (denial (write_verdict scene t ls)) t
 alone_granted scene t ls v one h none = ap (λ (o : Option Refusal). or_full o t) (sym none ∙ ap denial (one_verdict scene t ls v one h))
 
-module _ (old : State) (now : ℕ) (who : Option Identity) (scene : Scene) (t : Tree) (write : Write) (scene_is : scene ≡ scene_for old now who) (tree_is : t ≡ tree_with old (write ∷ [])) where
+module _ (old : State) (now : ℕ) (who : Option Identity) (scene : Scene) (t : Tree) (write : Write) (scene_is : scene ≡ scene_for old now who) (tree_is : t ≡ tree_with old now (write ∷ [])) where
   pub set_judged : or_full (denial (write_verdict scene t (location write ∷ []))) t ≡ write_refusal_for old now who (write ∷ [])
   unfolding write_refusal_for
   set_judged = λ i. or_full (denial (write_verdict (scene_is i) (tree_is i) (location write ∷ []))) (tree_is i)

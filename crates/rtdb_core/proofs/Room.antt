@@ -36,9 +36,9 @@ room_of None tree h = by_room (nat_le (count tree) MAX_LOCATIONS) refl h
     by_room true e g = leb-true (count tree) MAX_LOCATIONS e
     by_room false e g = cc
 
-pub has_room : (old : State) (now : ℕ) (who : Option Identity) (writes : List Write) → write_refusal_for old now who writes ≡ None → count (tree_with old writes) ≤ MAX_LOCATIONS
+pub has_room : (old : State) (now : ℕ) (who : Option Identity) (writes : List Write) → write_refusal_for old now who writes ≡ None → count (tree_with old now writes) ≤ MAX_LOCATIONS
 unfolding write_refusal_for
-has_room old now who writes h = room_of (denial (verdict_for old now who writes)) (tree_with old writes) h
+has_room old now who writes h = room_of (denial (verdict_for old now who writes)) (tree_with old now writes) h
 
 -- a bound that is not reached
 pub has_more : (a b : ℕ) → b < a → nat_le a b ≡ false

@@ -2,19 +2,20 @@
 use Rattle.std.proofs.Common.{◌≡◌, ◌≢◌, ℕ, zero, suc, ◌+◌, ◌<◌, ◌≤◌, take, get_or, inl, Bool, true, false, ◌||◌, List, [], ◌∷◌, ◌++◌, length, length-append, append_assoc, append-nil, Some, None, true≢false, ⊎_elim, sym, ap, ◌∙◌, refl, subst, arith}
 use Rattle.std.specs.Str.{bytes_eq}
 use Rattle.std.specs.Bool.{OnFalse}
-use Rattle.std.specs.List.{AllByRecursion, list_any}
+use Rattle.std.specs.List.{AllByRecursion, AllWithin, list_any}
 use Rattle.std.proofs.lemmas.Bool.{cases_Bool}
 use Rattle.std.proofs.lemmas.List.{get_or_at, take_at}
 use Rattle.tree_model.specs.Key.{Key}
 use Rattle.tree_model.specs.Path.{Path, is_prefix}
 use Rattle.tree_model.specs.PathMap.{sub}
 use Rattle.tree_model.specs.Tree.{Tree, null}
-use Rattle.tree_model.specs.Write.{Write, location, proposed}
+use Rattle.tree_model.specs.Put.{location}
+use Rattle.tree_model.specs.Write.{Write, all_made, proposed}
 use Rattle.tree_model.proofs.Choices.{not_true, or_right, neither}
 use Rattle.tree_model.proofs.Lookups.{sub-sub}
 use Rattle.tree_model.proofs.Orders.{bytes_eq-self}
 use Rattle.tree_model.proofs.Paths.{prefix-append}
-use Rattle.tree_model.proofs.Proposals.{is_beside, prefix_is, sub-proposed_apart}
+use Rattle.tree_model.proofs.Merging.{is_beside, prefix_is, sub-merged_apart}
 use Rattle.listeners.specs.Query.{Query, IsLawfulQuery}
 use Rattle.listeners.specs.Selection.{selection, is_selected}
 use Rattle.listeners.specs.Working.Ranks.{is_among}
@@ -50,18 +51,22 @@ at_child l p k above h = let found = prefix_is l (p ++ k ∷ []) h in by_rest fo
 abbrev reaches : Path → Key → Write → Bool
 reaches p k w = is_prefix (p ++ k ∷ []) (location w)
 
-none_beside : (p : Path) (k : Key) (ws : List Write) → AllByRecursion (λ w. is_prefix (location w) p ≡ false) ws → list_any (reaches p k) ws ≡ false → list_any (is_beside (p ++ k ∷ [])) ws ≡ false
-none_beside p k [] above h = refl
-none_beside p k (w ∷ ws) above h =
+none_beside : (now : ℕ) (p : Path) (k : Key) (ws : List Write) → AllByRecursion (λ w. is_prefix (location w) p ≡ false) ws → list_any (reaches p k) ws ≡ false → list_any (is_beside (p ++ k ∷ [])) (all_made now ws) ≡ false
+none_beside now p k [] above h = refl
+none_beside now p k (w ∷ ws) above h =
     let apart = neither (reaches p k w) (list_any (reaches p k) ws) h in
     let not_above : is_prefix (location w) (p ++ k ∷ []) ≡ false = not_true _ (λ on. true≢false (sym (at_child (location w) p k above.0 on) ∙ apart.0)) in
-    (λ i. (not_above i || apart.0 i) || none_beside p k ws above.1 apart.1 i)
+    (λ i. (not_above i || apart.0 i) || none_beside now p k ws above.1 apart.1 i)
 
-stays_apart : (t : Tree) (ws : List Write) (p : Path) (k : Key) → AllByRecursion (λ w. is_prefix (location w) p ≡ false) ws → list_any (reaches p k) ws ≡ false → sub (sub t p) (k ∷ []) ≡ sub (sub (proposed t ws) p) (k ∷ [])
-stays_apart t ws p k above none =
+stays_apart : (t : Tree) (now : ℕ) (ws : List Write) (p : Path) (k : Key) → AllByRecursion (λ w. is_prefix (location w) p ≡ false) ws → list_any (reaches p k) ws ≡ false → sub (sub t p) (k ∷ []) ≡ sub (sub (proposed t ws now) p) (k ∷ [])
+stays_apart t now ws p k above none =
     sub-sub t p (k ∷ [])
-    ∙ sym (sub-proposed_apart t ws (p ++ k ∷ []) (none_beside p k ws above none))
-    ∙ sym (sub-sub (proposed t ws) p (k ∷ []))
+    ∙ sym (sub-merged_apart t (all_made now ws) (p ++ k ∷ []) (none_beside now p k ws above none))
+    ∙ sym (sub-sub (proposed t ws now) p (k ∷ []))
+
+pub all_within : (P : Write → Type 0) (ws : List Write) → AllWithin P ws 0 (length ws) → AllByRecursion P ws
+all_within P [] h = tt
+all_within P (w ∷ ws) h = (h 0 w (omega arith) (omega arith), all_within P ws (λ k d low high. h (suc k) d (omega arith) (omega arith)))
 
 -- ---- children that some write reaches
 
@@ -101,8 +106,8 @@ among_keys p k (w ∷ ws) h = ⊎_elim
     (cases_Bool (reaches p k w))
 
 -- where one write is all, no other child is reached
-pub alone_stays : (t : Tree) (w : Write) (p : Path) (key : Key) (rest : Path) → is_prefix (location w) p ≡ false → location w ≡ p ++ key ∷ rest → (k : Key) → k ≢ key → sub (sub t p) (k ∷ []) ≡ sub (sub (proposed t (w ∷ [])) p) (k ∷ [])
-alone_stays t w p key rest above at k other = stays_apart t (w ∷ []) p k (above, tt) (ap (λ b. b || false) (not_true (reaches p k w) (λ on.
+pub alone_stays : (t : Tree) (now : ℕ) (w : Write) (p : Path) (key : Key) (rest : Path) → is_prefix (location w) p ≡ false → location w ≡ p ++ key ∷ rest → (k : Key) → k ≢ key → sub (sub t p) (k ∷ []) ≡ sub (sub (proposed t (w ∷ []) now) p) (k ∷ [])
+alone_stays t now w p key rest above at k other = stays_apart t now (w ∷ []) p k (above, tt) (ap (λ b. b || false) (not_true (reaches p k w) (λ on.
     let own = goes_on p k w on in
     other (next_same p k key own.0 rest (sym own.1 ∙ at)))))
   where
@@ -162,24 +167,24 @@ from_false false P h e = h
 pub none_of_null : (query : Query) (k : Key) → false ≡ is_selected query null k
 none_of_null query k = none_chosen query null k None refl (sym (nothing_below (k ∷ [])))
 
-pub none_moves : (t : Tree) (ws : List Write) (p : Path) (query : Query) → IsLawfulQuery query → AllByRecursion (λ w. is_prefix (location w) p ≡ false) ws
-    → AllByRecursion (λ w. (k : Key) (rest : Path) → location w ≡ p ++ k ∷ rest → IsLeft query (sub t p) (sub (proposed t ws) p) k) ws
-    → false ≡ moves t (proposed t ws) p (Some query)
+pub none_moves : (t : Tree) (now : ℕ) (ws : List Write) (p : Path) (query : Query) → IsLawfulQuery query → AllByRecursion (λ w. is_prefix (location w) p ≡ false) ws
+    → AllByRecursion (λ w. (k : Key) (rest : Path) → location w ≡ p ++ k ∷ rest → IsLeft query (sub t p) (sub (proposed t ws now) p) k) ws
+    → false ≡ moves t (proposed t ws now) p (Some query)
 unfolding selection
-none_moves t ws p query lawful above left = sym ((moves_decides t (proposed t ws) p (Some query)).1 (selected_left query (sub t p) (sub (proposed t ws) p) each (all_keys ws) lawful other))
+none_moves t now ws p query lawful above left = sym ((moves_decides t (proposed t ws now) p (Some query)).1 (selected_left query (sub t p) (sub (proposed t ws now) p) each (all_keys ws) lawful other))
   where
-    at_key : (k : Key) (us : List Write) → AllByRecursion (λ w. (k : Key) (rest : Path) → location w ≡ p ++ k ∷ rest → IsLeft query (sub t p) (sub (proposed t ws) p) k) us → AllByRecursion (λ w. (rest : Path) → location w ≡ p ++ k ∷ rest → IsLeft query (sub t p) (sub (proposed t ws) p) k) us
+    at_key : (k : Key) (us : List Write) → AllByRecursion (λ w. (k : Key) (rest : Path) → location w ≡ p ++ k ∷ rest → IsLeft query (sub t p) (sub (proposed t ws now) p) k) us → AllByRecursion (λ w. (rest : Path) → location w ≡ p ++ k ∷ rest → IsLeft query (sub t p) (sub (proposed t ws now) p) k) us
     at_key k [] all = tt
     at_key k (w ∷ us) all = (all.0 k, at_key k us all.1)
 
-    each : (k : Key) → IsLeft query (sub t p) (sub (proposed t ws) p) k
+    each : (k : Key) → IsLeft query (sub t p) (sub (proposed t ws now) p) k
     each k = ⊎_elim
         (λ some. reached p k ws (at_key k ws left) some)
-        (λ none. inl (stays_apart t ws p k above none))
+        (λ none. inl (stays_apart t now ws p k above none))
         (cases_Bool (list_any (reaches p k) ws))
 
-    other : (k : Key) → is_among k (all_keys ws) ≡ false → sub (sub t p) (k ∷ []) ≡ sub (sub (proposed t ws) p) (k ∷ [])
-    other k out = stays_apart t ws p k above (not_true _ (λ some. true≢false (sym (among_keys p k ws some) ∙ out)))
+    other : (k : Key) → is_among k (all_keys ws) ≡ false → sub (sub t p) (k ∷ []) ≡ sub (sub (proposed t ws now) p) (k ∷ [])
+    other k out = stays_apart t now ws p k above (not_true _ (λ some. true≢false (sym (among_keys p k ws some) ∙ out)))
 
 pub one_moves : (t u : Tree) (p : Path) (query : Query) (k : Key) → IsMovedBy query (sub t p) (sub u p) k → true ≡ moves t u p (Some query)
 unfolding selection

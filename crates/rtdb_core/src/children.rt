@@ -6,16 +6,16 @@ ghost use Rattle.tree_model.specs.Key.{Key as KeyBytes};
 ghost use Rattle.tree_model.specs.Path.{Path as Keys, is_prefix};
 ghost use Rattle.tree_model.specs.PathMap.{sub};
 ghost use Rattle.tree_model.specs.Tree.{null, non_null};
-ghost use Rattle.tree_model.specs.Write.{location};
+ghost use Rattle.tree_model.specs.Put.{location};
 ghost use Rattle.path_capture.specs.Write.{tree_or_null};
 ghost use Rattle.listeners.specs.Selection.{is_selected};
 ghost use Rattle.rtdb_model.specs.Rejudged.{moves};
 ghost use Rattle.rtdb_core.specs.Working.Moved.{IsMovedBy, IsLeft};
 ghost use Rattle.rtdb_core.specs.Working.Passages.{IsPassage, tree_before, tree_after};
 
-use crate::passage::Passage;
+use crate::passage::{Passage, changes_at};
 use crate::selected::stored;
-use arena_snapshot::{View, is_changed_at};
+use arena_snapshot::View;
 use listeners::{Query, selects, selects_beside};
 use path_capture::{Path, Write, is_prefix_of};
 
@@ -88,7 +88,7 @@ fn moves_a_child(
     let key = at[front.len()].text();
     let is_seen = is_selected(before, query, key)
         || is_selected_after(before, after, query, key, is_alone);
-    is_seen && is_changed_at(passage.base, passage.writes, &at[..front.len() + 1])
+    is_seen && changes_at(passage, &at[..front.len() + 1])
 }
 
 // Whether a query selects the child of a key, where anything stands.

@@ -6,6 +6,7 @@ ghost use Rattle.path_capture.specs.Write.{tree_or_null};
 ghost use Rattle.rules_reader.specs.Place.{HasOneCapture};
 ghost use Rattle.rtdb_model.specs.State.{opening};
 ghost use Rattle.rtdb_model.specs.Borrowed.{reply_of, refusal_of, is_copied};
+ghost use Rattle.rtdb_model.specs.Filled.{IsFilled};
 ghost use Rattle.rtdb_model.specs.Step.{outcome, Step};
 ghost use Rattle.rtdb_core.specs.Planned.{IsPlanFor, after_of};
 ghost use Rattle.rtdb_core.specs.Working.Plans.{IsRefusedBy};
@@ -79,7 +80,8 @@ impl Core {
         session: u64,
         event: &'r Event,
     ) -> Result<Granted<'r, 'a>, BorrowedRefusal<'r>>
-        requires { now ≤ MAX_MOMENT }
+        requires moment { now ≤ MAX_MOMENT }
+        requires filled { IsFilled event.now }
         ensures granted { IfOk result (λ granted. IsPlanFor self.now now session event.now granted.reply granted.plan) }
         ensures refused { IfErr result (λ refusal. Step self.now now session event.now (Reply.Refused (refusal_of refusal)) self.now) }
     {
@@ -105,10 +107,21 @@ impl Core {
         self.machine.commit(plan.session(), event, plan.decisions())
     }
 
-    /// Answers one event of a session at a moment: [`Core::judge`] and [`Core::commit`], one after the other, and the
-    /// answer owned, at the cost of the trees and names that it has.
+    /// Answers one event of a session at a moment: [`Event::fill`], [`Core::judge`] and [`Core::commit`], one after the
+    /// other, and the answer owned, at the cost of the trees and names that it has.
     pub fn step(&mut self, arena: &mut Bump, now: u64, session: u64, event: Event) -> Reply
         requires { now ≤ MAX_MOMENT }
+        ensures { Step self.old now session event result self.new }
+    {
+        let mut event = event;
+        event.fill(now);
+        self.step_filled(arena, now, session, event)
+    }
+
+    // The same of an event in which no moment stands.
+    fn step_filled(&mut self, arena: &mut Bump, now: u64, session: u64, event: Event) -> Reply
+        requires moment { now ≤ MAX_MOMENT }
+        requires filled { IsFilled event }
         ensures { Step self.old now session event result self.new }
     {
         match self.judge_owned(arena, now, session, &event) {
@@ -128,7 +141,8 @@ impl Core {
         session: u64,
         event: &Event,
     ) -> Result<(Reply, Plan<'a>), Reply>
-        requires { now ≤ MAX_MOMENT }
+        requires moment { now ≤ MAX_MOMENT }
+        requires filled { IsFilled event.now }
         ensures reply { IfOk result (λ r. (outcome self.now now session event.now).reply ≡ r.0) }
         ensures plan { IfOk result (λ r. r.1 ≡ record { before = self.now; moment = now; session = session; event = event.now }) }
         ensures refused { IfErr result (λ reply. Step self.now now session event.now reply self.now) }

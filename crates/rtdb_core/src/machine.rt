@@ -2,10 +2,13 @@
 ghost use Rattle.std.specs.Prelude.{◌≡◌, true, ◌↔◌, map, ◌≤◌, ◌<◌, ◌^◌, ◌∷◌, ◌++◌, [], length, Some, None, Option, false, not, IsErr, IfOk, IfErr, IfSome, OnOk, OnErr, is_some, option_map};
 ghost use Rattle.std.specs.FinMap as map_of;
 ghost use Rattle.tree_model.specs.Tree.{non_null, count};
-ghost use Rattle.tree_model.specs.Write.{overlaps};
+ghost use Rattle.tree_model.specs.Put.{written, overlaps};
+ghost use Rattle.tree_model.specs.Draft.{IsFixed};
+ghost use Rattle.tree_model.specs.Write.{AreFixed};
+ghost use Rattle.rtdb_model.specs.Filled.{IsFilled};
 ghost use Rattle.path_capture.specs.Write.{tree_or_null};
 ghost use Rattle.rules_reader.specs.Place.{HasOneCapture};
-ghost use Rattle.tree_model.specs.Write.{location};
+ghost use Rattle.tree_model.specs.Put.{location};
 ghost use Rattle.judge.specs.Judging.{MayWriteAll};
 ghost use Rattle.judge.specs.Tests.{write_verdict};
 ghost use Rattle.judge.specs.Question.{scene_of};
@@ -104,6 +107,7 @@ impl Machine {
     ) -> Result<Found<'r, 'a>, BorrowedRefusal<'r>>
         requires moment { now ≤ MAX_MOMENT }
         requires heard { AllHeard self.now }
+        requires filled { IsFilled event.now }
         ensures found { IfOk result (IsFound self.now now session event.now) }
         ensures refused { IfErr result (λ refusal. Refuses self.now (outcome self.now now session event.now) (takes_no_memory self.now session event.now) (refusal_of refusal)) }
     {
@@ -294,7 +298,8 @@ impl Machine {
     ) -> Result<Found<'r, 'a>, BorrowedRefusal<'r>>
         requires moment { now ≤ MAX_MOMENT }
         requires heard { AllHeard self.now }
-        ensures found { IfOk result (λ found. Comes (sets self.now now session write.now) found (with_settled (with_tree self.now (write.now ∷ [])) found.decisions.made.items) × CanBeMade self.now session (write.now ∷ [])) }
+        requires fixed { IsFixed (written write.now) }
+        ensures found { IfOk result (λ found. Comes (sets self.now now session write.now) found (with_settled (with_tree self.now 0 (write.now ∷ [])) found.decisions.made.items) × CanBeMade self.now session (write.now ∷ [])) }
         ensures refused { IfErr result (λ refusal. Refuses self.now (sets self.now now session write.now) (not (is_open self.now session)) (refusal_of refusal)) }
     {
         let open = self.demand_open(session)?;
@@ -310,7 +315,8 @@ impl Machine {
     ) -> Result<Found<'r, 'a>, BorrowedRefusal<'r>>
         requires moment { now ≤ MAX_MOMENT }
         requires heard { AllHeard self.now }
-        ensures found { IfOk result (λ found. Comes (updates self.now now session writes.now) found (with_settled (with_tree self.now writes.now) found.decisions.made.items) × CanBeMade self.now session writes.now × (takes_no_memory self.now session (Event.Update writes.now) ≡ false)) }
+        requires fixed { AreFixed writes.now }
+        ensures found { IfOk result (λ found. Comes (updates self.now now session writes.now) found (with_settled (with_tree self.now 0 writes.now) found.decisions.made.items) × CanBeMade self.now session writes.now × (takes_no_memory self.now session (Event.Update writes.now) ≡ false)) }
         ensures refused { IfErr result (λ refusal. Refuses self.now (updates self.now now session writes.now) (takes_no_memory self.now session (Event.Update writes.now)) (refusal_of refusal)) }
     {
         let open = self.demand_open(session)?;
@@ -456,13 +462,14 @@ impl Machine {
         requires moment { now ≤ MAX_MOMENT }
         requires heard { AllHeard self.now }
         requires apart { overlaps writes.now ≡ false }
+        requires fixed { AreFixed writes.now }
         ensures granted { IfOk result (AreGranted self.now now (who_of who.entry) writes.now) }
         ensures refused { IfErr result (IsRefused (write_refusal_for self.now now (who_of who.entry) writes.now)) }
     {
         reset(arena)?;
         let arena: &'a Bump = arena;
         let lent: &'r Bump = arena;
-        let coming = overlay(lent, self.tree.as_ref(), writes)?;
+        let coming = overlay(lent, self.tree.as_ref(), writes, now)?;
         if let Some(refusal) = self.write_refusal(lent, now, who, writes, &coming)? {
             return Err(refusal);
         }
@@ -481,7 +488,7 @@ impl Machine {
     ) -> Result<Option<BorrowedRefusal<'r>>, NoMemory>
         requires moment { now ≤ MAX_MOMENT }
         requires apart { overlaps writes.now ≡ false }
-        requires proposes { tree_or_null coming.now ≡ tree_with self.now writes.now }
+        requires proposes { tree_or_null coming.now ≡ tree_with self.now now writes.now }
         ensures { IfOk result (λ refusal. option_map refusal_of refusal ≡ write_refusal_for self.now now (who_of who.entry) writes.now) }
     {
         match writes {
@@ -500,7 +507,7 @@ impl Machine {
         coming: &Option<View<'r>>,
     ) -> Result<Option<BorrowedRefusal<'r>>, NoMemory>
         requires moment { now ≤ MAX_MOMENT }
-        requires proposes { tree_or_null coming.now ≡ tree_with self.now (write.now ∷ []) }
+        requires proposes { tree_or_null coming.now ≡ tree_with self.now now (write.now ∷ []) }
         ensures { IfOk result (λ refusal. option_map refusal_of refusal ≡ write_refusal_for self.now now (who_of who.entry) (write.now ∷ [])) }
     {
         self.rules();
@@ -521,7 +528,7 @@ impl Machine {
         coming: &Option<View<'r>>,
     ) -> Result<Option<BorrowedRefusal<'r>>, NoMemory>
         requires moment { now ≤ MAX_MOMENT }
-        requires proposes { tree_or_null coming.now ≡ tree_with self.now writes.now }
+        requires proposes { tree_or_null coming.now ≡ tree_with self.now now writes.now }
         ensures { IfOk result (λ refusal. option_map refusal_of refusal ≡ write_refusal_for self.now now (who_of who.entry) writes.now) }
     {
         self.rules();
@@ -651,8 +658,9 @@ impl Machine {
         requires moment { now ≤ MAX_MOMENT }
         requires heard { AllHeard self.now }
         requires apart { overlaps writes.now ≡ false }
-        requires proposes { tree_or_null coming ≡ tree_with self.now writes.now }
-        ensures { IfOk result (λ decisions. with_settled (with_tree self.now writes.now) decisions.made.items ≡ written_to self.now now writes.now) }
+        requires fixed { AreFixed writes.now }
+        requires proposes { tree_or_null coming ≡ tree_with self.now now writes.now }
+        ensures { IfOk result (λ decisions. with_settled (with_tree self.now now writes.now) decisions.made.items ≡ written_to self.now now writes.now) }
     {
         let passage = Passage {
             rules: &self.rules,
@@ -768,8 +776,9 @@ impl Machine {
 
     // Makes a write in the tree, and what was decided.
     fn make(&mut self, write: Write, decisions: &[Decision]) -> Result<(), NoMemory>
-        requires { count (tree_with self.old (write ∷ [])) ≤ MAX_LOCATIONS }
-        ensures ok { OnOk result (self.new ≡ with_settled (with_tree self.old (write ∷ [])) decisions.now) }
+        requires fixed { IsFixed (written write) }
+        requires room { count (tree_with self.old 0 (write ∷ [])) ≤ MAX_LOCATIONS }
+        ensures ok { OnOk result (self.new ≡ with_settled (with_tree self.old 0 (write ∷ [])) decisions.now) }
         ensures err { OnErr result (self.new ≡ self.old) }
     {
         self.put(write)?;
@@ -780,8 +789,9 @@ impl Machine {
     // Makes the writes of an update in the tree, all of them or none, and then what was decided.
     fn make_update(&mut self, writes: Writes, decisions: &[Decision]) -> Result<(), NoMemory>
         requires apart { overlaps writes ≡ false }
-        requires room { count (tree_with self.old writes) ≤ MAX_LOCATIONS }
-        ensures ok { OnOk result (self.new ≡ with_settled (with_tree self.old writes) decisions.now) }
+        requires fixed { AreFixed writes }
+        requires room { count (tree_with self.old 0 writes) ≤ MAX_LOCATIONS }
+        ensures ok { OnOk result (self.new ≡ with_settled (with_tree self.old 0 writes) decisions.now) }
         ensures err { OnErr result (self.new ≡ self.old) }
     {
         self.put_all(writes.into_vec())?;
@@ -791,8 +801,9 @@ impl Machine {
 
     // Makes a write in the tree.
     fn put(&mut self, write: Write) -> Result<(), NoMemory>
-        requires { count (tree_with self.old (write ∷ [])) ≤ MAX_LOCATIONS }
-        ensures ok { OnOk result (self.new ≡ with_tree self.old (write ∷ [])) }
+        requires fixed { IsFixed (written write) }
+        requires room { count (tree_with self.old 0 (write ∷ [])) ≤ MAX_LOCATIONS }
+        ensures ok { OnOk result (self.new ≡ with_tree self.old 0 (write ∷ [])) }
         ensures err { OnErr result (self.new ≡ self.old) }
     {
         write.make(self.alloc, &mut self.tree)
@@ -801,8 +812,9 @@ impl Machine {
     // Makes all of these writes in the tree, or none.
     fn put_all(&mut self, writes: Vec<Write>) -> Result<(), NoMemory>
         requires apart { overlaps writes.items ≡ false }
-        requires room { count (tree_with self.old writes.items) ≤ MAX_LOCATIONS }
-        ensures ok { OnOk result (self.new ≡ with_tree self.old writes.items) }
+        requires fixed { AreFixed writes.items }
+        requires room { count (tree_with self.old 0 writes.items) ≤ MAX_LOCATIONS }
+        ensures ok { OnOk result (self.new ≡ with_tree self.old 0 writes.items) }
         ensures err { OnErr result (self.new ≡ self.old) }
     {
         make_all(self.alloc, &mut self.tree, writes)

@@ -10,10 +10,10 @@ ghost use Rattle.rtdb_model.specs.Rejudged.{moves, same_tree};
 ghost use Rattle.rtdb_core.specs.Working.Passages.{IsPassage, tree_before, tree_after};
 
 use crate::children::{a_child_moves, reach_few_children};
-use crate::passage::Passage;
+use crate::passage::{Passage, changes_at};
 use crate::scratch::Scratch;
 use crate::selected::stored;
-use arena_snapshot::{View, is_changed_at, same};
+use arena_snapshot::{View, same};
 use bumpalo::Bump;
 use json_tree::{Key, NoMemory};
 use listeners::{Query, select};
@@ -83,13 +83,13 @@ impl<'a, 'p, 's> Moved<'a, 'p, 's> {
         ensures same { self.new ≡ self.old }
     {
         if is_elsewhere(self.passage.writes, place) {
-            return is_changed_at(self.passage.base, self.passage.writes, place);
+            return changes_at(self.passage, place);
         }
         let index = index_of(&self.known, place);
         if let Some(has_changed) = self.known_at(index, place) {
             return has_changed;
         }
-        let has_changed = is_changed_at(self.passage.base, self.passage.writes, place);
+        let has_changed = changes_at(self.passage, place);
         self.note(index, place, has_changed);
         has_changed
     }

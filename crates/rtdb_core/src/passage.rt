@@ -1,6 +1,7 @@
 //! A step that judges listeners: the rules and the tree after it, and how the tree has changed.
-ghost use Rattle.std.specs.Prelude.{◌≡◌, ◌≤◌, Option, option_map, false, true, IfOk};
-ghost use Rattle.std.specs.Bool.{OnTrue};
+ghost use Rattle.std.specs.Prelude.{◌≡◌, ◌≢◌, ◌≤◌, Option, option_map, false, true, IfOk};
+ghost use Rattle.std.specs.Bool.{OnTrue, OnFalse};
+ghost use Rattle.tree_model.specs.PathMap.{sub};
 ghost use Rattle.arena_snapshot.specs.View.{node_or_null};
 ghost use Rattle.listeners.specs.Listener.{seen};
 ghost use Rattle.judge.specs.Question.{scene_of};
@@ -13,10 +14,10 @@ use crate::fates::Fate;
 use crate::moved::Moved;
 use crate::scratch::Scratch;
 use crate::selected::{asked_for, stored};
-use arena_snapshot::View;
+use arena_snapshot::{View, is_changed_at};
 use bumpalo::Bump;
 use evaluator::{Identity, MAX_MOMENT, Moment};
-use json_tree::{NoMemory, Node};
+use json_tree::{Key, NoMemory, Node};
 use judge::{Scene, may_read, watched};
 use listeners::Listener;
 use path_capture::{Path, Write};
@@ -60,6 +61,15 @@ impl<'a> Passage<'a> {
             was_heard,
         }
     }
+}
+
+/// Whether another tree stands below these keys after the step.
+pub(crate) fn changes_at(passage: &Passage<'_>, keys: &[Key]) -> bool
+    requires { IsPassage passage.now }
+    ensures changed { OnTrue result (sub (tree_after passage.now) keys.now ≢ sub (tree_before passage.now) keys.now) }
+    ensures unchanged { OnFalse result (sub (tree_after passage.now) keys.now ≡ sub (tree_before passage.now) keys.now) }
+{
+    is_changed_at(passage.base, passage.writes, keys)
 }
 
 /// What becomes of a listener of whoever is signed in. Its rules are evaluated only where it may be that

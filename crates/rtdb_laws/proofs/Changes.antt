@@ -3,7 +3,7 @@ use Rattle.std.proofs.Common.{◌≡◌, ℕ, Bool, true, false, not, cond, eqb,
 use Rattle.std.proofs.lemmas.Bool.{false≢true, eqb-true}
 use Rattle.std.specs.Prelude.{◌==◌}
 use Rattle.std.specs.FinMap as map_of
-use Rattle.tree_model.specs.Write.{overlaps}
+use Rattle.tree_model.specs.Put.{overlaps}
 use Rattle.evaluator.specs.Identity.{Identity}
 use Rattle.listeners.specs.declared.limits.TheConstants.{MAX_LISTENERS}
 use Rattle.listeners.specs.Table.{Listener, has_id}

@@ -7,7 +7,8 @@ use Rattle.std.specs.List.{cons_option}
 use Rattle.std.specs.FinMap as map_of
 use Rattle.tree_model.specs.Path.{Path}
 use Rattle.tree_model.specs.Tree.{Tree, non_null}
-use Rattle.tree_model.specs.Write.{Write, overlaps}
+use Rattle.tree_model.specs.Put.{overlaps}
+use Rattle.tree_model.specs.Write.{Write}
 use Rattle.tree_model.proofs.Orders.{same_key}
 use Rattle.evaluator.specs.Identity.{Identity}
 use Rattle.rules_reader.specs.Book.{Book}
@@ -303,7 +304,7 @@ module _ (old : State) (now m n : ℕ) (id : List ℕ) where
   make_goes : (event : Event) (writes : List Write) → GoesAt event (makes old now m writes)
   make_goes event writes =
       unless_goes old (the_call now m event) id n (write_refusal old now m writes) _
-      (all_goes old (the_call now m event) id n (record { tree = tree_with old writes; rules = old.rules; sessions = old.sessions }) refl)
+      (all_goes old (the_call now m event) id n (record { tree = tree_with old now writes; rules = old.rules; sessions = old.sessions }) refl)
 
   set_goes : (event : Event) (write : Write) → GoesAt event (sets old now m write)
   set_goes event write = test_goes old (the_call now m event) id n (not (is_open old m)) NoSession _ (λ _. make_goes event (write ∷ []))

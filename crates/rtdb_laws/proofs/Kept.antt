@@ -7,7 +7,8 @@ use Rattle.std.specs.FinMap as map_of
 use Rattle.std.specs.Ordering.{nat_cmp}
 use Rattle.tree_model.specs.Path.{Path}
 use Rattle.tree_model.specs.Tree.{Tree, non_null}
-use Rattle.tree_model.specs.Write.{Write, overlaps}
+use Rattle.tree_model.specs.Put.{overlaps}
+use Rattle.tree_model.specs.Write.{Write}
 use Rattle.tree_model.proofs.Orders.{bytes_eq-self, bytes_eq-swap}
 use Rattle.evaluator.specs.Identity.{Identity}
 use Rattle.rules_reader.specs.Book.{Book}
@@ -202,7 +203,7 @@ module _ (old : State) (now n : ℕ) (steps : List Taken) (before : AreHistory o
   make_keeps : (event : Event) (writes : List Write) → is_of_all event ≡ true → is_poll event ≡ false → ((id : List ℕ) → asked_under id event ≡ None) → KeepsAt event (makes old now n writes)
   make_keeps event writes all poll none =
       unless_keeps old (the_call now n event) steps before (write_refusal old now n writes) _
-      (all_keeps old (the_call now n event) steps before (record { tree = tree_with old writes; rules = old.rules; sessions = old.sessions }) refl all poll none)
+      (all_keeps old (the_call now n event) steps before (record { tree = tree_with old now writes; rules = old.rules; sessions = old.sessions }) refl all poll none)
 
   set_keeps : (event : Event) (write : Write) → is_of_all event ≡ true → is_poll event ≡ false → ((id : List ℕ) → asked_under id event ≡ None) → KeepsAt event (sets old now n write)
   set_keeps event write all poll none =

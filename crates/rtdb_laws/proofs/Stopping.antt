@@ -6,7 +6,9 @@ use Rattle.std.specs.Prelude.{nat_le}
 use Rattle.std.specs.FinMap as map_of
 use Rattle.tree_model.specs.Path.{Path}
 use Rattle.tree_model.specs.Tree.{Tree, count}
-use Rattle.tree_model.specs.Write.{Write, overlaps}
+use Rattle.tree_model.specs.Put.{overlaps}
+use Rattle.tree_model.specs.Draft.{Draft}
+use Rattle.tree_model.specs.Write.{Write}
 use Rattle.judge.specs.declared.verdict.Verdict.{Verdict}
 use Rattle.judge.specs.declared.verdict.Verdict.TheVariants as verdicts
 use Rattle.judge.specs.Tests.{read_verdict}
@@ -83,7 +85,7 @@ or_full_late (Some refusal) tree h = h
 
 write_late : (old : State) (now session : ℕ) (writes : List Write) → AreLate (write_refusal old now session writes)
 unfolding write_refusal
-write_late old now session writes = or_full_late (denial (verdict_on old now session writes)) (tree_with old writes) (denial_late (verdict_on old now session writes))
+write_late old now session writes = or_full_late (denial (verdict_on old now session writes)) (tree_with old now writes) (denial_late (verdict_on old now session writes))
 
 read_late : (old : State) (now session : ℕ) (path : Path) (query : Option Query) → AreLate (read_refusal old now session path query)
 unfolding read_refusal
@@ -308,7 +310,7 @@ module _ (old : State) (session : ℕ) where
   stopped_takes_none event TooManySessions h = ap none_for h.0 ∙ last_of_two (is_open old session) (nat_le MAX_SESSIONS (map_of.len old.sessions)) (within MAX_SESSIONS (map_of.len old.sessions) h.2)
   stopped_takes_none event NoSession h = closed_takes_none event h.0 h.1
   stopped_takes_none event NotAdmin h = ap none_for h.1 ∙ last_of_two (not (is_open old session)) (not (is_admin (identity_of old session))) (ap not h.3)
-  stopped_takes_none event EmptyUpdate h = ap none_for h.0 ∙ middle_of_three (not (is_open old session)) true (overlaps []) refl
+  stopped_takes_none event EmptyUpdate h = ap none_for h.0 ∙ middle_of_three (not (is_open old session)) true (overlaps {Y = Draft} []) refl
   stopped_takes_none event Overlap h = ap none_for h.1 ∙ last_of_two (not (is_open old session) || length h.0 == 0) (overlaps h.0) h.3
   stopped_takes_none event DuplicateId h = ap none_for h.3 ∙ middle_of_three (not (is_open old session)) (has_id h.0 (listeners_of old session)) (nat_le MAX_LISTENERS (length (listeners_of old session))) h.5
   stopped_takes_none event TooManyListeners h = ap none_for h.3 ∙ last_of_two (not (is_open old session) || has_id h.0 (listeners_of old session)) (nat_le MAX_LISTENERS (length (listeners_of old session))) (within MAX_LISTENERS (length (listeners_of old session)) h.6)

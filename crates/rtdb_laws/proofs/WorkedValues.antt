@@ -12,7 +12,8 @@ use Rattle.tree_model.specs.Key.{Key}
 use Rattle.tree_model.specs.Path.{Path, path_cmp, is_prefix, prefixes}
 use Rattle.tree_model.specs.PathMap.{sub, exists}
 use Rattle.tree_model.specs.Tree.{Tree, non_null, count}
-use Rattle.tree_model.specs.Write.{Write, location, proposed}
+use Rattle.tree_model.specs.Put.{location}
+use Rattle.tree_model.specs.Write.{Write, proposed}
 use Rattle.tree_model.proofs.Orders.{paths_total}
 use Rattle.expr_parser.specs.Tree.{SyntaxTree as Expression}
 use Rattle.expr_types.specs.Checked.{Checked}
@@ -191,7 +192,7 @@ module _ (x y : Expression) where
 
     pub write_denied : (a : Outcome) (why : Why) → ((env : Env) → outcome y env ≡ a) → why_of a ≡ Some why → (now : ℕ) (write : Write) → Step state now 1 (Set write) (Refused (WriteDenied (location write) (root_alone why))) state
     write_denied a why is reason now write = steps_so now 1 (Set write) _ state (λ other new n j.
-        let q = writing (scene_at state now 1) (tree_with state (write ∷ [])) in
+        let q = writing (scene_at state now 1) (tree_with state now (write ∷ [])) in
         let told = (j.write (write ∷ []) refl).denies n (one_judged write) (location write) (least q) ∙ ap (λ (ns : List Named). Refused (WriteDenied (location write) ns)) (named_so q refl write_rules _ refl a why is reason (location write)) in
         (told, j.refused _ told))
       where
@@ -217,11 +218,11 @@ module _ (x y : Expression) where
         least : (q : Question) → IsLeastDenied state now 1 (write ∷ []) (location write)
         least q = record {
           among = (0, omega arith, refl);
-          refused = not_granted (writing (scene_at state now 1) (tree_with state (write ∷ []))) refl write_rules _ refl a is fails (location write);
+          refused = not_granted (writing (scene_at state now 1) (tree_with state now (write ∷ []))) refl write_rules _ refl a is fails (location write);
           least = λ other among denied. subst (λ (p : Path). path_cmp p (location write) ≢ Less) (only other among) itself;
         }
 
-    pub write_made : ((env : Env) → outcome y env ≡ Yes) → (now : ℕ) (write : Write) → count (proposed tree (write ∷ [])) ≤ MAX_LOCATIONS → (after : State) × Step state now 1 (Set write) Done after × (after.tree ≡ proposed tree (write ∷ []))
+    pub write_made : ((env : Env) → outcome y env ≡ Yes) → (now : ℕ) (write : Write) → count (proposed tree (write ∷ []) now) ≤ MAX_LOCATIONS → (after : State) × Step state now 1 (Set write) Done after × (after.tree ≡ proposed tree (write ∷ []) now)
     write_made is now write fits =
         let answer = some_answer state now 1 (Set write) in
         let j = judged state answer.1 (record { now = now; session = 1; event = Set write }) answer.0 one answer.3 in
@@ -229,7 +230,7 @@ module _ (x y : Expression) where
         (answer.1, subst (λ (r : Reply). Step state now 1 (Set write) r answer.1) made.0 answer.3, ap (λ (s : State). s.tree) made.1)
       where
         asked : Question
-        asked = writing (scene_at state now 1) (tree_with state (write ∷ []))
+        asked = writing (scene_at state now 1) (tree_with state now (write ∷ []))
 
         granted : GrantsAll state now 1 (write ∷ [])
         granted at among = granted_by asked refl write_rules _ refl is at

@@ -4,7 +4,8 @@ use Rattle.std.specs.Prelude.{nat_le}
 use Rattle.std.proofs.lemmas.Bool.{false≢true, leb-true, leb-false, eqb-true}
 use Rattle.tree_model.specs.Path.{Path}
 use Rattle.tree_model.specs.Tree.{count}
-use Rattle.tree_model.specs.Write.{Write, location, overlaps}
+use Rattle.tree_model.specs.Put.{location, overlaps}
+use Rattle.tree_model.specs.Write.{Write}
 use Rattle.path_capture.specs.Pattern as parts
 use Rattle.path_capture.specs.Pattern.{part_of_text}
 use Rattle.rules_reader.specs.Part.{Pattern, texts}
@@ -55,11 +56,11 @@ module _ (old : State) (now session : ℕ) (all : List Write) where
   WriteJudged o = IsWriteJudged old now session all o.reply o.after
 
   abbrev IsVerdict : Verdict → Type 0
-  IsVerdict v = IsWriteVerdict (scene_at old now session) (tree_with old all) (map location all) v
+  IsVerdict v = IsWriteVerdict (scene_at old now session) (tree_with old now all) (map location all) v
 
   -- what is asked of the rules
   abbrev asked : Question
-  asked = writing (scene_at old now session) (tree_with old all)
+  asked = writing (scene_at old now session) (tree_with old now all)
 
   abbrev done : Outcome
   done = record { reply = Done; after = written_to old now all }
@@ -98,7 +99,7 @@ module _ (old : State) (now session : ℕ) (all : List Write) where
         never : None ≡ Some why → ⊥
         never e = cc
 
-    write_made : GrantsAll old now session all → Validates old now session all → Fits old all → WriteJudged done
+    write_made : GrantsAll old now session all → Validates old now session all → Fits old now all → WriteJudged done
     write_made granted valid fits = record {
       makes = λ _ _ _ _ _. (refl, refl);
       denies = λ _ _ at l. absurd (l.refused (granted at l.among));
@@ -111,7 +112,7 @@ module _ (old : State) (now session : ℕ) (all : List Write) where
       overflowed = λ e. cc;
     }
 
-    write_full : GrantsAll old now session all → Validates old now session all → Overflows old all → WriteJudged (refused old TreeFull)
+    write_full : GrantsAll old now session all → Validates old now session all → Overflows old now all → WriteJudged (refused old TreeFull)
     write_full granted valid over = record {
       makes = λ _ _ _ _ fits. absurd (omega arith);
       denies = λ _ _ at l. absurd (l.refused (granted at l.among));
@@ -174,14 +175,14 @@ module _ (old : State) (now session : ℕ) (all : List Write) where
         told : (other : Path) (p : parts.Pattern) (w : Why) → Refused (ValidateDenied at pattern why) ≡ Refused (ValidateDenied other p w) → FailsFirst old now session all other (texts p) w
         told other p w e = let b = back other p w e in subst (λ (x : Path). FailsFirst old now session all x (texts p) w) b.0 (subst (λ (x : parts.Pattern). FailsFirst old now session all at (texts x) w) b.1 (subst (λ (x : Why). FailsFirst old now session all at (texts pattern) x) b.2 h.1))
 
-    by_room : GrantsAll old now session all → Validates old now session all → WriteJudged (unless_refused old (full (tree_with old all)) done)
-    by_room granted valid = within (nat_le (count (tree_with old all)) MAX_LOCATIONS) refl
+    by_room : GrantsAll old now session all → Validates old now session all → WriteJudged (unless_refused old (full (tree_with old now all)) done)
+    by_room granted valid = within (nat_le (count (tree_with old now all)) MAX_LOCATIONS) refl
       where
-        within : (b : Bool) → nat_le (count (tree_with old all)) MAX_LOCATIONS ≡ b → WriteJudged (unless_refused old (cond b None (Some TreeFull)) done)
-        within true e = write_made granted valid (leb-true (count (tree_with old all)) MAX_LOCATIONS e)
-        within false e = write_full granted valid (leb-false (count (tree_with old all)) MAX_LOCATIONS e)
+        within : (b : Bool) → nat_le (count (tree_with old now all)) MAX_LOCATIONS ≡ b → WriteJudged (unless_refused old (cond b None (Some TreeFull)) done)
+        within true e = write_made granted valid (leb-true (count (tree_with old now all)) MAX_LOCATIONS e)
+        within false e = write_full granted valid (leb-false (count (tree_with old now all)) MAX_LOCATIONS e)
 
-    by_verdict : HasOneCapture old.rules → (v : Verdict) → IsVerdict v → ((w : Verdict) → IsVerdict w → w ≡ v) → WriteJudged (unless_refused old (or_full (denial v) (tree_with old all)) done)
+    by_verdict : HasOneCapture old.rules → (v : Verdict) → IsVerdict v → ((w : Verdict) → IsVerdict w → w ≡ v) → WriteJudged (unless_refused old (or_full (denial v) (tree_with old now all)) done)
     by_verdict one verdicts.Granted h only = by_room h.0 h.1
     by_verdict one (verdicts.ReadDenied named) h only = absurd h
     by_verdict one (verdicts.WriteDenied at named) h only = write_denied one at named h only
@@ -191,8 +192,8 @@ module _ (old : State) (now session : ℕ) (all : List Write) where
     unfolding write_refusal
     makes_judged one =
         by_verdict one (verdict_on old now session all)
-        (writes_decided (scene_at old now session) (tree_with old all) (map location all) (verdict_on old now session all) refl)
-        (λ w h. one_verdict (scene_at old now session) (tree_with old all) (map location all) w one h)
+        (writes_decided (scene_at old now session) (tree_with old now all) (map location all) (verdict_on old now session all) refl)
+        (λ w h. one_verdict (scene_at old now session) (tree_with old now all) (map location all) w one h)
 
 -- ---- the events
 

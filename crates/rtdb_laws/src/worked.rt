@@ -4,7 +4,8 @@ ghost use Rattle.std.specs.Prelude.{◌≡◌, ℕ, ◌≤◌, [], ◌∷◌, No
 ghost use Rattle.tree_model.specs.Path.{Path};
 ghost use Rattle.tree_model.specs.PathMap.{sub};
 ghost use Rattle.tree_model.specs.Tree.{Tree, non_null, count};
-ghost use Rattle.tree_model.specs.Write.{Write, location, proposed};
+ghost use Rattle.tree_model.specs.Put.{location};
+ghost use Rattle.tree_model.specs.Write.{Write, proposed};
 ghost use Rattle.expr_parser.specs.Tree.{True, False, Null};
 ghost use Rattle.judge.specs.declared.verdict.Why.TheVariants.{No, Erred};
 ghost use Rattle.rtdb_model.specs.declared.event.Event.{Event};
@@ -28,5 +29,5 @@ pub fn what_reads_are_answered()
 /// root is named. Under one that is true it is made, where the tree has room. It does nothing.
 pub fn what_writes_are_answered()
     ensures is_false { (tree : Tree) (now : ℕ) (write : Write) → Step (one_session (at_the_root True False) tree) now 1 (Event.Set write) (Reply.Refused (Refusal.WriteDenied (location write) (root_alone No))) (one_session (at_the_root True False) tree) }
-    ensures is_true { (tree : Tree) (now : ℕ) (write : Write) → count (proposed tree (write ∷ [])) ≤ 65536 → (after : State) × Step (one_session (at_the_root False True) tree) now 1 (Event.Set write) Reply.Done after × (after.tree ≡ proposed tree (write ∷ [])) }
+    ensures is_true { (tree : Tree) (now : ℕ) (write : Write) → count (proposed tree (write ∷ []) now) ≤ 65536 → (after : State) × Step (one_session (at_the_root False True) tree) now 1 (Event.Set write) Reply.Done after × (after.tree ≡ proposed tree (write ∷ []) now) }
 {}

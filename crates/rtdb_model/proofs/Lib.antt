@@ -4,3 +4,4 @@ pub mod Histories
 pub mod Outcomes
 pub mod Answers
 pub mod Paths
+pub mod Filling

@@ -7,7 +7,8 @@ use Rattle.std.specs.Ordering.{nat_cmp, eq_by_cmp}
 use Rattle.std.specs.Cmp.{nat_cmp_total, unsigned_tied}
 use Rattle.tree_model.specs.Path.{Path}
 use Rattle.tree_model.specs.Tree.{Tree, non_null, count}
-use Rattle.tree_model.specs.Write.{Write, overlaps}
+use Rattle.tree_model.specs.Put.{overlaps}
+use Rattle.tree_model.specs.Write.{Write}
 use Rattle.judge.specs.declared.verdict.Verdict.{Verdict}
 use Rattle.judge.specs.declared.verdict.Verdict.TheVariants as verdicts
 use Rattle.judge.specs.Tests.{read_verdict}
@@ -109,7 +110,7 @@ or_full_wants_none (Some refusal) tree h = h
 
 write_wants_none : (old : State) (now session : ℕ) (writes : List Write) → WantsNone (write_refusal old now session writes)
 unfolding write_refusal
-write_wants_none old now session writes = or_full_wants_none (denial (verdict_on old now session writes)) (tree_with old writes) (denial_wants_none (verdict_on old now session writes))
+write_wants_none old now session writes = or_full_wants_none (denial (verdict_on old now session writes)) (tree_with old now writes) (denial_wants_none (verdict_on old now session writes))
 
 read_wants_none : (old : State) (now session : ℕ) (path : Path) (query : Option Query) → WantsNone (read_refusal old now session path query)
 unfolding read_refusal
@@ -158,7 +159,7 @@ module _ (old : State) (session : ℕ) where
   fine_makes : (now : ℕ) (event : Event) (writes : List Write) → rules_by event old.rules ≡ old.rules → ((before : Option Identity) → identity_by event before ≡ before) → IsFine old session event (makes old now session writes)
   fine_makes now event writes keeps leaves =
       unless old session event (write_refusal old now session writes) (record { reply = Done; after = written_to old now writes }) (write_wants_none old now session writes)
-      (fine_all now event (record { tree = tree_with old writes; rules = old.rules; sessions = old.sessions }) refl (sym keeps) leaves)
+      (fine_all now event (record { tree = tree_with old now writes; rules = old.rules; sessions = old.sessions }) refl (sym keeps) leaves)
 
   fine_set : (now : ℕ) (event : Event) (write : Write) → rules_by event old.rules ≡ old.rules → ((before : Option Identity) → identity_by event before ≡ before) → IsFine old session event (sets old now session write)
   fine_set now event write keeps leaves =

@@ -3,7 +3,7 @@ use Rattle.std.specs.Prelude.{◌≡◌, ℕ, List, Option, None, Some, refl}
 use Rattle.std.proofs.Common.{inl, inr, ◌⊎◌}
 use Rattle.std.specs.Coded.{Coded, code_by, coded×, coded⊎, coded_ℕ, coded_list, coded_option}
 use Rattle.tree_model.specs.Path.{Path}
-use Rattle.tree_model.specs.Tree.{tree_code}
+use Rattle.tree_model.specs.Draft.{draft_code}
 use Rattle.tree_model.specs.Write.{Write}
 use Rattle.evaluator.specs.Identity.{Identity, identity_code}
 use Rattle.listeners.specs.Query.{Query, query_code}
@@ -75,7 +75,7 @@ abbrev path_code : Coded Path
 path_code = coded_list (coded_list coded_ℕ)
 
 abbrev write_code : Coded Write
-write_code = coded× path_code tree_code
+write_code = coded× path_code draft_code
 
 abbrev asked_code : Coded Asked
 asked_code = coded× path_code (coded_option query_code)

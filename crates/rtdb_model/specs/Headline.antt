@@ -4,7 +4,8 @@ use Rattle.std.specs.FinMap as map_of
 use Rattle.tree_model.specs.Path.{Path}
 use Rattle.tree_model.specs.PathMap.{sub}
 use Rattle.tree_model.specs.Tree.{Tree, non_null, count}
-use Rattle.tree_model.specs.Write.{Write, location, overlaps}
+use Rattle.tree_model.specs.Put.{location, overlaps}
+use Rattle.tree_model.specs.Write.{Write}
 use Rattle.path_capture.specs.Pattern as parts
 use Rattle.path_capture.specs.Pattern.{part_of_text}
 use Rattle.rules_reader.specs.Part.{Pattern, texts}
@@ -212,42 +213,42 @@ pub record AreJudged (before : State) (session : ℕ) (writes : List Write) : Ty
 
 -- the rules in force grant this session each of these writes at this moment, for who is signed in on it: at its location or at a prefix of it a `.write` holds, which sees as `newData` the tree that all of them propose together. (Guide "Core syntax", `.read` and `.write` rules cascade.)
 abbrev pub GrantsAll : State → ℕ → ℕ → List Write → Type 0
-GrantsAll before now session writes = MayWriteAll (scene_at before now session) (tree_with before writes) (map location writes)
+GrantsAll before now session writes = MayWriteAll (scene_at before now session) (tree_with before now writes) (map location writes)
 
 -- the location is the least of those that are not granted, by the list of keys, each by its bytes, a prefix first
 abbrev pub IsLeastDenied : State → ℕ → ℕ → List Write → Path → Type 0
-IsLeastDenied before now session writes at = IsLeastRefused (scene_at before now session) (tree_with before writes) (map location writes) at
+IsLeastDenied before now session writes at = IsLeastRefused (scene_at before now session) (tree_with before now writes) (map location writes) at
 
 -- the `.write` rules that stand at the location or at a prefix of it and do not hold there, each with the reason, the shortest pattern first; `AreOwed` says it
 abbrev pub named_for_write : State → ℕ → ℕ → List Write → Path → List Named
-named_for_write before now session writes at = named_rules (writing (scene_at before now session) (tree_with before writes)) write_rules at
+named_for_write before now session writes at = named_rules (writing (scene_at before now session) (tree_with before now writes)) write_rules at
 
 -- the rules in force validate these writes of this session: each `.validate` holds where it stands at a place that exists in the tree that they propose, at, above or below one of their locations. (Guide "Core syntax", `.validate` rules do not cascade.)
 abbrev pub Validates : State → ℕ → ℕ → List Write → Type 0
-Validates before now session writes = IsValid (scene_at before now session) (tree_with before writes) (map location writes)
+Validates before now session writes = IsValid (scene_at before now session) (tree_with before now writes) (map location writes)
 
 -- at this place, the first such, the `.validate` of this pattern does not hold, for this reason
 abbrev pub FailsFirst : State → ℕ → ℕ → List Write → Path → Pattern → Why → Type 0
-FailsFirst before now session writes at pattern why = IsFirstFailing (scene_at before now session) (tree_with before writes) (map location writes) at pattern why
+FailsFirst before now session writes at pattern why = IsFirstFailing (scene_at before now session) (tree_with before now writes) (map location writes) at pattern why
 
--- the tree that these writes propose has no more locations than may be
-abbrev pub Fits : State → List Write → Type 0
-Fits before writes = count (tree_with before writes) ≤ MAX_LOCATIONS
+-- the tree that these writes propose at this moment has no more locations than may be
+abbrev pub Fits : State → ℕ → List Write → Type 0
+Fits before now writes = count (tree_with before now writes) ≤ MAX_LOCATIONS
 
-abbrev pub Overflows : State → List Write → Type 0
-Overflows before writes = MAX_LOCATIONS < count (tree_with before writes)
+abbrev pub Overflows : State → ℕ → List Write → Type 0
+Overflows before now writes = MAX_LOCATIONS < count (tree_with before now writes)
 
 -- Writes that no other refusal stops are made, all listeners are judged again, and nothing else changes, where all are granted and valid, and the tree has room; they are denied with the least location that is not granted and the names of the `.write` rules that do not hold at it and above it, else with the first failing place, its pattern and the reason, else for the room; but for want of memory, and never the other way. (Guide "Core syntax"; the names, the order and the room are this project's profile.)
 pub record IsWriteJudged (before : State) (now session : ℕ) (writes : List Write) (reply : Reply) (after : State) : Type 0 where
-  pub makes : reply ≢ Refused NoMemory → AreJudged before session writes → GrantsAll before now session writes → Validates before now session writes → Fits before writes → (reply ≡ Done) × (after ≡ written_to before now writes)
+  pub makes : reply ≢ Refused NoMemory → AreJudged before session writes → GrantsAll before now session writes → Validates before now session writes → Fits before now writes → (reply ≡ Done) × (after ≡ written_to before now writes)
   pub denies : reply ≢ Refused NoMemory → AreJudged before session writes → (at : Path) → IsLeastDenied before now session writes at → reply ≡ Refused (WriteDenied at (named_for_write before now session writes at))
   pub fails : reply ≢ Refused NoMemory → AreJudged before session writes → GrantsAll before now session writes → (at : Path) (pattern : Pattern) (why : Why) → FailsFirst before now session writes at pattern why → reply ≡ Refused (ValidateDenied at (map part_of_text pattern) why)
-  pub overflows : reply ≢ Refused NoMemory → AreJudged before session writes → GrantsAll before now session writes → Validates before now session writes → Overflows before writes → reply ≡ Refused TreeFull
-  pub made : reply ≡ Done → AreJudged before session writes × GrantsAll before now session writes × Validates before now session writes × Fits before writes × (after ≡ written_to before now writes)
+  pub overflows : reply ≢ Refused NoMemory → AreJudged before session writes → GrantsAll before now session writes → Validates before now session writes → Overflows before now writes → reply ≡ Refused TreeFull
+  pub made : reply ≡ Done → AreJudged before session writes × GrantsAll before now session writes × Validates before now session writes × Fits before now writes × (after ≡ written_to before now writes)
   pub denied : (at : Path) (named : List Named) → reply ≡ Refused (WriteDenied at named) → AreJudged before session writes × IsLeastDenied before now session writes at × (named ≡ named_for_write before now session writes at)
-  pub owes : (at : Path) (named : List Named) → reply ≡ Refused (WriteDenied at named) → AreOwed (writing (scene_at before now session) (tree_with before writes)) write_rules at named
+  pub owes : (at : Path) (named : List Named) → reply ≡ Refused (WriteDenied at named) → AreOwed (writing (scene_at before now session) (tree_with before now writes)) write_rules at named
   pub failed : (at : Path) (pattern : parts.Pattern) (why : Why) → reply ≡ Refused (ValidateDenied at pattern why) → AreJudged before session writes × GrantsAll before now session writes × FailsFirst before now session writes at (texts pattern) why
-  pub overflowed : reply ≡ Refused TreeFull → AreJudged before session writes × GrantsAll before now session writes × Validates before now session writes × Overflows before writes
+  pub overflowed : reply ≡ Refused TreeFull → AreJudged before session writes × GrantsAll before now session writes × Validates before now session writes × Overflows before now writes
 
 -- ---- deployments
 

@@ -3,6 +3,8 @@ pub mod Rejudged
 pub mod News
 pub mod Tidings
 pub mod Event
+pub mod FilledWrites
+pub mod Filled
 pub mod Borrowed
 pub mod Step
 pub mod Headline

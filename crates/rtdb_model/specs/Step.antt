@@ -2,8 +2,10 @@
 use Rattle.std.specs.Prelude.{◌≡◌, ◌==◌, ℕ, ◌⊎◌, ◌||◌, ◌++◌, List, length, [], ◌∷◌, map, filter_map, Bool, true, false, not, if◌then◌else◌, nat_le, Option, Some, None}
 use Rattle.std.specs.FinMap as map_of
 use Rattle.tree_model.specs.Path.{Path}
-use Rattle.tree_model.specs.Tree.{Tree, null, non_null, count}
-use Rattle.tree_model.specs.Write.{Write, location, overlaps, proposed}
+use Rattle.tree_model.specs.Tree.{Tree, non_null, count}
+use Rattle.tree_model.specs.Put.{location, overlaps}
+use Rattle.tree_model.specs.Draft.{null_draft}
+use Rattle.tree_model.specs.Write.{Write, proposed}
 use Rattle.evaluator.specs.Identity.{Identity}
 use Rattle.listeners.specs.declared.limits.TheConstants.{MAX_LISTENERS}
 use Rattle.listeners.specs.Query.{Query}
@@ -47,13 +49,13 @@ denial (verdicts.ReadDenied named) = Some (ReadDenied named)
 denial (verdicts.WriteDenied at named) = Some (WriteDenied at named)
 denial (verdicts.ValidateDenied at pattern why) = Some (ValidateDenied at pattern why)
 
--- the tree that these writes propose together
-abbrev pub tree_with : State → List Write → Tree
-tree_with old writes = proposed old.tree writes
+-- the tree that these writes propose together at this moment
+abbrev pub tree_with : State → ℕ → List Write → Tree
+tree_with old now writes = proposed old.tree writes now
 
 -- the verdict on these writes, which are judged together
 abbrev pub verdict_on : State → ℕ → ℕ → List Write → Verdict
-verdict_on old now session writes = write_verdict (scene_at old now session) (tree_with old writes) (map location writes)
+verdict_on old now session writes = write_verdict (scene_at old now session) (tree_with old now writes) (map location writes)
 
 -- it has more locations than may be
 abbrev pub full : Tree → Option Refusal
@@ -66,7 +68,7 @@ or_full None tree = full tree
 
 -- why these writes are refused, if they are: by the rules, else for the size of the tree that they propose
 unfoldable pub write_refusal : State → ℕ → ℕ → List Write → Option Refusal
-write_refusal old now session writes = or_full (denial (verdict_on old now session writes)) (tree_with old writes)
+write_refusal old now session writes = or_full (denial (verdict_on old now session writes)) (tree_with old now writes)
 
 -- why a read is refused, if it is
 unfoldable pub read_refusal : State → ℕ → ℕ → Path → Option Query → Option Refusal
@@ -121,7 +123,7 @@ gets old now session path query =
 
 -- the tree that the writes propose is the tree, and all listeners are judged again
 abbrev pub written_to : State → ℕ → List Write → State
-written_to old now writes = all_rejudged old.tree now (record old { tree = tree_with old writes })
+written_to old now writes = all_rejudged old.tree now (record old { tree = tree_with old now writes })
 
 -- writes that are made together, or not at all
 abbrev pub makes : State → ℕ → ℕ → List Write → Outcome
@@ -134,7 +136,7 @@ sets old now session write =
 
 -- to remove is to write null
 abbrev pub removal : Path → Write
-removal path = (path, null)
+removal path = (path, null_draft)
 
 abbrev pub updates : State → ℕ → ℕ → List Write → Outcome
 updates old now session writes =

@@ -1,4 +1,7 @@
 //! What a session can ask of the database.
+ghost use Rattle.std.specs.Prelude.{◌≡◌, ◌≤◌};
+ghost use Rattle.evaluator.specs.declared.env.TheConstants.{MAX_MOMENT};
+ghost use Rattle.rtdb_model.specs.Filled.{filled, IsFilled};
 
 use crate::removal::Removal;
 use crate::writes::Writes;
@@ -36,4 +39,20 @@ pub enum Event {
     Tick,
     /// Puts rules in force.
     Deploy(Rules),
+}
+
+impl Event {
+    /// Puts a number in the place of each moment in what the event writes, in milliseconds. It takes no memory; for each
+    /// write without a moment it takes one test.
+    pub fn fill(&mut self, now: u64)
+        requires { now ≤ MAX_MOMENT }
+        ensures filled { self.new ≡ filled now self.old }
+        ensures none { IsFilled self.new }
+    {
+        match self {
+            Event::Set(write) => write.fill(now),
+            Event::Update(writes) => writes.fill(now),
+            _ => {}
+        }
+    }
 }

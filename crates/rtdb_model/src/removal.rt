@@ -14,8 +14,8 @@ pub struct Removal {
 impl Model for Removal {
     ghost use Rattle.std.specs.Prelude.{◌≡◌, List, ℕ};
     ghost use Rattle.std.specs.Coded.{coded_list, coded_ℕ};
-    ghost use Rattle.tree_model.specs.Tree.{null};
-    ghost use Rattle.tree_model.specs.Write.{location, written};
+    ghost use Rattle.tree_model.specs.Put.{location, written};
+    ghost use Rattle.tree_model.specs.Draft.{null_draft};
 
     ghost Value = { List (List ℕ) };
 
@@ -23,7 +23,7 @@ impl Model for Removal {
 
     ghost view = { λ removal. location removal.write };
 
-    ghost invariant = { λ removal. written removal.write ≡ null };
+    ghost invariant = { λ removal. written removal.write ≡ null_draft };
 }
 
 impl Removal {

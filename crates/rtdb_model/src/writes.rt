@@ -1,9 +1,12 @@
 //! The writes of an update.
-ghost use Rattle.std.specs.Prelude.{◌≡◌};
+ghost use Rattle.std.specs.Prelude.{◌≡◌, ◌≤◌, List, map};
 ghost use Rattle.std.specs.List.Sorted.{IsPermutation, IsSortedBy};
 ghost use Rattle.std.specs.Ordering.{is_lt};
 ghost use Rattle.tree_model.specs.Path.{path_cmp};
-ghost use Rattle.tree_model.specs.Write.{location};
+ghost use Rattle.tree_model.specs.Put.{location};
+ghost use Rattle.tree_model.specs.Write.{AreFixed};
+ghost use Rattle.evaluator.specs.declared.env.TheConstants.{MAX_MOMENT};
+ghost use Rattle.rtdb_model.specs.FilledWrites.{filled_in};
 
 use path_capture::Write;
 use std::fmt::{self, Formatter};
@@ -16,6 +19,9 @@ use std::snapshot::Snapshot;
 pub struct Writes {
     sorted: Vec<Write>,
     given: Snapshot<Vec<Write>>,
+    // Whether a moment was filled in, and which one.
+    is_filled: bool,
+    moment: Snapshot<u64>,
 }
 
 impl Model for Writes {
@@ -24,16 +30,18 @@ impl Model for Writes {
     ghost use Rattle.std.specs.List.Sorted.{IsPermutation, IsSortedBy};
     ghost use Rattle.std.specs.Ordering.{is_lt};
     ghost use Rattle.tree_model.specs.Path.{path_cmp};
-    ghost use Rattle.tree_model.specs.Tree.{tree_code};
-    ghost use Rattle.tree_model.specs.Write.{Write, location};
+    ghost use Rattle.tree_model.specs.Put.{location};
+    ghost use Rattle.tree_model.specs.Draft.{draft_code};
+    ghost use Rattle.rtdb_model.specs.FilledWrites.{held};
+    ghost use Rattle.tree_model.specs.Write.{Write};
 
     ghost Value = { List Write };
 
-    ghost coded = { coded_list (coded× (coded_list (coded_list coded_ℕ)) tree_code) };
+    ghost coded = { coded_list (coded× (coded_list (coded_list coded_ℕ)) draft_code) };
 
-    ghost view = { λ writes. writes.given.value.items };
+    ghost view = { λ writes. held writes.is_filled writes.moment.value writes.given.value.items };
 
-    ghost invariant = { λ writes. IsPermutation writes.given.value.items writes.sorted.items × IsSortedBy (λ a b. is_lt (path_cmp (location a) (location b))) writes.sorted.items };
+    ghost invariant = { λ writes. IsPermutation (held writes.is_filled writes.moment.value writes.given.value.items) writes.sorted.items × IsSortedBy (λ a b. is_lt (path_cmp (location a) (location b))) writes.sorted.items };
 }
 
 impl Writes {
@@ -45,7 +53,12 @@ impl Writes {
         let given = Snapshot::of(&held);
         let mut sorted = held;
         sort(&mut sorted);
-        Writes { sorted, given }
+        Writes {
+            sorted,
+            given,
+            is_filled: false,
+            moment: Snapshot::of(&0),
+        }
     }
 
     /// These writes in the order of their locations.
@@ -56,12 +69,27 @@ impl Writes {
         self.sorted.as_slice()
     }
 
+    /// Puts a number in the place of each moment, in milliseconds. It takes no memory; for each write without a moment it
+    /// takes one test.
+    pub fn fill(&mut self, now: u64)
+        requires { now ≤ MAX_MOMENT }
+        ensures filled { self.new ≡ map (filled_in now) self.old }
+        ensures none { AreFixed self.new }
+    {
+        if self.is_filled {
+            return;
+        }
+        fill_all(&mut self.sorted, now);
+        self.moment = Snapshot::of(&now);
+        self.is_filled = true;
+    }
+
     /// The same as a vector, without taking memory.
     pub fn into_vec(self) -> Vec<Write>
         ensures permutation { IsPermutation self result.items }
         ensures ascending { IsSortedBy (λ a b. is_lt (path_cmp (location a) (location b))) result.items }
     {
-        let Writes { sorted, given: _ } = self;
+        let Writes { sorted, .. } = self;
         sorted
     }
 }
@@ -71,6 +99,16 @@ fn sort(writes: &mut Vec<Write>)
     ensures ascending { IsSortedBy (λ a b. is_lt (path_cmp (location a) (location b))) writes.new.items }
 {
     writes.sort_unstable_by(|a, b| a.at().compare(b.at()));
+}
+
+// Puts a number in the place of each moment.
+fn fill_all(writes: &mut Vec<Write>, now: u64)
+    requires { now ≤ MAX_MOMENT }
+    ensures { writes.new.items ≡ map (filled_in now) writes.old.items }
+{
+    for i in 0..writes.len() {
+        writes[i].fill(now);
+    }
 }
 
 impl fmt::Debug for Writes {

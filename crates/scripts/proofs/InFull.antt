@@ -10,8 +10,8 @@ use Rattle.tree_model.specs.declared.limits.TheConstants.{MAX_DEPTH}
 use Rattle.tree_model.specs.Key.{is_key}
 use Rattle.tree_model.specs.Path.{Path}
 use Rattle.tree_model.specs.PathMap.{depth}
-use Rattle.tree_model.specs.Tree.{Tree}
-use Rattle.json_tree.specs.Json.{is_lawful, of_json}
+use Rattle.tree_model.specs.Draft.{Draft}
+use Rattle.json_tree.specs.Draft.{is_lawful_draft, draft_of_json}
 use Rattle.path_capture.specs.Path.{segments}
 use Rattle.listeners.specs.Query.{query_of}
 use Rattle.evaluator.specs.Identity.{Identity}
@@ -45,7 +45,7 @@ use Rattle.requests.specs.Ask.{ComesTo, IsAsked}
 use Rattle.answers.proofs.Texts.{one_rules_text}
 use Rattle.requests.specs.declared.message.Verb.{Verb}
 use Rattle.requests.specs.declared.message.Verb.TheVariants as verbs
-use Rattle.json_lines.specs.Lines.{or_fault, unless_fault, value_of, path_of, path_below, tree_of_value, write_at, write_below, writes_below}
+use Rattle.json_lines.specs.Lines.{or_fault, unless_fault, value_of, path_of, path_below, draft_of_value, write_at, write_below, writes_below}
 use Rattle.requests.specs.Message.{form_members, verb_members, stamp_of, query_at, query_said, id_at, path_in, wanted_by, verb_in, request_of, asks}
 use Rattle.scripts.specs.Said.{IsAnsweredBy, IsAnsweredInFullBy, IsAnsweredInFull, IsAnswered}
 use Rattle.answers.specs.AnswerText as answer
@@ -89,14 +89,14 @@ path_never text =
     (either (nat_le (length (segments text)) MAX_DEPTH) _ _ (of_ok (segments text)) (of_fault TooDeep (λ e. cc)))
     (of_fault BadPath (λ e. cc))
 
-tree_never : (d : Data) → NeverWants (tree_of_value d)
-tree_never d =
-    either (is_lawful d) _ _
-    (either (nat_le (depth (of_json d)) MAX_DEPTH) _ _ (of_ok (of_json d)) (of_fault TooDeep (λ e. cc)))
+draft_never : (d : Data) → NeverWants (draft_of_value d)
+draft_never d =
+    either (is_lawful_draft d) _ _
+    (either (nat_le (depth (draft_of_json d)) MAX_DEPTH) _ _ (of_ok (draft_of_json d)) (of_fault TooDeep (λ e. cc)))
     (of_fault BadValue (λ e. cc))
 
-write_never : (path : Path) (tree : Tree) → NeverWants (write_at path tree)
-write_never path tree = either (nat_le (length path + depth tree) MAX_DEPTH) _ _ (of_ok (path, tree)) (of_fault TooDeep (λ e. cc))
+write_never : (path : Path) (draft : Draft) → NeverWants (write_at path draft)
+write_never path draft = either (nat_le (length path + depth draft) MAX_DEPTH) _ _ (of_ok (path, draft)) (of_fault TooDeep (λ e. cc))
 
 below_never : (path : Path) (name : List ℕ) → NeverWants (path_below path name)
 below_never path name = in_turn _ _ (path_never name) (λ below. either (nat_le (length path + length below) MAX_DEPTH) _ _ (of_ok (path ++ below)) (of_fault TooDeep (λ e. cc)))
@@ -104,7 +104,7 @@ below_never path name = in_turn _ _ (path_never name) (λ below. either (nat_le 
 member_never : (path : Path) (name : List ℕ) (d : Data) → NeverWants (write_below path name d)
 member_never path name d =
     in_turn _ _ (below_never path name) (λ at.
-    in_turn _ _ (tree_never d) (λ tree. write_never at tree))
+    in_turn _ _ (draft_never d) (λ draft. write_never at draft))
 
 members_never : (path : Path) (ms : Members) → NeverWants (writes_below path ms)
 members_never path no_members = of_ok _
@@ -133,8 +133,8 @@ wanted_never verbs.Set d =
     in_turn _ _ (of_option BadRequest (text_at (codes "path") d) (λ e. cc)) (λ text.
     in_turn _ _ (of_option BadRequest (get (codes "value") d) (λ e. cc)) (λ value.
     in_turn _ _ (path_never text) (λ path.
-    in_turn _ _ (tree_never value) (λ tree.
-    in_turn _ _ (write_never path tree) (λ write. of_ok (wanted.Step (Set write)))))))
+    in_turn _ _ (draft_never value) (λ draft.
+    in_turn _ _ (write_never path draft) (λ write. of_ok (wanted.Step (Set write)))))))
 wanted_never verbs.Remove d = in_turn _ _ (path_in_never d) (λ path. of_ok (wanted.Step (Remove path)))
 wanted_never verbs.Update d =
     in_turn _ _ (of_option BadRequest (text_at (codes "path") d) (λ e. cc)) (λ text.

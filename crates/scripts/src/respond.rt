@@ -112,7 +112,8 @@ fn answer_asked(
     ensures before { out.new.before ≡ out.old.before }
     ensures answered { IfOk result (λ answer. (said : List ℕ) × IsAnsweredBy core.old (Ok asked) said core.new × (bytes_of answer out.new.text ≡ as_line said)) }
 {
-    let Asked { stamp, event } = asked;
+    let Asked { stamp, mut event } = asked;
+    event.fill(stamp.now);
     let (answer, plan) = match core.judge(arena, stamp.now, stamp.session, &event) {
         Ok(granted) => say_granted(granted, out)?,
         Err(refusal) => return say_borrowed_refusal(&refusal, out),

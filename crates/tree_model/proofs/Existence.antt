@@ -10,7 +10,7 @@ use Rattle.std.proofs.lemmas.Bool.Decides.{Decides-eqb, Decides-ltb}
 use Rattle.std.proofs.lemmas.List.Folds.{list_any-append}
 use Rattle.tree_model.specs.Path.{Path, path_cmp, strip_prefix, is_prefix, prefixes}
 use Rattle.tree_model.specs.PathMap.{PathMap, get, is_null, sub, exists, greatest, depth}
-use Rattle.tree_model.specs.Tree.{Tree, null, non_null, existing}
+use Rattle.tree_model.specs.Tree.{null, non_null, existing}
 use Rattle.tree_model.proofs.Choices.{or_right, none_is_not_some}
 use Rattle.tree_model.proofs.Orders.{paths_total, path_eq, same_path, path_eq-self}
 use Rattle.tree_model.proofs.Paths.{strip_is, prefix-append, any-prefixes}
@@ -32,11 +32,14 @@ is_null-empty X = ap (λ n. n == 0) (map_of.len-empty path_cmp X)
 pub is_null-null : is_null null ≡ true
 is_null-null = is_null-empty _
 
-pub non_null-null : non_null null ≡ None
+pub non_null-empty : {X : Type 0} → non_null {X = X} map_of.empty ≡ None
 unfolding non_null
-non_null-null = ap (λ b. cond b None (Some null)) is_null-null
+non_null-empty {X} = ap (λ b. cond b None (Some map_of.empty)) (is_null-empty X)
 
-pub non_null-some : (t : Tree) → t ≢ null → non_null t ≡ Some t
+pub non_null-null : non_null null ≡ None
+non_null-null = non_null-empty
+
+pub non_null-some : {X : Type 0} (t : PathMap X) → t ≢ map_of.empty → non_null t ≡ Some t
 unfolding non_null
 non_null-some t n = by_null (λ b. cond b None (Some t) ≡ Some t) t (λ e. absurd (n e)) (λ _. refl)
 
@@ -107,7 +110,7 @@ any-flat_prefixes : (p : Path) (qs : List Path) → list_any (path_eq p) (flat_m
 any-flat_prefixes p [] = refl
 any-flat_prefixes p (q ∷ qs) = list_any-append (path_eq p) (prefixes q) (flat_map prefixes qs) ∙ (λ i. any-prefixes q p i || any-flat_prefixes p qs i)
 
-pub contains-existing : (t : Tree) (p : Path) → set_of.contains (existing t) p ≡ exists t p
+pub contains-existing : {X : Type 0} (t : PathMap X) (p : Path) → set_of.contains (existing t) p ≡ exists t p
 unfolding existing exists
 contains-existing t p = set_of.contains-from_list paths_total (flat_map prefixes (map_of.keys t)) p ∙ any-flat_prefixes p (map_of.keys t)
 

@@ -15,30 +15,30 @@ use Rattle.tree_model.specs.Key.{Key, key_cmp}
 use Rattle.tree_model.specs.Path.{Path, path_cmp, is_prefix, is_proper_prefix}
 use Rattle.tree_model.specs.Primitive.{Primitive}
 use Rattle.tree_model.specs.PathMap.{PathMap, get, is_null, sub, exists, greatest, depth, under}
-use Rattle.tree_model.specs.Tree.{Tree, null, non_null, lone, first_key, children, child_keys, IsTree}
+use Rattle.tree_model.specs.Tree.{non_null, lone, first_key, children, child_keys, IsTree}
 use Rattle.tree_model.specs.Children.{graft, AreChildren}
 use Rattle.tree_model.proofs.Choices.{none_is_not_some, or_else, or_else-None}
 use Rattle.tree_model.proofs.Orders.{keys_total, exact_keys, paths_total, same_key, bytes_eq-self, path_eq, path_eq-cons}
-use Rattle.tree_model.proofs.Lookups.{same_tree, get-empty, get-null, get-sub}
-use Rattle.tree_model.proofs.Existence.{non_null-null, non_null-some, some_path, not_null_from_path, exists-sub, length-le-depth, deepest_path, depth_le}
+use Rattle.tree_model.proofs.Lookups.{same_tree, get-empty, get-sub}
+use Rattle.tree_model.proofs.Existence.{non_null-empty, non_null-some, some_path, not_null_from_path, exists-sub, length-le-depth, deepest_path, depth_le}
 
 -- ---- the tree of one primitive
 
-pub get-lone-root : (v : Primitive) → get (lone v) [] ≡ Some v
+pub get-lone-root : {X : Type 0} (v : X) → get (lone v) [] ≡ Some v
 unfolding lone
 get-lone-root v = map_of.get-from_entries paths_total (([], v) ∷ []) []
 
-pub get-lone-below : (v : Primitive) (k : Key) (q : Path) → get (lone v) (k ∷ q) ≡ None
+pub get-lone-below : {X : Type 0} (v : X) (k : Key) (q : Path) → get (lone v) (k ∷ q) ≡ None
 unfolding lone
 get-lone-below v k q = map_of.get-from_entries paths_total (([], v) ∷ []) (k ∷ q)
 
-pub lone≢null : (v : Primitive) → lone v ≢ null
+pub lone≢null : {X : Type 0} (v : X) → lone v ≢ map_of.empty
 lone≢null v = not_null_from_path (lone v) [] (ap is_some (get-lone-root v))
 
-pub sub-lone : (v : Primitive) (k : Key) → sub (lone v) (k ∷ []) ≡ null
-sub-lone v k = same_tree _ _ (λ q. get-sub (lone v) (k ∷ []) q ∙ get-lone-below v k q ∙ sym (get-null q))
+pub sub-lone : {X : Type 0} (v : X) (k : Key) → sub (lone v) (k ∷ []) ≡ map_of.empty
+sub-lone v k = same_tree _ _ (λ q. get-sub (lone v) (k ∷ []) q ∙ get-lone-below v k q ∙ sym (get-empty q))
 
-pub depth-lone : (v : Primitive) → depth (lone v) ≡ 0
+pub depth-lone : {X : Type 0} (v : X) → depth (lone v) ≡ 0
 depth-lone v = let le = depth_le (lone v) 0 root_alone in omega arith
   where
     root_alone : (q : Path) → IsSome (get (lone v) q) → length q ≤ 0
@@ -55,11 +55,11 @@ IsTree-lone v = record { apart = apart }
 
 -- ---- the children of any tree
 
-starting : (k : Key) (es : List (Path × Primitive)) → (t : Tree) → find key_cmp k (filter_map (λ e. option_map (λ l. (l, sub t (l ∷ []))) (first_key e.0)) es) ≡ cond (list_any (is_prefix (k ∷ [])) (map (λ e. e.0) es)) (Some (sub t (k ∷ []))) None
+starting : {X : Type 0} (k : Key) (es : List (Path × X)) → (t : PathMap X) → find key_cmp k (filter_map (λ e. option_map (λ l. (l, sub t (l ∷ []))) (first_key e.0)) es) ≡ cond (list_any (is_prefix (k ∷ [])) (map (λ e. e.0) es)) (Some (sub t (k ∷ []))) None
 starting k [] t = refl
 starting k (([], v) ∷ es) t = starting k es t
-starting k ((l ∷ p, v) ∷ es) t =
-    let first_keys : List (Key × Tree) = filter_map (λ e. option_map (λ l. (l, sub t (l ∷ []))) (first_key e.0)) es in
+starting {X} k ((l ∷ p, v) ∷ es) t =
+    let first_keys : List (Key × PathMap X) = filter_map (λ e. option_map (λ l. (l, sub t (l ∷ []))) (first_key e.0)) es in
     ap (λ b. cond b (Some (sub t (l ∷ []))) (find key_cmp k first_keys)) (is_eq-slice_cmp k l)
     ∙ elim (bytes_eq k l) as (λ b. (b ≡ true → k ≡ l) → cond b (Some (sub t (l ∷ []))) (find key_cmp k first_keys) ≡ cond (is_some (cond b (Some p) None) || list_any (is_prefix (k ∷ [])) (map (λ e. e.0) es)) (Some (sub t (k ∷ []))) None) [
       | true ↦ λ same. ap (λ x. Some (sub t (x ∷ []))) (sym (same refl))
@@ -67,7 +67,7 @@ starting k ((l ∷ p, v) ∷ es) t =
     ] (same_key k l)
 
 -- the child of a key is the subtree at it
-pub get-children : (t : Tree) (k : Key) → map_of.get (children t) k ≡ non_null (sub t (k ∷ []))
+pub get-children : {X : Type 0} (t : PathMap X) (k : Key) → map_of.get (children t) k ≡ non_null (sub t (k ∷ []))
 unfolding children exists non_null
 get-children t k =
     map_of.get-from_entries keys_total _ k
@@ -127,35 +127,35 @@ find-spread {X} k q (c ∷ cs) h =
     ] (find_beyond k c cs h)
     ∙ ap (λ b. get (unwrap_or (cond b (Some c.1) (find key_cmp k cs)) map_of.empty) q) (sym (is_eq-slice_cmp k c.0))
 
-pub get-graft-root : (cs : List (Key × Tree)) → get (graft cs) [] ≡ None
+pub get-graft-root : {X : Type 0} (cs : List (Key × PathMap X)) → get (graft cs) [] ≡ None
 unfolding graft
 get-graft-root cs = map_of.get-from_entries paths_total (spread cs) [] ∙ find-spread-root cs
 
 -- below a key, the graft has what the child of that key has
-pub get-graft : (cs : List (Key × Tree)) (k : Key) (q : Path) → is_sorted key_cmp cs ≡ true → get (graft cs) (k ∷ q) ≡ get (child_of k cs) q
+pub get-graft : {X : Type 0} (cs : List (Key × PathMap X)) (k : Key) (q : Path) → is_sorted key_cmp cs ≡ true → get (graft cs) (k ∷ q) ≡ get (child_of k cs) q
 unfolding graft
 get-graft cs k q h = map_of.get-from_entries paths_total (spread cs) (k ∷ q) ∙ find-spread k q cs h
 
-pub sub-graft : (cs : List (Key × Tree)) (k : Key) → is_sorted key_cmp cs ≡ true → sub (graft cs) (k ∷ []) ≡ child_of k cs
+pub sub-graft : {X : Type 0} (cs : List (Key × PathMap X)) (k : Key) → is_sorted key_cmp cs ≡ true → sub (graft cs) (k ∷ []) ≡ child_of k cs
 sub-graft cs k h = same_tree _ _ (λ q. get-sub (graft cs) (k ∷ []) q ∙ get-graft cs k q h)
 
-pub non_null-child_of : (k : Key) (cs : List (Key × Tree)) → AllByRecursion (λ c. c.1 ≢ null) cs → non_null (child_of k cs) ≡ find key_cmp k cs
-non_null-child_of k [] h = non_null-null
+pub non_null-child_of : {X : Type 0} (k : Key) (cs : List (Key × PathMap X)) → AllByRecursion (λ c. c.1 ≢ map_of.empty) cs → non_null (child_of k cs) ≡ find key_cmp k cs
+non_null-child_of k [] h = non_null-empty
 non_null-child_of k (c ∷ cs) h =
-    elim (eq_by_cmp key_cmp k c.0) as (λ b. non_null (unwrap_or (cond b (Some c.1) (find key_cmp k cs)) null) ≡ cond b (Some c.1) (find key_cmp k cs)) [
+    elim (eq_by_cmp key_cmp k c.0) as (λ b. non_null (unwrap_or (cond b (Some c.1) (find key_cmp k cs)) map_of.empty) ≡ cond b (Some c.1) (find key_cmp k cs)) [
       | true ↦ non_null-some c.1 h.0
       | false ↦ non_null-child_of k cs h.1
     ]
 
 -- the child of a key is the one that was given with it
-pub child-graft : (cs : List (Key × Tree)) (k : Key) → AreChildren cs → non_null (sub (graft cs) (k ∷ [])) ≡ find key_cmp k cs
+pub child-graft : {X : Type 0} (cs : List (Key × PathMap X)) (k : Key) → AreChildren cs → non_null (sub (graft cs) (k ∷ [])) ≡ find key_cmp k cs
 child-graft cs k h = ap non_null (sub-graft cs k h.ascending) ∙ non_null-child_of k cs h.each
 
-pub graft≢null : (cs : List (Key × Tree)) → AreChildren cs → graft cs ≢ null
+pub graft≢null : {X : Type 0} (cs : List (Key × PathMap X)) → AreChildren cs → graft cs ≢ map_of.empty
 graft≢null [] h = absurd (h.some refl)
 graft≢null (c ∷ cs) h =
     let found = some_path c.1 h.each.0 in
-    let here : child_of c.0 (c ∷ cs) ≡ c.1 = ap (λ b. unwrap_or (cond b (Some c.1) (find key_cmp c.0 cs)) null) (is_eq-slice_cmp c.0 c.0 ∙ bytes_eq-self c.0) in
+    let here : child_of c.0 (c ∷ cs) ≡ c.1 = ap (λ b. unwrap_or (cond b (Some c.1) (find key_cmp c.0 cs)) map_of.empty) (is_eq-slice_cmp c.0 c.0 ∙ bytes_eq-self c.0) in
     not_null_from_path (graft (c ∷ cs)) (c.0 ∷ found.0) (ap is_some (get-graft (c ∷ cs) c.0 found.0 h.ascending ∙ ap (λ t. get t found.0) here) ∙ found.1)
 
 -- ---- the keys of the children
@@ -164,35 +164,35 @@ sorted_test : (b : Bool) → b ≡ true → T b
 sorted_test b h = subst T (sym h) tt
 
 -- the map of entries in order has these entries
-entries-sorted : {K X : Type 0} {R : K → K → Ordering} (o : IsTotalOrder R) → map_of.IsAntisymmetric R → (es : List (K × X)) → is_sorted R es ≡ true → map_of.entries (map_of.from_entries {R = R} es) ≡ es
+pub entries-sorted : {K X : Type 0} {R : K → K → Ordering} (o : IsTotalOrder R) → map_of.IsAntisymmetric R → (es : List (K × X)) → is_sorted R es ≡ true → map_of.entries (map_of.from_entries {R = R} es) ≡ es
 entries-sorted {R = R} o exact es h =
     ap map_of.entries (map_of.same_map o exact _ (map_of.from_sorted {R = R} es) (λ q. map_of.get-from_entries o es q ∙ sym (map_of.get-from_sorted R es q (sorted_test _ h))))
     ∙ map_of.entries-from_sorted R es (sorted_test _ h)
 
-pub entries-children-graft : (cs : List (Key × Tree)) → AreChildren cs → map_of.entries (children (graft cs)) ≡ cs
+pub entries-children-graft : {X : Type 0} (cs : List (Key × PathMap X)) → AreChildren cs → map_of.entries (children (graft cs)) ≡ cs
 entries-children-graft cs h =
     ap map_of.entries (map_of.same_map keys_total exact_keys (children (graft cs)) (map_of.from_entries cs) (λ k. get-children (graft cs) k ∙ child-graft cs k h ∙ sym (map_of.get-from_entries keys_total cs k)))
     ∙ entries-sorted keys_total exact_keys cs h.ascending
 
-pub entries-children-lone : (v : Primitive) → map_of.entries (children (lone v)) ≡ []
-entries-children-lone v =
-    ap map_of.entries (map_of.same_map keys_total exact_keys (children (lone v)) (map_of.from_entries []) (λ k. get-children (lone v) k ∙ ap non_null (sub-lone v k) ∙ non_null-null ∙ sym (map_of.get-from_entries {X = Tree} keys_total [] k)))
-    ∙ entries-sorted {X = Tree} keys_total exact_keys [] refl
+pub entries-children-lone : {X : Type 0} (v : X) → map_of.entries (children (lone v)) ≡ []
+entries-children-lone {X} v =
+    ap map_of.entries (map_of.same_map keys_total exact_keys (children (lone v)) (map_of.from_entries []) (λ k. get-children (lone v) k ∙ ap non_null (sub-lone v k) ∙ non_null-empty ∙ sym (map_of.get-from_entries {X = PathMap X} keys_total [] k)))
+    ∙ entries-sorted {X = PathMap X} keys_total exact_keys [] refl
 
-pub child_keys-graft : (cs : List (Key × Tree)) → AreChildren cs → child_keys (graft cs) ≡ map (λ c. c.0) cs
+pub child_keys-graft : {X : Type 0} (cs : List (Key × PathMap X)) → AreChildren cs → child_keys (graft cs) ≡ map (λ c. c.0) cs
 unfolding child_keys
 child_keys-graft cs h = ap (λ es. map (λ e. e.0) es) (entries-children-graft cs h)
 
-pub child_keys-lone : (v : Primitive) → child_keys (lone v) ≡ []
+pub child_keys-lone : {X : Type 0} (v : X) → child_keys (lone v) ≡ []
 unfolding child_keys
 child_keys-lone v = ap (λ es. map (λ e. e.0) es) (entries-children-lone v)
 
 -- ---- the depth of given children
 
-found_depth : (k : Key) (q : Path) (cs : List (Key × Tree)) → IsSome (get (child_of k cs) q) → length q + 1 ≤ greatest (map (λ c. depth c.1 + 1) cs)
-found_depth k q [] h = absurd (none_is_not_some _ (get-null q) h)
+found_depth : {X : Type 0} (k : Key) (q : Path) (cs : List (Key × PathMap X)) → IsSome (get (child_of k cs) q) → length q + 1 ≤ greatest (map (λ c. depth c.1 + 1) cs)
+found_depth k q [] h = absurd (none_is_not_some _ (get-empty q) h)
 found_depth k q (c ∷ cs) h =
-    elim (eq_by_cmp key_cmp k c.0) as (λ b. IsSome (get (unwrap_or (cond b (Some c.1) (find key_cmp k cs)) null) q) → length q + 1 ≤ max (depth c.1 + 1) (greatest (map (λ d. depth d.1 + 1) cs))) [
+    elim (eq_by_cmp key_cmp k c.0) as (λ b. IsSome (get (unwrap_or (cond b (Some c.1) (find key_cmp k cs)) map_of.empty) q) → length q + 1 ≤ max (depth c.1 + 1) (greatest (map (λ d. depth d.1 + 1) cs))) [
       | true ↦ λ g. let le = length-le-depth c.1 q g in omega arith
       | false ↦ λ g. let le = found_depth k q cs g in omega arith
     ] h
@@ -216,7 +216,7 @@ each_depth {X} n (c ∷ cs) s a h = omega (arith, here, each_depth n cs (second_
           | false ↦ λ e. h k q (ap (λ b. is_some (get (unwrap_or (cond b (Some c.1) (find key_cmp k cs)) map_of.empty) q)) (is_eq-slice_cmp k c.0 ∙ e) ∙ g)
         ] refl
 
-pub depth-graft : (cs : List (Key × Tree)) → AreChildren cs → depth (graft cs) ≡ greatest (map (λ c. depth c.1 + 1) cs)
+pub depth-graft : {X : Type 0} (cs : List (Key × PathMap X)) → AreChildren cs → depth (graft cs) ≡ greatest (map (λ c. depth c.1 + 1) cs)
 depth-graft cs h = omega (arith, depth_le (graft cs) (greatest (map (λ c. depth c.1 + 1) cs)) within, each_depth (depth (graft cs)) cs h.ascending h.each reached)
   where
     within : (q : Path) → IsSome (get (graft cs) q) → length q ≤ greatest (map (λ c. depth c.1 + 1) cs)

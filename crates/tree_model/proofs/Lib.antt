@@ -6,9 +6,11 @@ pub mod Existence
 pub mod Grafts
 pub mod Counts
 pub mod Lawful
-pub mod Writes
-pub mod Proposals
+pub mod Placing
+pub mod Merging
 pub mod Below
 pub mod Order
 pub mod WorkedValues
 pub mod OneByOne
+pub mod Drafts
+pub mod Writes

@@ -6,17 +6,17 @@ use Rattle.tree_model.specs.Path.{Path, strip_prefix, is_prefix}
 use Rattle.tree_model.specs.Primitive.{Primitive}
 use Rattle.tree_model.specs.PathMap.{get}
 use Rattle.tree_model.specs.Tree.{Tree}
-use Rattle.tree_model.specs.Write.{Write, location, written, do_overlap, overlaps, is_replaced, is_covered, stays, proposed}
+use Rattle.tree_model.specs.Put.{Put, location, written, do_overlap, overlaps, is_replaced, is_covered, stays, merged}
 use Rattle.tree_model.proofs.Choices.{true_is_not_false, not_true, neither, or_else, or_else-None}
 use Rattle.tree_model.proofs.Lookups.{same_tree}
-use Rattle.tree_model.proofs.Proposals.{prefix_from_proper, prefix_trans}
-use Rattle.tree_model.proofs.Writes.{placed_at, get-proposed, prefixes_compare}
+use Rattle.tree_model.proofs.Merging.{prefix_from_proper, prefix_trans}
+use Rattle.tree_model.proofs.Placing.{placed_at, get-merged, prefixes_compare}
 
 both_false : (a b : Bool) → a ≡ false → b ≡ false → (a || b) ≡ false
 both_false a b x y = λ i. (x i) || (y i)
 
 -- at and below a written location no other write replaces or covers anything
-untouched : (w : Write) (ws : List Write) (q : Path) → list_any (do_overlap w) ws ≡ false → is_prefix (location w) q ≡ true → (list_any (is_replaced q) ws ≡ false) × (list_any (is_covered q) ws ≡ false)
+untouched : (w : Put) (ws : List Put) (q : Path) → list_any (do_overlap w) ws ≡ false → is_prefix (location w) q ≡ true → (list_any (is_replaced q) ws ≡ false) × (list_any (is_covered q) ws ≡ false)
 untouched w [] q h g = (refl, refl)
 untouched w (x ∷ ws) q h g =
     let apart = neither _ _ h in
@@ -38,8 +38,8 @@ joined (Some r) c a k s p f h =
     ap (λ o. or_else o p) (sym (or_else-None (f r)))
     ∙ (λ i. or_else (cond (not (sym none.0 i) && not (sym none.1 i)) (or_else (f r) None) None) p)
 
-pub proposed-cons : (t : Tree) (w : Write) (ws : List Write) → overlaps (w ∷ ws) ≡ false → proposed t (w ∷ ws) ≡ proposed (proposed t (w ∷ [])) ws
-proposed-cons t w ws h = same_tree _ _ (λ q.
-    get-proposed t (w ∷ ws) q
+pub merged-cons : (t : Tree) (w : Put) (ws : List Put) → overlaps (w ∷ ws) ≡ false → merged t (w ∷ ws) ≡ merged (merged t (w ∷ [])) ws
+merged-cons t w ws h = same_tree _ _ (λ q.
+    get-merged t (w ∷ ws) q
     ∙ joined (strip_prefix (location w) q) (is_covered q w) (list_any (is_replaced q) ws) (list_any (is_covered q) ws) (get t q) (placed_at ws q) (get (written w)) (untouched w ws q (neither _ _ h).0)
-    ∙ sym (get-proposed (proposed t (w ∷ [])) ws q ∙ ap (λ o. or_else (cond (stays ws q) o None) (placed_at ws q)) (get-proposed t (w ∷ []) q)))
+    ∙ sym (get-merged (merged t (w ∷ [])) ws q ∙ ap (λ o. or_else (cond (stays ws q) o None) (placed_at ws q)) (get-merged t (w ∷ []) q)))

@@ -11,7 +11,7 @@ use Rattle.tree_model.specs.Path.{Path, path_cmp, is_prefix, is_proper_prefix, p
 use Rattle.tree_model.specs.Primitive.{Primitive}
 use Rattle.tree_model.specs.PathMap.{is_null, sub, exists}
 use Rattle.tree_model.specs.Tree.{existing, count, first_key, children, child_keys}
-use Rattle.tree_model.specs.Write.{Write, is_replaced, is_covered, stays, placed, proposed}
+use Rattle.tree_model.specs.Put.{Put, is_replaced, is_covered, stays, placed, merged}
 use Rattle.tree_model.specs.Worked.{tree_of_pairs}
 use Rattle.tree_model.proofs.Orders.{keys_total, paths_total, path_eq}
 
@@ -65,7 +65,7 @@ child_keys-listed es =
 abbrev pub Listed : Type 0
 Listed = Path × Pairs
 
-abbrev opened : Listed → Write
+abbrev opened : Listed → Put
 opened w = (w.0, tree_of_pairs w.1)
 
 abbrev covers : Path → Listed → Bool
@@ -100,8 +100,8 @@ placed-listed (w ∷ ws) = λ i. map (λ e. (w.0 ++ e.0, e.1)) (tree_of_pairs-en
 abbrev pub made : Pairs → List Listed → Pairs
 made es ws = filter (λ e. remains ws e.0) (in_order path_cmp es) ++ flat_map puts ws
 
-pub proposed-listed : (es : Pairs) (ws : List Listed) (fs : Pairs) → in_order path_cmp (made es ws) ≡ in_order path_cmp fs → proposed (tree_of_pairs es) (map opened ws) ≡ tree_of_pairs fs
-unfolding proposed
-proposed-listed es ws fs h =
+pub merged-listed : (es : Pairs) (ws : List Listed) (fs : Pairs) → in_order path_cmp (made es ws) ≡ in_order path_cmp fs → merged (tree_of_pairs es) (map opened ws) ≡ tree_of_pairs fs
+unfolding merged
+merged-listed es ws fs h =
     ap tree_of_pairs ((λ i. filter (λ e. stays (map opened ws) e.0) (tree_of_pairs-entries es i) ++ placed-listed ws i) ∙ ap (λ gs. gs ++ flat_map puts ws) (filter-listed ws (in_order path_cmp es)))
     ∙ same_listed (made es ws) fs h

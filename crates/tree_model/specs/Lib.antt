@@ -4,5 +4,7 @@ pub mod PathMap
 pub mod Primitive
 pub mod Tree
 pub mod Children
+pub mod Put
+pub mod Draft
 pub mod Write
 pub mod Worked

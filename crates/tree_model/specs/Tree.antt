@@ -17,7 +17,7 @@ abbrev pub null : Tree
 null = map_of.empty
 
 -- the tree, unless it is null
-unfoldable pub non_null : Tree → Option Tree
+unfoldable pub non_null : {X : Type 0} → PathMap X → Option (PathMap X)
 non_null t = if is_null t then None else Some t
 
 -- no path of t is a proper prefix of another: below a primitive there is nothing
@@ -25,17 +25,17 @@ pub record IsTree (t : Tree) : Type 0 where
   pub apart : (p q : Path) → IsSome (get t p) → IsSome (get t q) → is_proper_prefix p q ≡ false
 
 -- the tree of one primitive, which stands at the root
-unfoldable pub lone : Primitive → Tree
+unfoldable pub lone : {X : Type 0} → X → PathMap X
 lone v = map_of.from_entries (([], v) ∷ [])
 
 -- ---- locations: the subtree at p is `sub t p` (Reference, `RuleDataSnapshot.child`), p exists where `exists t p` (Reference, `RuleDataSnapshot.exists`), and `depth t` is the most keys above a primitive (Guide "Structure Your Database", avoid nesting data)
 
 -- the locations that exist: all prefixes of the paths of primitives
-unfoldable pub existing : Tree → set_of.FinSet path_cmp
+unfoldable pub existing : {X : Type 0} → PathMap X → set_of.FinSet path_cmp
 existing t = set_of.from_list (flat_map prefixes (map_of.keys t))
 
 -- how many locations exist, the root among them. (This project's profile.)
-unfoldable pub count : Tree → ℕ
+unfoldable pub count : {X : Type 0} → PathMap X → ℕ
 count t = set_of.len (existing t)
 
 -- ---- children
@@ -45,11 +45,11 @@ first_key [] = None
 first_key (k ∷ p) = Some k
 
 -- the children: each first key of a path, with the subtree at it. (Reference, `RuleDataSnapshot.hasChildren`.)
-unfoldable pub children : Tree → map_of.FinMap key_cmp Tree
+unfoldable pub children : {X : Type 0} → PathMap X → map_of.FinMap key_cmp (PathMap X)
 children t = map_of.from_entries (filter_map (λ e. option_map (λ k. (k, sub t (k ∷ []))) (first_key e.0)) (map_of.entries t))
 
 -- the keys of the children, in their order
-unfoldable pub child_keys : Tree → List Key
+unfoldable pub child_keys : {X : Type 0} → PathMap X → List Key
 child_keys t = map_of.keys (children t)
 
 -- ---- what may be stored

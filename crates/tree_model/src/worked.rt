@@ -5,7 +5,7 @@ ghost use Rattle.tree_model.specs.Path.{is_path};
 ghost use Rattle.tree_model.specs.Primitive.{truth, whole, words, is_primitive};
 ghost use Rattle.tree_model.specs.PathMap.{exists};
 ghost use Rattle.tree_model.specs.Tree.{null, count, child_keys, IsTree};
-ghost use Rattle.tree_model.specs.Write.{overlaps, proposed};
+ghost use Rattle.tree_model.specs.Put.{overlaps, merged};
 ghost use Rattle.tree_model.specs.Worked.{tree_of_pairs};
 
 /// In `{"a":{"b":1}}` there are the locations `/`, `/a` and `/a/b`, and no others: `/a/c` is none.
@@ -24,7 +24,7 @@ pub fn no_primitive_lies_below_another()
 
 /// Removing `/a` from `{"a":{"b":1}}` leaves nothing: what is empty is not stored.
 pub fn what_is_empty_is_not_stored()
-    ensures { proposed (tree_of_pairs ((codes "a" ∷ codes "b" ∷ [], whole (pos 1)) ∷ [])) ((codes "a" ∷ [], null) ∷ []) ≡ null }
+    ensures { merged (tree_of_pairs ((codes "a" ∷ codes "b" ∷ [], whole (pos 1)) ∷ [])) ((codes "a" ∷ [], null) ∷ []) ≡ null }
 {}
 
 /// The elements 0, 2 and 10 of an array are children of these keys, in the order of their bytes.
@@ -35,7 +35,7 @@ pub fn an_array_is_an_object()
 
 /// Setting `/a` to 5 in `{"a":{"b":1,"c":2},"d":3}` gives `{"a":5,"d":3}`.
 pub fn a_write_replaces_what_is_at_its_location()
-    ensures { proposed
+    ensures { merged
         (tree_of_pairs ((codes "a" ∷ codes "b" ∷ [], whole (pos 1)) ∷ (codes "a" ∷ codes "c" ∷ [], whole (pos 2)) ∷ (codes "d" ∷ [], whole (pos 3)) ∷ []))
         ((codes "a" ∷ [], tree_of_pairs (([], whole (pos 5)) ∷ [])) ∷ [])
         ≡ tree_of_pairs ((codes "a" ∷ [], whole (pos 5)) ∷ (codes "d" ∷ [], whole (pos 3)) ∷ []) }
@@ -43,7 +43,7 @@ pub fn a_write_replaces_what_is_at_its_location()
 
 /// Setting `/a/b` to true in `{"a":5}` gives `{"a":{"b":true}}`.
 pub fn a_write_below_a_primitive_replaces_it()
-    ensures { proposed
+    ensures { merged
         (tree_of_pairs ((codes "a" ∷ [], whole (pos 5)) ∷ []))
         ((codes "a" ∷ codes "b" ∷ [], tree_of_pairs (([], truth true) ∷ [])) ∷ [])
         ≡ tree_of_pairs ((codes "a" ∷ codes "b" ∷ [], truth true) ∷ []) }
@@ -51,20 +51,20 @@ pub fn a_write_below_a_primitive_replaces_it()
 
 /// Removing `/a/b` in `{"a":5}` changes nothing.
 pub fn a_removal_below_a_primitive_changes_nothing()
-    ensures { proposed (tree_of_pairs ((codes "a" ∷ [], whole (pos 5)) ∷ [])) ((codes "a" ∷ codes "b" ∷ [], null) ∷ [])
+    ensures { merged (tree_of_pairs ((codes "a" ∷ [], whole (pos 5)) ∷ [])) ((codes "a" ∷ codes "b" ∷ [], null) ∷ [])
         ≡ tree_of_pairs ((codes "a" ∷ [], whole (pos 5)) ∷ []) }
 {}
 
 /// An update of nothing by `/a/n` and `/b/n` makes both.
 pub fn an_update_is_made_in_whole()
-    ensures { proposed null
+    ensures { merged null
         ((codes "a" ∷ codes "n" ∷ [], tree_of_pairs (([], whole (pos 1)) ∷ [])) ∷ (codes "b" ∷ codes "n" ∷ [], tree_of_pairs (([], whole (pos 1)) ∷ [])) ∷ [])
         ≡ tree_of_pairs ((codes "a" ∷ codes "n" ∷ [], whole (pos 1)) ∷ (codes "b" ∷ codes "n" ∷ [], whole (pos 1)) ∷ []) }
 {}
 
 /// Removing `/w/1/size` in `{"w":{"1":{"color":"red","size":3}}}` leaves the color alone.
 pub fn removing_a_child_leaves_its_siblings()
-    ensures { proposed
+    ensures { merged
         (tree_of_pairs ((codes "w" ∷ codes "1" ∷ codes "color" ∷ [], words (codes "red")) ∷ (codes "w" ∷ codes "1" ∷ codes "size" ∷ [], whole (pos 3)) ∷ []))
         ((codes "w" ∷ codes "1" ∷ codes "size" ∷ [], null) ∷ [])
         ≡ tree_of_pairs ((codes "w" ∷ codes "1" ∷ codes "color" ∷ [], words (codes "red")) ∷ []) }

@@ -19,11 +19,12 @@ fn wide(alloc: Global, width: u32) -> Result<Option<Node>, Fail> {
 
 // No writes, laid over a tree of 1,000 primitives, while each growth of the arena is refused.
 #[test]
+#[tactic(auto, unfolding(tree_model::specs::Primitive::is_whole))]
 fn overlay_without_growth(rt: HostRuntime) -> Result<(), Fail> {
     let base = wide(rt.alloc(), 1_000)?;
     let arena = Bump::new(rt.alloc());
     arena.set_allocation_limit(Some(0));
-    let view = overlay(&arena, base.as_ref(), &[])?.ok_or("null")?;
+    let view = overlay(&arena, base.as_ref(), &[], 0)?.ok_or("null")?;
     assert_eq!(rt; view.width(), 1_000);
     assert_eq!(rt; view.count(), 1_001);
     assert_eq!(rt; arena.allocated_bytes(), 0);
@@ -32,13 +33,14 @@ fn overlay_without_growth(rt: HostRuntime) -> Result<(), Fail> {
 
 // Whether writes are laid over a tree with so many bytes of arena, and then how many children there
 // are.
+#[tactic(auto, unfolding(tree_model::specs::Primitive::is_whole))]
 fn width_within(alloc: Global, base: &Node, writes: &[Write], limit: usize) -> Option<usize> {
     if overlaps(writes) {
         return None;
     }
     let arena = Bump::new(alloc);
     arena.set_allocation_limit(Some(limit));
-    match overlay(&arena, Some(base), writes) {
+    match overlay(&arena, Some(base), writes, 0) {
         Ok(Some(view)) => Some(view.width()),
         _ => None,
     }

@@ -9,19 +9,19 @@ use Rattle.std.specs.FinMap.{is_sorted}
 use Rattle.tree_model.specs.Key.{Key, key_cmp}
 use Rattle.tree_model.specs.PathMap.{get}
 use Rattle.tree_model.specs.Tree.{Tree, null, non_null, count, children}
-use Rattle.tree_model.specs.Write.{Write, proposed}
+use Rattle.tree_model.specs.Put.{Put, merged}
 
 -- a key, and the child that is then there, if any
 abbrev pub Change : Type 0
 Change = Key × Option Tree
 
 -- the write of that child
-abbrev pub write_of : Change → Write
+abbrev pub write_of : Change → Put
 write_of c = (c.0 ∷ [], unwrap_or c.1 null)
 
 -- the tree with these children in place of its own at these keys
 abbrev pub changed : Tree → List Change → Tree
-changed t cs = proposed t (map write_of cs)
+changed t cs = merged t (map write_of cs)
 
 -- these may change a tree: no primitive stands at its root, their keys strictly ascend, and no child is null
 pub record AreChanges (t : Tree) (cs : List Change) : Type 0 where

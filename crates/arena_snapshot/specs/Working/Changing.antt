@@ -12,13 +12,13 @@ use Rattle.tree_model.specs.Primitive.{Primitive}
 use Rattle.tree_model.specs.PathMap.{get, sub, depth}
 use Rattle.tree_model.specs.Tree.{Tree, null, non_null}
 use Rattle.tree_model.proofs.Existence.{non_null-null, non_null-some}
-use Rattle.tree_model.specs.Write.{Write, stays, proposed, writes_below}
+use Rattle.tree_model.specs.Put.{Put, stays, merged, puts_below}
 use Rattle.tree_model.proofs.Choices.{or_else}
 use Rattle.tree_model.proofs.Orders.{bytes_eq-self}
 use Rattle.tree_model.proofs.Grafts.{find_beyond}
-use Rattle.tree_model.proofs.Writes.{placed_at, get-proposed, proposed-none}
-use Rattle.tree_model.proofs.Below.{is_at_root, sub-proposed}
-use Rattle.json_tree.proofs.Proposing.{proposed-root}
+use Rattle.tree_model.proofs.Placing.{placed_at, get-merged, merged-none}
+use Rattle.tree_model.proofs.Below.{is_at_root, sub-merged}
+use Rattle.json_tree.proofs.Proposing.{merged-root}
 use Rattle.json_tree.proofs.Children.{depth-sub}
 use Rattle.arena_snapshot.specs.Working.Change.{Change, write_of, changed, AreChanges}
 
@@ -28,22 +28,22 @@ child_after t None = t
 child_after t (Some o) = unwrap_or o null
 
 -- the writes below k, where the first of them is at l ∷ [], and b says whether l is k
-abbrev next : Bool → Tree → List Write → List Write
+abbrev next : Bool → Tree → List Put → List Put
 next b u ws = cons_option (option_map (λ (r : Path). (r, u)) (cond b (Some []) None)) ws
 
-no_below : (k : Key) (ps : List Change) → find key_cmp k ps ≡ None → writes_below k (map write_of ps) ≡ []
+no_below : (k : Key) (ps : List Change) → find key_cmp k ps ≡ None → puts_below k (map write_of ps) ≡ []
 no_below k [] h = refl
 no_below k (p ∷ ps) h =
-    elim (bytes_eq k p.0) as (λ b. cond b (Some p.1) (find key_cmp k ps) ≡ None → next b (unwrap_or p.1 null) (writes_below k (map write_of ps)) ≡ []) [
+    elim (bytes_eq k p.0) as (λ b. cond b (Some p.1) (find key_cmp k ps) ≡ None → next b (unwrap_or p.1 null) (puts_below k (map write_of ps)) ≡ []) [
       | true ↦ λ (g : Some p.1 ≡ None). cc
       | false ↦ λ g. no_below k ps g
     ] (ap (λ b. cond b (Some p.1) (find key_cmp k ps)) (sym (is_eq-slice_cmp k p.0)) ∙ h)
 
-below_changes : (k : Key) (t : Tree) (ps : List Change) → is_sorted key_cmp ps ≡ true → proposed t (writes_below k (map write_of ps)) ≡ child_after t (find key_cmp k ps)
-below_changes k t [] s = proposed-none t
+below_changes : (k : Key) (t : Tree) (ps : List Change) → is_sorted key_cmp ps ≡ true → merged t (puts_below k (map write_of ps)) ≡ child_after t (find key_cmp k ps)
+below_changes k t [] s = merged-none t
 below_changes k t (p ∷ ps) s =
-    elim (bytes_eq k p.0) as (λ b. (b ≡ true → find key_cmp k ps ≡ None) → proposed t (next b (unwrap_or p.1 null) (writes_below k (map write_of ps))) ≡ child_after t (cond b (Some p.1) (find key_cmp k ps))) [
-      | true ↦ λ none. ap (λ ws. proposed t (([], unwrap_or p.1 null) ∷ ws)) (no_below k ps (none refl)) ∙ proposed-root t (unwrap_or p.1 null)
+    elim (bytes_eq k p.0) as (λ b. (b ≡ true → find key_cmp k ps ≡ None) → merged t (next b (unwrap_or p.1 null) (puts_below k (map write_of ps))) ≡ child_after t (cond b (Some p.1) (find key_cmp k ps))) [
+      | true ↦ λ none. ap (λ ws. merged t (([], unwrap_or p.1 null) ∷ ws)) (no_below k ps (none refl)) ∙ merged-root t (unwrap_or p.1 null)
       | false ↦ λ _. below_changes k t ps (second_so _ _ s)
     ] (find_beyond k p ps s)
     ∙ ap (λ b. child_after t (cond b (Some p.1) (find key_cmp k ps))) (sym (is_eq-slice_cmp k p.0))
@@ -54,7 +54,7 @@ none_at_root (p ∷ ps) = none_at_root ps
 
 -- below a key: what its change puts there, or what stood there
 pub sub-changed : (t : Tree) (ps : List Change) (k : Key) → is_sorted key_cmp ps ≡ true → sub (changed t ps) (k ∷ []) ≡ child_after (sub t (k ∷ [])) (find key_cmp k ps)
-sub-changed t ps k s = sub-proposed t (map write_of ps) k (none_at_root ps) ∙ below_changes k (sub t (k ∷ [])) ps s
+sub-changed t ps k s = sub-merged t (map write_of ps) k (none_at_root ps) ∙ below_changes k (sub t (k ∷ [])) ps s
 
 none_placed : (ps : List Change) → placed_at (map write_of ps) [] ≡ None
 none_placed [] = refl
@@ -63,7 +63,7 @@ none_placed (p ∷ ps) = none_placed ps
 -- no primitive comes to the root
 pub get-changed-root : (t : Tree) (ps : List Change) → get t [] ≡ None → get (changed t ps) [] ≡ None
 get-changed-root t ps none =
-    get-proposed t (map write_of ps) []
+    get-merged t (map write_of ps) []
     ∙ (λ i. or_else (cond (stays (map write_of ps) []) (none i) None) (none_placed ps i))
     ∙ nothing (stays (map write_of ps) [])
   where

@@ -4,7 +4,8 @@ use Rattle.std.specs.FinMap as map_of
 use Rattle.evaluator.specs.Identity.{Identity}
 use Rattle.tree_model.specs.Tree.{Tree}
 use Rattle.tree_model.specs.Path.{Path}
-use Rattle.tree_model.specs.Write.{Write, location}
+use Rattle.tree_model.specs.Put.{location}
+use Rattle.tree_model.specs.Write.{Write}
 use Rattle.rules_reader.specs.Book.{Book}
 use Rattle.judge.specs.Question.{Scene}
 use Rattle.judge.specs.declared.verdict.Verdict.{Verdict}
@@ -94,9 +95,9 @@ all_sessions sessions = map (λ e. e.1) (map_of.entries sessions)
 abbrev pub with_settled : State → List Decision → State
 with_settled state ds = record state { sessions = map_of.from_entries (settled_all 0 ds (map_of.entries state.sessions)) }
 
--- the tree that the writes propose is the tree; nothing is judged again yet
-abbrev pub with_tree : State → List Write → State
-with_tree old writes = record old { tree = tree_with old writes }
+-- the tree that the writes propose at this moment is the tree; nothing is judged again yet
+abbrev pub with_tree : State → ℕ → List Write → State
+with_tree old now writes = record old { tree = tree_with old now writes }
 
 -- these rules are in force; nothing is judged again yet
 abbrev pub with_rules : State → Book → State
@@ -110,11 +111,11 @@ read_refusal_for old now who path query = denial (read_verdict (scene_for old no
 
 -- the verdict on writes, which are judged together
 abbrev pub verdict_for : State → ℕ → Option Identity → List Write → Verdict
-verdict_for old now who writes = write_verdict (scene_for old now who) (tree_with old writes) (map location writes)
+verdict_for old now who writes = write_verdict (scene_for old now who) (tree_with old now writes) (map location writes)
 
 -- why these writes are refused, if they are
 unfoldable pub write_refusal_for : State → ℕ → Option Identity → List Write → Option Refusal
-write_refusal_for old now who writes = or_full (denial (verdict_for old now who writes)) (tree_with old writes)
+write_refusal_for old now who writes = or_full (denial (verdict_for old now who writes)) (tree_with old now writes)
 
 -- why an open session that listens to these can't listen under this id, whatever the rules say
 abbrev pub listen_refusal : List Listener → List ℕ → Option Refusal

@@ -2,24 +2,26 @@
 use Rattle.std.specs.Prelude.{◌≡◌, ◌≤◌, false, Option, option_map}
 use Rattle.std.specs.Borrow.{Bor}
 use Rattle.tree_model.specs.Tree.{Tree}
-use Rattle.tree_model.specs.Write.{overlaps, proposed}
+use Rattle.tree_model.specs.Put.{overlaps}
+use Rattle.tree_model.specs.Write.{proposed, AreFixed}
 use Rattle.path_capture.specs.Write.{tree_or_null}
 use Rattle.arena_snapshot.specs.View.{node_or_null}
 use Rattle.evaluator.specs.Identity.{Identity}
 use Rattle.evaluator.specs.declared.env.TheConstants.{MAX_MOMENT}
 use Rattle.rtdb_core.specs.declared.passage.Passage.{Passage}
 
--- the tree is what the writes propose
+-- the tree is what the writes propose at this moment, and no moment stands in them
 pub record IsPassage (p : Passage) : Type 0 where
   pub moment : p.moment ≤ MAX_MOMENT
   pub apart : overlaps p.writes.now ≡ false
-  pub coming : tree_or_null p.coming ≡ proposed (node_or_null p.base) p.writes.now
+  pub fixed : AreFixed p.writes.now
+  pub coming : tree_or_null p.coming ≡ proposed (node_or_null p.base) p.writes.now p.moment
 
 abbrev pub tree_before : Passage → Tree
 tree_before p = node_or_null p.base
 
 abbrev pub tree_after : Passage → Tree
-tree_after p = proposed (node_or_null p.base) p.writes.now
+tree_after p = proposed (node_or_null p.base) p.writes.now p.moment
 
 abbrev pub who_of : Option (Bor Identity) → Option Identity
 who_of who = option_map (λ (one : Bor Identity). one.now) who

@@ -3,7 +3,8 @@ use Rattle.std.specs.Prelude.{◌≡◌, ◌⊎◌, ◌≤◌, ℕ, List, ◌∷
 use Rattle.evaluator.specs.Identity.{Identity}
 use Rattle.tree_model.specs.Path.{Path}
 use Rattle.tree_model.specs.Tree.{non_null, count}
-use Rattle.tree_model.specs.Write.{Write, overlaps}
+use Rattle.tree_model.specs.Put.{overlaps}
+use Rattle.tree_model.specs.Write.{Write, AreFixed}
 use Rattle.listeners.specs.Query.{Query}
 use Rattle.listeners.specs.Table.{without_id, taken}
 use Rattle.rtdb_model.specs.declared.borrowed.BorrowedRefusal.{BorrowedRefusal}
@@ -25,27 +26,28 @@ use Rattle.rtdb_core.specs.Working.Fates.{settled, with_settled, with_tree, with
 
 -- ---- what may be done
 
--- the state once the event is done, and what was decided of listeners
+-- the state once the event is done, and what was decided of listeners; no moment stands in what it writes, which is then the same at each
 abbrev pub committed : State → ℕ → Event → List Decision → State
 committed old session Open ds = opened old session
 committed old session Close ds = closed old session
 committed old session (SignIn who) ds = with_session old session (Some who) (settled 0 ds (listeners_of old session))
 committed old session SignOut ds = with_session old session None (settled 0 ds (listeners_of old session))
 committed old session (Get path query) ds = old
-committed old session (Set write) ds = with_settled (with_tree old (write ∷ [])) ds
-committed old session (Remove path) ds = with_settled (with_tree old (removal path ∷ [])) ds
-committed old session (Update writes) ds = with_settled (with_tree old writes) ds
+committed old session (Set write) ds = with_settled (with_tree old 0 (write ∷ [])) ds
+committed old session (Remove path) ds = with_settled (with_tree old 0 (removal path ∷ [])) ds
+committed old session (Update writes) ds = with_settled (with_tree old 0 writes) ds
 committed old session (Listen id path query) ds = listening old session id path query
 committed old session (Unlisten id) ds = with_session old session (identity_of old session) (without_id id (listeners_of old session))
 committed old session Poll ds = with_session old session (identity_of old session) (taken (settled 0 ds (listeners_of old session)))
 committed old session Tick ds = with_settled old ds
 committed old session (Deploy rules) ds = with_settled (with_rules old rules) ds
 
--- the session is open, the writes don't overlap, and the tree has room for them
+-- the session is open, the writes don't overlap, no moment stands in them, and the tree has room for them
 pub record CanBeMade (old : State) (session : ℕ) (writes : List Write) : Type 0 where
   pub opened : is_open old session ≡ true
   pub apart : overlaps writes ≡ false
-  pub room : count (tree_with old writes) ≤ MAX_LOCATIONS
+  pub fixed : AreFixed writes
+  pub room : count (tree_with old 0 writes) ≤ MAX_LOCATIONS
 
 -- what doing the event stands on, where it may be done
 abbrev pub MayBeDone : State → ℕ → Event → Type 0
@@ -96,7 +98,7 @@ pub record IsGranted (old : State) (now : ℕ) (who : Option Identity) (path : P
 pub record AreGranted (old : State) (now : ℕ) (who : Option Identity) (writes : List Write) (found : Found) : Type 0 where
   pub granted : write_refusal_for old now who writes ≡ None
   pub done : found.reply ≡ borrowed.Done
-  pub decided : with_settled (with_tree old writes) found.decisions.made.items ≡ written_to old now writes
+  pub decided : with_settled (with_tree old now writes) found.decisions.made.items ≡ written_to old now writes
 
 -- it is the refusal that is owed, or want of memory
 abbrev pub IsRefused : Option Refusal → BorrowedRefusal → Type 0

@@ -1,5 +1,5 @@
 use Rattle.std.proofs.Common.{◌≡◌, drop}
-use Rattle.tree_model.specs.Write.{overlaps}
+use Rattle.tree_model.specs.Put.{overlaps}
 use Rattle.arena_snapshot.proofs.overlapping.overlap_in_any_order.Given as goal
 
 abbrev pub invariant-loop-i : goal.invariant-loop-i

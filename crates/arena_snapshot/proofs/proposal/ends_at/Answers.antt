@@ -1,5 +1,5 @@
 use Rattle.std.proofs.Common.{nat_le, length, ap, ◌∙◌}
-use Rattle.tree_model.specs.Write.{location}
+use Rattle.tree_model.specs.Put.{location}
 use Rattle.arena_snapshot.proofs.Lefts.{ends_test}
 use Rattle.arena_snapshot.proofs.proposal.ends_at.Goals as goal
 

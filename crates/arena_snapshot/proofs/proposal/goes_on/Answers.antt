@@ -2,7 +2,7 @@ use Rattle.std.proofs.Common.{length, get_or, sym, ap, ◌∙◌, arith}
 use Rattle.tree_model.specs.Key.{Key}
 use Rattle.tree_model.proofs.Orders.{bytes_eq-swap}
 use Rattle.std.specs.Str.{bytes_eq}
-use Rattle.tree_model.specs.Write.{location}
+use Rattle.tree_model.specs.Put.{location}
 use Rattle.arena_snapshot.proofs.Lefts.{begins_at}
 use Rattle.arena_snapshot.proofs.proposal.goes_on.Goals as goal
 

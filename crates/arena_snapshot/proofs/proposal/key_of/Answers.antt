@@ -1,6 +1,6 @@
 use Rattle.std.proofs.Common.{get_or, sym, ap, ◌∙◌}
 use Rattle.tree_model.specs.Key.{Key}
-use Rattle.tree_model.specs.Write.{location}
+use Rattle.tree_model.specs.Put.{location}
 use Rattle.tree_model.proofs.Orders.{bytes_eq-self}
 use Rattle.arena_snapshot.proofs.Lefts.{next_key, begins_at}
 use Rattle.arena_snapshot.proofs.proposal.key_of.Goals as goal

@@ -1,7 +1,7 @@
 use Rattle.std.proofs.Common.{◌≡◌, ◌≤◌, ◌-◌, ◌∷◌, [], true, length, drop}
 use Rattle.std.specs.List.{AllWithin}
 use Rattle.tree_model.specs.Path.{is_prefix}
-use Rattle.tree_model.specs.Write.{location}
+use Rattle.tree_model.specs.Put.{location}
 use Rattle.arena_snapshot.proofs.proposal.run_end.Given as goal
 
 abbrev pub invariant-loop-end : goal.invariant-loop-end

@@ -3,7 +3,8 @@ use Rattle.std.specs.Borrow.{Bor}
 use Rattle.std.specs.Ordering.{is_lt}
 use Rattle.std.proofs.lemmas.List.Sorted.{ranks_by, answers_always}
 use Rattle.tree_model.specs.Path.{path_cmp}
-use Rattle.tree_model.specs.Write.{Write, location}
+use Rattle.tree_model.specs.Put.{location}
+use Rattle.tree_model.specs.Write.{Write}
 use Rattle.tree_model.proofs.Orders.{paths_total}
 use Rattle.arena_snapshot.proofs.proposal.sort.Goals as goal
 

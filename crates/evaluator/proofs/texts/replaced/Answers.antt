@@ -1,4 +1,4 @@
-use Rattle.std.proofs.Common.{◌≡◌, ◌==◌, ◌∙◌, sym, false, length, arith, rules}
+use Rattle.std.proofs.Common.{◌≡◌, ◌==◌, ◌∙◌, sym, false, length, arith}
 use Rattle.std.proofs.lemmas.Grind.{common_steps}
 use Rattle.evaluator.specs.Value.{words}
 use Rattle.evaluator.specs.Operators.{text_within}
@@ -6,14 +6,8 @@ use Rattle.evaluator.specs.Texts.{replace}
 use Rattle.evaluator.proofs.Replacing.{replace_outside}
 use Rattle.evaluator.proofs.texts.replaced.Goals as goal
 
-pub returns-else-is_inside-clause-value : goal.returns-else-is_inside-clause-value
-returns-else-is_inside-clause-value c =
+pub returns-else-is_inside : goal.returns-else-is_inside
+returns-else-is_inside c =
     let full : (length c.args.part.now == 0) ≡ false = grind (arith, common_steps) in
     let is : replace (words c.args.text.now) (words c.args.part.now) (words c.args.with.now) ≡ text_within c.args.text.now = replace_outside c.args.text.now c.args.part.now c.args.with.now full (sym c.is_inside.ensures ∙ c.if-is_inside.false) in
-    search (rules, is)
-
-pub returns-else-is_inside-clause-erred : goal.returns-else-is_inside-clause-erred
-returns-else-is_inside-clause-erred c =
-    let full : (length c.args.part.now == 0) ≡ false = grind (arith, common_steps) in
-    let is : replace (words c.args.text.now) (words c.args.part.now) (words c.args.with.now) ≡ text_within c.args.text.now = replace_outside c.args.text.now c.args.part.now c.args.with.now full (sym c.is_inside.ensures ∙ c.if-is_inside.false) in
-    λ e. is ∙ c.unchanged.ensures.erred e
+    rw is c.unchanged.ensures

@@ -2,7 +2,7 @@ use Rattle.std.proofs.Common.{option_map, ap, refl, arith}
 use Rattle.json.specs.Reads.{token_of}
 use Rattle.serde_json.specs.Data.{boolean, null, string, number, object, unsigned}
 use Rattle.serde_json.specs.Find.{of_integer}
-use Rattle.json_lines.specs.TreeMembers.{members_named}
+use Rattle.json_lines.specs.DraftMembers.{drafts_named}
 use Rattle.json_lines.proofs.Reading.{as_read, string_read, truth_read, null_read, number_read, object_read}
 use Rattle.json_lines.proofs.outline.said_from.Goals as goal
 
@@ -29,4 +29,4 @@ returns-in-Null-clause-value c = as_read 126 _ _ _ _ _ null (ap token_of c.in-Nu
 pub returns-in_ok-named-in-BeginObject-clause-value : goal.returns-in_ok-named-in-BeginObject-clause-value
 returns-in_ok-named-in-BeginObject-clause-value c =
     let named = c.in_ok-named-in-BeginObject in
-    as_read 126 _ _ _ _ _ (object (members_named named.named)) (ap token_of c.in-BeginObject.is) refl (object_read 126 c.args.reader.now c.named_from.new.reader (members_named named.named) (omega arith) named.ensures.value)
+    as_read 126 _ _ _ _ _ (object (drafts_named named.named)) (ap token_of c.in-BeginObject.is) refl (object_read 126 c.args.reader.now c.named_from.new.reader (drafts_named named.named) (omega arith) named.ensures.value)

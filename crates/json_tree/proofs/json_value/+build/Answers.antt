@@ -1,4 +1,4 @@
-use Rattle.std.proofs.Common.{◌≡◌, ◌+◌, ◌^◌, ◌<◌, ◌≤◌, ◌∷◌, [], ◌++◌, Some, drop, length, string_bytes, true, sym, ap, ◌∙◌, subst, arith}
+use Rattle.std.proofs.Common.{◌≡◌, ◌+◌, ◌^◌, ◌<◌, ◌≤◌, ◌∷◌, [], ◌++◌, Some, option_map, refl, drop, length, string_bytes, true, sym, ap, ◌∙◌, subst, arith}
 use Rattle.std.specs.Option.{option_map_or}
 use Rattle.std.specs.FinMap.{is_sorted}
 use Rattle.std.proofs.lemmas.Result.{IfOk-weaker}
@@ -12,7 +12,7 @@ use Rattle.tree_model.specs.Primitive.{whole, words, truth, is_text}
 use Rattle.tree_model.specs.PathMap.{depth}
 use Rattle.tree_model.specs.Tree.{lone, non_null}
 use Rattle.tree_model.specs.Children.{graft}
-use Rattle.json_tree.specs.Json.{is_lawful, pairs_of, of_json}
+use Rattle.json_tree.specs.Json.{primitive_in, is_lawful, leaves, of_json}
 use Rattle.json_tree.specs.Working.Levels.{levels}
 use Rattle.json_tree.specs.Working.Members.{members_at, children_of}
 use Rattle.json_tree.proofs.Limits.{text_length}
@@ -30,13 +30,13 @@ pub build-returns-in-Null : goal.build-returns-in-Null
 build-returns-in-Null t c = none_of_null (view c.args.value.now) (ap view c.in-Null.is ∙ view-Null)
 
 pub build-returns-in-Bool : goal.build-returns-in-Bool
-build-returns-in-Bool t c = IfOk-weaker c.alone.result _ _ (λ node is. is ∙ some-lone (truth c.in-Bool.b) (view c.args.value.now) (ap pairs_of (ap view c.in-Bool.is ∙ view-Bool c.in-Bool.b))) c.alone.ensures
+build-returns-in-Bool t c = IfOk-weaker c.alone.result _ _ (λ node is. is ∙ some-lone (truth c.in-Bool.b) (view c.args.value.now) (ap (leaves primitive_in) (ap view c.in-Bool.is ∙ view-Bool c.in-Bool.b))) c.alone.ensures
 
 pub build-returns-in-Number : goal.build-returns-in-Number
 build-returns-in-Number t c =
     let n = c.in-Number.number in
     let found = sym c.whole_of.ensures ∙ c.unwrap.ensures in
-    let pairs = ap pairs_of (ap view c.in-Number.is ∙ view-Number n) ∙ ap (λ o. option_map_or (λ z. ([], whole z) ∷ []) o []) found in
+    let pairs = ap (leaves primitive_in) (ap view c.in-Number.is ∙ view-Number n) ∙ ap (λ o. option_map_or (λ v. ([], v) ∷ []) (option_map whole o) []) found in
     IfOk-weaker c.alone-in-Number.result _ _ (λ node is. is ∙ some-lone (whole c.unwrap.result) (view c.args.value.now) pairs) c.alone-in-Number.ensures
 
 pub build-words-requires : goal.build-words-requires
@@ -47,7 +47,7 @@ build-words-requires t c =
 pub build-returns-in_ok-words-in-String : goal.build-returns-in_ok-words-in-String
 build-returns-in_ok-words-in-String t c =
     let leaf = c.in_ok-words-in-String.ensures ∙ ap words c.as_str.ensures.value in
-    let pairs = ap pairs_of (ap view c.in-String.is ∙ view-String c.in-String.text) in
+    let pairs = ap (leaves primitive_in) (ap view c.in-String.is ∙ view-String c.in-String.text) in
     IfOk-weaker c.alone-in-String.result _ _ (λ node is. is ∙ ap (λ v. Some (lone v)) leaf ∙ some-lone (words (string_bytes c.in-String.text)) (view c.args.value.now) pairs) c.alone-in-String.ensures
 
 -- ---- an array
@@ -56,7 +56,7 @@ pub build-parent-requires-clause-ascending : goal.build-parent-requires-clause-a
 build-parent-requires-clause-ascending t c =
     let vs = c.in-Array.items.items in
     let short : length vs < 2 ^ 64 = grind (arith, common_steps) in
-    array_ascending vs c.in_ok-children-in-Array.children.items c.sort.new.children.items c.in_ok-children-in-Array.ensures c.sort.ensures.permutation short c.sort.ensures.ascending
+    array_ascending primitive_in vs c.in_ok-children-in-Array.children.items c.sort.new.children.items c.in_ok-children-in-Array.ensures c.sort.ensures.permutation short c.sort.ensures.ascending
 
 pub build-parent-requires-clause-room : goal.build-parent-requires-clause-room
 build-parent-requires-clause-room t c =
@@ -69,7 +69,7 @@ pub build-returns-in_ok-children-in-Array : goal.build-returns-in_ok-children-in
 build-returns-in_ok-children-in-Array t c =
     let vs = c.in-Array.items.items in
     let short : length vs < 2 ^ 64 = grind (arith, common_steps) in
-    let tree = array_tree vs c.in_ok-children-in-Array.children.items c.sort.new.children.items c.in_ok-children-in-Array.ensures c.sort.ensures.permutation short in
+    let tree = array_tree primitive_in vs c.in_ok-children-in-Array.children.items c.sort.new.children.items c.in_ok-children-in-Array.ensures c.sort.ensures.permutation short in
     IfOk-weaker c.parent.result _ _ (λ node is. is ∙ ap non_null (tree ∙ ap of_json (sym (ap view c.in-Array.is ∙ view-Array c.in-Array.items)))) c.parent.ensures
 
 pub build_items-loop-index-preserved : goal.build_items-loop-index-preserved
@@ -77,7 +77,7 @@ build_items-loop-index-preserved t c =
     let vs = c.deref-item-items.result.now in
     let i = c.loop-index.index in
     let v = c.item-item.result in
-    let all = children_of (members_at 0 (items_view c.args.items.now.items)) in
+    let all = children_of primitive_in (members_at 0 (items_view c.args.items.now.items)) in
     let done = c.loop-index.children.items in
     elim c.match-built.branch [
       | build_items-in-Some+in_ok-of_index+in_ok-new+in_ok-push w ↦
@@ -100,20 +100,20 @@ build-parent-requires-in-Object-clause-room t c =
 pub build-returns-in_ok-build_members-in-Object : goal.build-returns-in_ok-build_members-in-Object
 build-returns-in_ok-build_members-in-Object t c =
     let es = c.in-Object.members.entries in
-    let tree = ap graft c.in_ok-build_members-in-Object.ensures.children ∙ graft-children_of (members_view es) in
+    let tree = ap graft c.in_ok-build_members-in-Object.ensures.children ∙ graft-children_of primitive_in (members_view es) refl in
     IfOk-weaker c.parent-in-Object.result _ _ (λ node is. is ∙ ap non_null (tree ∙ ap of_json (sym (ap view c.in-Object.is ∙ view-Object c.in-Object.members)))) c.parent-in-Object.ensures
 
 pub build_members-loop-name-preserved-in_ok-push : goal.build_members-loop-name-preserved-in_ok-push
 build_members-loop-name-preserved-in_ok-push t c =
-    member_some c.loop-name.children.items (children_of (members_view c.args.members.now.entries)) c.loop-name.name-iterator c.next.new.self (c.in-Some.name.now, c.in-Some.member.now) c.in-Some.ensures.steps c.loop-name.invariant
+    member_some c.loop-name.children.items (children_of primitive_in (members_view c.args.members.now.entries)) c.loop-name.name-iterator c.next.new.self (c.in-Some.name.now, c.in-Some.member.now) c.in-Some.ensures.steps c.loop-name.invariant
     c.in_ok-of_lawful.field-0 c.in-Some-built.node c.push.new.self.items (c.in_ok-of_lawful.ensures ∙ c.as_str.ensures.value) (c.in_ok-push.ensures.items ∙ ap (λ child. c.loop-name.children.items ++ child ∷ []) c.in_ok-new.ensures) (sym c.in-Some-built.is ∙ c.in_ok-built.ensures)
 
 pub build_members-loop-name-preserved : goal.build_members-loop-name-preserved
 build_members-loop-name-preserved t c =
-    member_none c.loop-name.children.items (children_of (members_view c.args.members.now.entries)) c.loop-name.name-iterator c.next.new.self (c.in-Some.name.now, c.in-Some.member.now) c.in-Some.ensures.steps c.loop-name.invariant (sym c.in_default.is ∙ c.in_ok-built.ensures)
+    member_none c.loop-name.children.items (children_of primitive_in (members_view c.args.members.now.entries)) c.loop-name.name-iterator c.next.new.self (c.in-Some.name.now, c.in-Some.member.now) c.in-Some.ensures.steps c.loop-name.invariant (sym c.in_default.is ∙ c.in_ok-built.ensures)
 
 pub build_members-returns-clause-ascending : goal.build_members-returns-clause-ascending
 build_members-returns-clause-ascending t c =
     let es = c.args.members.now.entries in
-    let all = built_end c.loop-name.children.items (children_of (members_view c.loop-name.name-iterator)) (children_of (members_view es)) _ _ (ap (λ fs. children_of (members_view fs)) c.in-None.ensures.steps.0) c.loop-name.invariant in
-    ap (is_sorted key_cmp) all ∙ ascending_children es c.iter-name-items.ensures.ordered
+    let all = built_end c.loop-name.children.items (children_of primitive_in (members_view c.loop-name.name-iterator)) (children_of primitive_in (members_view es)) _ _ (ap (λ fs. children_of primitive_in (members_view fs)) c.in-None.ensures.steps.0) c.loop-name.invariant in
+    ap (is_sorted key_cmp) all ∙ ascending_children primitive_in es c.iter-name-items.ensures.ordered

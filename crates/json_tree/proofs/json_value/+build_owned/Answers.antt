@@ -1,4 +1,4 @@
-use Rattle.std.proofs.Common.{◌+◌, ◌<◌, ◌≤◌, ◌∷◌, [], ◌++◌, sym, ap, ◌∙◌, subst}
+use Rattle.std.proofs.Common.{◌+◌, ◌<◌, ◌≤◌, ◌∷◌, [], ◌++◌, sym, ap, ◌∙◌, subst, refl}
 use Rattle.std.specs.FinMap.{is_sorted}
 use Rattle.std.proofs.lemmas.Result.{IfOk-weaker}
 use Rattle.std.specs.List.{All}
@@ -9,7 +9,7 @@ use Rattle.tree_model.specs.Key.{key_cmp}
 use Rattle.tree_model.specs.PathMap.{depth}
 use Rattle.tree_model.specs.Tree.{non_null}
 use Rattle.tree_model.specs.Children.{graft}
-use Rattle.json_tree.specs.Json.{of_json}
+use Rattle.json_tree.specs.Json.{primitive_in, of_json}
 use Rattle.json_tree.specs.Working.Levels.{levels}
 use Rattle.json_tree.specs.Working.Members.{children_of}
 use Rattle.json_tree.proofs.Lists.{all_from_recursion}
@@ -27,13 +27,13 @@ build_owned-parent-requires-clause-room t c =
 pub build_owned-returns-in_ok-build_owned_members-in-Object : goal.build_owned-returns-in_ok-build_owned_members-in-Object
 build_owned-returns-in_ok-build_owned_members-in-Object t c =
     let es = c.in-Object.members.entries in
-    let tree = ap graft c.in_ok-build_owned_members-in-Object.ensures.children ∙ graft-children_of (members_view es) in
+    let tree = ap graft c.in_ok-build_owned_members-in-Object.ensures.children ∙ graft-children_of primitive_in (members_view es) refl in
     IfOk-weaker c.parent.result _ _ (λ node is. is ∙ ap non_null (tree ∙ ap of_json (sym (ap view c.in-Object.is ∙ view-Object c.in-Object.members)))) c.parent.ensures
 
 pub build_owned_members-loop-name-preserved : goal.build_owned_members-loop-name-preserved
 build_owned_members-loop-name-preserved t c =
     let done = c.loop-name.children.items in
-    let all = children_of (members_view c.args.members.entries) in
+    let all = children_of primitive_in (members_view c.args.members.entries) in
     let es = c.loop-name.name-iterator in
     let more = c.next.new.self in
     elim c.match-built.branch [
@@ -48,5 +48,5 @@ build_owned_members-loop-name-preserved t c =
 pub build_owned_members-returns-clause-ascending : goal.build_owned_members-returns-clause-ascending
 build_owned_members-returns-clause-ascending t c =
     let es = c.args.members.entries in
-    let all = built_end c.loop-name.children.items (children_of (members_view c.loop-name.name-iterator)) (children_of (members_view es)) _ _ (ap (λ fs. children_of (members_view fs)) c.in-None.ensures.steps.0) c.loop-name.invariant in
-    ap (is_sorted key_cmp) all ∙ ascending_children es c.len.ensures.ordered
+    let all = built_end c.loop-name.children.items (children_of primitive_in (members_view c.loop-name.name-iterator)) (children_of primitive_in (members_view es)) _ _ (ap (λ fs. children_of primitive_in (members_view fs)) c.in-None.ensures.steps.0) c.loop-name.invariant in
+    ap (is_sorted key_cmp) all ∙ ascending_children primitive_in es c.len.ensures.ordered

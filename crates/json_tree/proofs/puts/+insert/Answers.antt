@@ -8,7 +8,7 @@ use Rattle.tree_model.specs.Key.{Key, is_key}
 use Rattle.tree_model.specs.PathMap.{sub, exists, depth}
 use Rattle.tree_model.specs.Tree.{Tree, null, IsLawful}
 use Rattle.tree_model.specs.Children.{graft}
-use Rattle.tree_model.specs.Write.{proposed}
+use Rattle.tree_model.specs.Put.{merged}
 use Rattle.tree_model.proofs.Lookups.{sub-root}
 use Rattle.tree_model.proofs.Lawful.{IsLawful-graft}
 use Rattle.json_tree.specs.Leaf.{primitive_of}
@@ -16,7 +16,7 @@ use Rattle.json_tree.specs.Node.{AreLawfulChildren}
 use Rattle.json_tree.specs.Working.Changed.{changed_at}
 use Rattle.json_tree.proofs.Nodes.{at_primitive, parts_at_parent}
 use Rattle.json_tree.proofs.Edits.{first_and_rest}
-use Rattle.json_tree.proofs.Proposing.{proposed-root, proposed-lone, proposed-chain, depth-chain, room_after}
+use Rattle.json_tree.proofs.Proposing.{merged-root, merged-lone, merged-chain, depth-chain, room_after}
 use Rattle.json_tree.proofs.ChildEdits.{StandsAt, depth_there, children-set, graft-set, missing_at, children-insert, graft-insert}
 use Rattle.json_tree.proofs.Shares.{IsShareOf, size_of_node, set_there, exchanges-set, exchanges-insert}
 use Rattle.json_tree.proofs.Undoing.{place-lone, changed-lone, exists-lone, place-there, changed-there, exists-there, place-missing, changed-missing, exists-missing}
@@ -41,7 +41,7 @@ insert-invariant_of-node-in-Parent t c =
 pub insert-returns-in_default-clause-ok : goal.insert-returns-in_default-clause-ok
 insert-returns-in_default-clause-ok t c =
     let none = nil_from_length c.args.path.now (omega arith) in
-    c.swap.ensures.x_after ∙ sym (ap (λ p. proposed c.args.node.now ((p, c.args.value.now) ∷ [])) none ∙ proposed-root c.args.node.now c.args.value.now)
+    c.swap.ensures.x_after ∙ sym (ap (λ p. merged c.args.node.now ((p, c.args.value.now) ∷ [])) none ∙ merged-root c.args.node.now c.args.value.now)
 
 pub insert-returns-in_default-clause-was : goal.insert-returns-in_default-clause-was
 insert-returns-in_default-clause-was t c =
@@ -52,7 +52,7 @@ pub insert-only_child-requires : goal.insert-only_child-requires
 insert-only_child-requires t c =
     let rest = take (length c.args.path.now - 1) (drop 1 c.args.path.now) in
     let long = ap length (first_and_rest c.args.path.now c.key-item.result (omega arith) c.key-item.is) in
-    let made = c.in_ok-chain-in-Primitive.ensures ∙ ap (λ v. proposed null ((rest, v) ∷ [])) c.taken.ensures in
+    let made = c.in_ok-chain-in-Primitive.ensures ∙ ap (λ v. merged null ((rest, v) ∷ [])) c.taken.ensures in
     let deep = depth-chain c.in_ok-chain-in-Primitive.field-0 rest c.args.value.now made in
     let room = c.requires.room in
     omega arith
@@ -75,12 +75,12 @@ insert-returns-in_ok-parent-in-Primitive-clause-ok t c =
     let path = first_and_rest c.args.path.now c.key-item.result (omega arith) c.key-item.is in
     let node = at_primitive c.node.view_is c.in-Primitive.is in
     let value = c.args.value.now in
-    let made = c.in_ok-chain-in-Primitive.ensures ∙ ap (λ v. proposed null ((rest, v) ∷ [])) c.taken.ensures in
+    let made = c.in_ok-chain-in-Primitive.ensures ∙ ap (λ v. merged null ((rest, v) ∷ [])) c.taken.ensures in
     c.replace.ensures.after
     ∙ c.in_ok-parent-in-Primitive.ensures
-    ∙ proposed-chain c.key-item.result rest c.in_ok-chain-in-Primitive.field-0 value made
-    ∙ sym (proposed-lone (primitive_of c.in-Primitive.field-0) c.key-item.result rest value c.law.ensures.some)
-    ∙ sym (λ i. proposed (node i) ((path i, value) ∷ []))
+    ∙ merged-chain c.key-item.result rest c.in_ok-chain-in-Primitive.field-0 value made
+    ∙ sym (merged-lone (primitive_of c.in-Primitive.field-0) c.key-item.result rest value c.law.ensures.some)
+    ∙ sym (λ i. merged (node i) ((path i, value) ∷ []))
 
 pub insert-returns-in_ok-parent-in-Primitive-clause-was : goal.insert-returns-in_ok-parent-in-Primitive-clause-was
 insert-returns-in_ok-parent-in-Primitive-clause-was t c =
@@ -135,7 +135,7 @@ insert_below-returns-in_ok-stood-in-Ok-clause-ok t c =
     let d : Key × Tree = c.deref_mut.result.now in
     let opened : was ≡ d = sym (c.deref_mut.ensures.value ∙ c.behind-children.view_is) in
     let found : StandsAt cs c.in-Ok.index d c.text.result.now = subst (λ (x : Key × Tree). StandsAt cs c.in-Ok.index x c.text.result.now) opened (record { children = c.requires.children; within = c.in-Ok.ensures.bound; at = c.index_mut.ensures.value; tied = c.in-Ok.ensures.position was }) in
-    graft-set found c.args.rest.now c.insert.new.node c.args.value.now c.in_ok-stood-in-Ok.ensures.ok ∙ ap (λ k. proposed (graft cs) ((k ∷ c.args.rest.now, c.args.value.now) ∷ [])) c.text.ensures.bytes
+    graft-set found c.args.rest.now c.insert.new.node c.args.value.now c.in_ok-stood-in-Ok.ensures.ok ∙ ap (λ k. merged (graft cs) ((k ∷ c.args.rest.now, c.args.value.now) ∷ [])) c.text.ensures.bytes
 
 pub insert_below-returns-in_ok-insert-in-Err-clause-children : goal.insert_below-returns-in_ok-insert-in-Err-clause-children
 insert_below-returns-in_ok-insert-in-Err-clause-children t c =
@@ -143,7 +143,7 @@ insert_below-returns-in_ok-insert-in-Err-clause-children t c =
     let below : Tree = c.in_ok-below-in-Err.below in
     let missing = missing_at cs c.in-Err.index c.text.result.now c.requires.children c.in-Err.ensures.bound c.in-Err.ensures.position in
     let items = c.in_ok-insert-in-Err.ensures.items ∙ ap (insert cs c.in-Err.index) c.in_ok-child-in-Err.ensures ∙ ap (λ k. insert cs c.in-Err.index (k, below)) (c.in_ok-copy-in-Err.ensures ∙ sym c.text.ensures.bytes) in
-    let made = c.in_ok-below-in-Err.ensures ∙ ap (λ v. proposed null ((c.args.rest.now, v) ∷ [])) c.taken.ensures in
+    let made = c.in_ok-below-in-Err.ensures ∙ ap (λ v. merged null ((c.args.rest.now, v) ∷ [])) c.taken.ensures in
     let deep = depth-chain below c.args.rest.now c.args.value.now made in
     let within = c.requires.room in
     let room : depth below < MAX_DEPTH = omega arith in
@@ -162,10 +162,10 @@ insert_below-returns-in_ok-insert-in-Err-clause-ok t c =
     let below : Tree = c.in_ok-below-in-Err.below in
     let missing = missing_at cs c.in-Err.index c.text.result.now c.requires.children c.in-Err.ensures.bound c.in-Err.ensures.position in
     let items = c.in_ok-insert-in-Err.ensures.items ∙ ap (insert cs c.in-Err.index) c.in_ok-child-in-Err.ensures ∙ ap (λ k. insert cs c.in-Err.index (k, below)) (c.in_ok-copy-in-Err.ensures ∙ sym c.text.ensures.bytes) in
-    let made = c.in_ok-below-in-Err.ensures ∙ ap (λ v. proposed null ((c.args.rest.now, v) ∷ [])) c.taken.ensures in
+    let made = c.in_ok-below-in-Err.ensures ∙ ap (λ v. merged null ((c.args.rest.now, v) ∷ [])) c.taken.ensures in
     ap graft items
     ∙ graft-insert missing c.args.rest.now below c.args.value.now made
-    ∙ ap (λ k. proposed (graft cs) ((k ∷ c.args.rest.now, c.args.value.now) ∷ [])) c.text.ensures.bytes
+    ∙ ap (λ k. merged (graft cs) ((k ∷ c.args.rest.now, c.args.value.now) ∷ [])) c.text.ensures.bytes
 
 -- what stood there
 

@@ -7,13 +7,13 @@ use Rattle.tree_model.specs.Key.{Key}
 use Rattle.tree_model.specs.PathMap.{depth}
 use Rattle.tree_model.specs.Tree.{Tree, null, IsLawful}
 use Rattle.tree_model.specs.Children.{graft}
-use Rattle.tree_model.specs.Write.{proposed}
+use Rattle.tree_model.specs.Put.{merged}
 use Rattle.tree_model.proofs.Lawful.{IsLawful-graft}
 use Rattle.json_tree.specs.Leaf.{primitive_of}
 use Rattle.json_tree.specs.Node.{AreLawfulChildren}
 use Rattle.json_tree.proofs.Nodes.{at_primitive, parts_at_parent}
 use Rattle.json_tree.proofs.Edits.{first_and_rest}
-use Rattle.json_tree.proofs.Proposing.{proposed-root, removed-lone, depth-removed}
+use Rattle.json_tree.proofs.Proposing.{merged-root, removed-lone, depth-removed}
 use Rattle.json_tree.proofs.ChildEdits.{StandsAt, depth_there, children-set, graft-set, set_same, children-remove, graft-remove, last_vanishes, missing_at, nothing_there}
 use Rattle.json_tree.proofs.Shares.{IsShareOf, size_of_node, set_there, exchanges-set, exchanges-remove, exchanges-none}
 use Rattle.json_tree.proofs.puts.+remove.Goals as goal
@@ -37,7 +37,7 @@ remove-invariant_of-node-2 t c =
 pub remove-returns-in_default-clause-gone : goal.remove-returns-in_default-clause-gone
 remove-returns-in_default-clause-gone t c =
     let none = nil_from_length c.args.path.now (omega arith) in
-    ap (λ p. proposed c.args.node.now ((p, null) ∷ [])) none ∙ proposed-root c.args.node.now null
+    ap (λ p. merged c.args.node.now ((p, null) ∷ [])) none ∙ merged-root c.args.node.now null
 
 pub remove-returns-in_default-kind-clause-left : goal.remove-returns-in_default-kind-clause-left
 remove-returns-in_default-kind-clause-left t c =
@@ -46,7 +46,7 @@ remove-returns-in_default-kind-clause-left t c =
     c.node.view_is
     ∙ node
     ∙ sym (removed-lone (primitive_of c.in_default-kind.field-0) c.key-item.result _)
-    ∙ sym (λ i. proposed (node i) ((path i, null) ∷ []))
+    ∙ sym (λ i. merged (node i) ((path i, null) ∷ []))
 
 -- ---- its children
 
@@ -86,7 +86,7 @@ remove_below-returns-then-not-remove-clause-left t c =
     let d : Key × Tree = c.deref_mut.result.now in
     let opened : was ≡ d = sym (c.deref_mut.ensures.value ∙ c.behind-children.view_is) in
     let found : StandsAt c.args.children.now.items c.in-Ok.index d c.text.result.now = subst (λ (x : Key × Tree). StandsAt c.args.children.now.items c.in-Ok.index x c.text.result.now) opened (record { children = c.requires; within = c.in-Ok.ensures.bound; at = c.index_mut.ensures.value; tied = c.in-Ok.ensures.position was }) in
-    graft-set found c.args.rest.now c.remove.new.node null c.if-not-remove.ensures.left ∙ ap (λ k. proposed (graft c.args.children.now.items) ((k ∷ c.args.rest.now, null) ∷ [])) c.text.ensures.bytes
+    graft-set found c.args.rest.now c.remove.new.node null c.if-not-remove.ensures.left ∙ ap (λ k. merged (graft c.args.children.now.items) ((k ∷ c.args.rest.now, null) ∷ [])) c.text.ensures.bytes
 
 -- the child was the only one
 pub remove_below-returns-then-is_only_child-clause-children : goal.remove_below-returns-then-is_only_child-clause-children
@@ -105,7 +105,7 @@ remove_below-returns-then-is_only_child-clause-gone t c =
     let found : StandsAt c.args.children.now.items c.in-Ok.index d c.text.result.now = subst (λ (x : Key × Tree). StandsAt c.args.children.now.items c.in-Ok.index x c.text.result.now) opened (record { children = c.requires; within = c.in-Ok.ensures.bound; at = c.index_mut.ensures.value; tied = c.in-Ok.ensures.position was }) in
     let long = length-set c.args.children.now.items c.in-Ok.index (d.0, c.remove.new.node) in
     let one : length c.args.children.now.items ≡ 1 = grind (arith, nat_tests) in
-    ap (λ k. proposed (graft c.args.children.now.items) ((k ∷ c.args.rest.now, null) ∷ [])) (sym c.text.ensures.bytes) ∙ last_vanishes found c.args.rest.now one c.if-not-remove.ensures.gone
+    ap (λ k. merged (graft c.args.children.now.items) ((k ∷ c.args.rest.now, null) ∷ [])) (sym c.text.ensures.bytes) ∙ last_vanishes found c.args.rest.now one c.if-not-remove.ensures.gone
 
 pub remove_below-returns-then-is_only_child-clause-same : goal.remove_below-returns-then-is_only_child-clause-same
 remove_below-returns-then-is_only_child-clause-same t c =
@@ -145,7 +145,7 @@ remove_below-returns-else-is_only_child-clause-left t c =
     let opened : was ≡ d = sym (c.deref_mut.ensures.value ∙ c.behind-children.view_is) in
     let found : StandsAt c.args.children.now.items c.in-Ok.index d c.text.result.now = subst (λ (x : Key × Tree). StandsAt c.args.children.now.items c.in-Ok.index x c.text.result.now) opened (record { children = c.requires; within = c.in-Ok.ensures.bound; at = c.index_mut.ensures.value; tied = c.in-Ok.ensures.position was }) in
     let items = c.remove-in-Ok.ensures.items ∙ ap (λ ds. remove ds c.in-Ok.index) (set_same found c.remove.new.node c.if-not-remove.ensures.same) in
-    ap graft items ∙ graft-remove found c.args.rest.now c.if-not-remove.ensures.gone ∙ ap (λ k. proposed (graft c.args.children.now.items) ((k ∷ c.args.rest.now, null) ∷ [])) c.text.ensures.bytes
+    ap graft items ∙ graft-remove found c.args.rest.now c.if-not-remove.ensures.gone ∙ ap (λ k. merged (graft c.args.children.now.items) ((k ∷ c.args.rest.now, null) ∷ [])) c.text.ensures.bytes
 
 -- there is no such child
 pub remove_below-returns-in-Err-clause-exchange : goal.remove_below-returns-in-Err-clause-exchange
@@ -154,4 +154,4 @@ remove_below-returns-in-Err-clause-exchange t c = exchanges-none c.args.children
 pub remove_below-returns-in-Err-clause-left : goal.remove_below-returns-in-Err-clause-left
 remove_below-returns-in-Err-clause-left t c =
     let missing = missing_at c.args.children.now.items c.in-Err.field-0 c.text.result.now c.requires c.in-Err.ensures.bound c.in-Err.ensures.position in
-    nothing_there missing c.args.rest.now ∙ ap (λ k. proposed (graft c.args.children.now.items) ((k ∷ c.args.rest.now, null) ∷ [])) c.text.ensures.bytes
+    nothing_there missing c.args.rest.now ∙ ap (λ k. merged (graft c.args.children.now.items) ((k ∷ c.args.rest.now, null) ∷ [])) c.text.ensures.bytes

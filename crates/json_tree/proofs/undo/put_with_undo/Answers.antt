@@ -3,7 +3,7 @@ use Rattle.tree_model.specs.declared.limits.TheConstants.{MAX_DEPTH}
 use Rattle.tree_model.specs.Path.{Path}
 use Rattle.tree_model.specs.PathMap.{sub, depth}
 use Rattle.tree_model.specs.Tree.{Tree, null}
-use Rattle.tree_model.specs.Write.{Write, proposed}
+use Rattle.tree_model.specs.Put.{Put, merged}
 use Rattle.json_tree.specs.Undo.{Undoes}
 use Rattle.json_tree.specs.Working.Changed.{changed_at}
 use Rattle.json_tree.proofs.Undoing.{take-changed, undoes, undo_room}
@@ -37,5 +37,5 @@ returns-clause-undo c =
     let was : unwrap_or c.in_ok-was.was' null ≡ sub t (changed_at t p) = c.in_ok-was.ensures.was ∙ ap (λ q. sub t (changed_at t q)) c.deref.ensures.value in
     let same : (c.truncate.new.self.items, unwrap_or c.in_ok-was.was' null) ≡ (changed_at t p, sub t (changed_at t p)) = λ i. (way i, was i) in
     let new : Tree = unwrap_or c.put_node.new.tree null in
-    let made : new ≡ proposed t ((p, c.args.value) ∷ []) = c.in_ok-was.ensures.ok ∙ ap (λ q. proposed t ((q, c.args.value) ∷ [])) c.deref.ensures.value in
-    subst (λ (w : Write). Undoes w new t) (sym same) (undoes t new p c.args.value c.law.ensures.some made)
+    let made : new ≡ merged t ((p, c.args.value) ∷ []) = c.in_ok-was.ensures.ok ∙ ap (λ q. merged t ((q, c.args.value) ∷ [])) c.deref.ensures.value in
+    subst (λ (w : Put). Undoes w new t) (sym same) (undoes t new p c.args.value c.law.ensures.some made)

@@ -5,7 +5,7 @@ use Rattle.std.proofs.lemmas.List.Sorted.{IsPermutation-map}
 use Rattle.std.specs.List.Sorted.{IsPermutation}
 use Rattle.path_capture.specs.Write.{tree_or_null}
 use Rattle.tree_model.specs.Path.{Path}
-use Rattle.tree_model.specs.Write.{location}
+use Rattle.tree_model.specs.Put.{location}
 use Rattle.judge.specs.Question.{scene_of}
 use Rattle.judge.specs.Working.Locations.{paths}
 use Rattle.judge.proofs.Tops.{verdict_in_any_order}

@@ -2,7 +2,8 @@ use Rattle.std.proofs.Common.{◌≡◌, [], ◌∷◌, List, length, map, subst
 use Rattle.std.proofs.lemmas.Result.{IfOk-weaker}
 use Rattle.path_capture.specs.Write.{tree_or_null}
 use Rattle.tree_model.specs.Tree.{Tree}
-use Rattle.tree_model.specs.Write.{Write, location}
+use Rattle.tree_model.specs.Put.{location}
+use Rattle.tree_model.specs.Write.{Write}
 use Rattle.judge.specs.Question.{scene_of}
 use Rattle.judge.specs.Judging.{IsWriteVerdict}
 use Rattle.judge.proofs.judging.judge_write.Goals as goal

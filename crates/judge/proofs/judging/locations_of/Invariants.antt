@@ -1,5 +1,5 @@
 use Rattle.std.proofs.Common.{◌≡◌, map, take}
-use Rattle.tree_model.specs.Write.{location}
+use Rattle.tree_model.specs.Put.{location}
 use Rattle.judge.specs.Working.Locations.{paths}
 use Rattle.judge.proofs.judging.locations_of.Given as goal
 

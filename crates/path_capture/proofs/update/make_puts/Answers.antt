@@ -1,8 +1,9 @@
 use Rattle.std.proofs.Common.{◌≡◌, ◌≢◌, ◌<◌, ◌-◌, length, get_or, inl, inr, sym, ap, ◌∙◌, arith}
 use Rattle.std.proofs.lemmas.Bool.{cases_lt}
 use Rattle.std.proofs.lemmas.Bool.Decides.{nat_tests}
-use Rattle.tree_model.specs.Tree.{null}
-use Rattle.tree_model.specs.Write.{written, overlaps, proposed}
+use Rattle.tree_model.specs.Put.{written, overlaps}
+use Rattle.tree_model.specs.Draft.{null_draft}
+use Rattle.tree_model.specs.Write.{proposed}
 use Rattle.path_capture.specs.Write.{tree_or_null}
 use Rattle.path_capture.proofs.Rewinding.{one_more_back, one_made, same_at, is_put, is_removal}
 use Rattle.path_capture.proofs.update.make_puts.Goals as goal
@@ -13,7 +14,7 @@ make_put-requires c =
     let i = c.loop-i.i - 1 in
     let within : i < length ws = grind (arith, nat_tests, c.loop-i.invariant.within) in
     let same : c.swap_remove-write.result ≡ c.index.result.now = c.swap_remove-write.ensures.value ∙ same_at ws i c.swap_remove-write.result c.index.result.now within ∙ sym c.index.ensures in
-    λ none. is_put (λ node. node.now) c.tree.result (written c.index.result.now) c.tree.ensures (sym c.is_some.ensures ∙ c.if-is_some.true) (sym (ap written same) ∙ none)
+    λ none. is_put (λ draft. draft.now) c.tree.result (written c.index.result.now) c.tree.ensures (sym c.is_some.ensures ∙ c.if-is_some.true) (sym (ap written same) ∙ none)
 
 pub loop-i-preserved-in-Continue-1 : goal.loop-i-preserved-in-Continue-1
 loop-i-preserved-in-Continue-1 c =
@@ -22,7 +23,7 @@ loop-i-preserved-in-Continue-1 c =
     let i = c.loop-i.i - 1 in
     let within : i < length ws = grind (arith, nat_tests, c.loop-i.invariant.within) in
     let same : w ≡ c.index.result.now = c.swap_remove-write.ensures.value ∙ same_at ws i w c.index.result.now within ∙ sym c.index.ensures in
-    let puts : written w ≢ null = λ none. is_put (λ node. node.now) c.tree.result (written c.index.result.now) c.tree.ensures (sym c.is_some.ensures ∙ c.if-is_some.true) (sym (ap written same) ∙ none) in
+    let puts : written w ≢ null_draft = λ none. is_put (λ draft. draft.now) c.tree.result (written c.index.result.now) c.tree.ensures (sym c.is_some.ensures ∙ c.if-is_some.true) (sym (ap written same) ∙ none) in
     let items = c.swap_remove-write.ensures.items in
     let moved = c.swap_remove-write.ensures.by_index in
     let made = one_made (tree_or_null c.loop-i.tree) ws i w within c.swap_remove-write.ensures.value c.loop-i.invariant.apart in
@@ -30,7 +31,7 @@ loop-i-preserved-in-Continue-1 c =
     record {
       within = grind (arith, nat_tests, c.loop-i.invariant.within);
       apart = ap overlaps items ∙ made.0;
-      goal = (λ i. proposed (tree i) (items i)) ∙ sym made.1 ∙ c.loop-i.invariant.goal;
+      goal = (λ i. proposed (tree i) (items i) 0) ∙ sym made.1 ∙ c.loop-i.invariant.goal;
       removals = λ k d h high. elim (cases_lt i k) [
         | inl after ↦ ap written (moved.1 k d (λ e. absurd (omega (arith, e, after))) (omega (arith, c.loop-i.left.ok.0))) ∙ c.loop-i.invariant.removals k d (omega (arith, c.loop-i.left.ok.0)) (omega (arith, after))
         | inr before ↦
@@ -51,14 +52,14 @@ returns-in_err-make_put-clause-nothing c all =
     let i = c.loop-i.i - 1 in
     let within : i < length ws = grind (arith, nat_tests, c.loop-i.invariant.within) in
     let same : w ≡ c.index.result.now = c.swap_remove-write.ensures.value ∙ same_at ws i w c.index.result.now within ∙ sym c.index.ensures in
-    absurd (is_put (λ node. node.now) c.tree.result (written c.index.result.now) c.tree.ensures (sym c.is_some.ensures ∙ c.if-is_some.true) (sym (ap written same) ∙ ap written c.swap_remove-write.ensures.value ∙ c.loop-i.invariant.nothing all i w within))
+    absurd (is_put (λ draft. draft.now) c.tree.result (written c.index.result.now) c.tree.ensures (sym c.is_some.ensures ∙ c.if-is_some.true) (sym (ap written same) ∙ ap written c.swap_remove-write.ensures.value ∙ c.loop-i.invariant.nothing all i w within))
 
 pub loop-i-preserved : goal.loop-i-preserved
 loop-i-preserved c =
     let ws = c.loop-i.left.items in
     let i = c.loop-i.i - 1 in
     let within : i < length ws = grind (arith, nat_tests, c.loop-i.invariant.within) in
-    let none = is_removal (λ node. node.now) c.tree.result (written c.index.result.now) c.tree.ensures (sym c.is_some.ensures ∙ c.if-is_some.false) in
+    let none = is_removal (λ draft. draft.now) c.tree.result (written c.index.result.now) c.tree.ensures (sym c.is_some.ensures ∙ c.if-is_some.false) in
     record {
       within = grind (arith, nat_tests, c.loop-i.invariant.within);
       apart = c.loop-i.invariant.apart;

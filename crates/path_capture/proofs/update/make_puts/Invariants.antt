@@ -1,7 +1,8 @@
 use Rattle.std.proofs.Common.{◌≡◌, ◌<◌, ◌≤◌, ℕ, false, length, get_or}
 use Rattle.std.specs.List.{All}
-use Rattle.tree_model.specs.Tree.{null}
-use Rattle.tree_model.specs.Write.{Write, written, overlaps, proposed}
+use Rattle.tree_model.specs.Put.{written, overlaps}
+use Rattle.tree_model.specs.Draft.{null_draft}
+use Rattle.tree_model.specs.Write.{Write, proposed}
 use Rattle.path_capture.specs.Write.{tree_or_null}
 use Rattle.path_capture.proofs.Rewinding.{LeadsBack}
 use Rattle.path_capture.proofs.update.make_puts.Given as goal
@@ -11,10 +12,10 @@ abbrev pub invariant-loop-i : goal.invariant-loop-i
 invariant-loop-i l = record {
   within : l.i ≤ length l.left.items;
   apart : overlaps l.left.items ≡ false;
-  goal : proposed (tree_or_null l.tree) l.left.items ≡ proposed (tree_or_null l.initial.tree) l.initial.left.items;
-  removals : (k : ℕ) (d : Write) → k < length l.left.items → l.i ≤ k → written (get_or l.left.items k d) ≡ null;
+  goal : proposed (tree_or_null l.tree) l.left.items 0 ≡ proposed (tree_or_null l.initial.tree) l.initial.left.items 0;
+  removals : (k : ℕ) (d : Write) → k < length l.left.items → l.i ≤ k → written (get_or l.left.items k d) ≡ null_draft;
   back : LeadsBack l.undos.items (tree_or_null l.tree) (tree_or_null l.initial.tree);
-  nothing : All (λ write. written write ≡ null) l.initial.left.items → All (λ write. written write ≡ null) l.left.items;
+  nothing : All (λ write. written write ≡ null_draft) l.initial.left.items → All (λ write. written write ≡ null_draft) l.left.items;
 }
 
 -- each turn goes past one write

@@ -2,7 +2,7 @@ use Rattle.std.proofs.Common.{◌≡◌, ◌∷◌, [], reverse, sym, ap, ◌∙
 use Rattle.std.proofs.lemmas.List.{nil_from_length}
 use Rattle.tree_model.specs.PathMap.{exists}
 use Rattle.tree_model.specs.Tree.{non_null}
-use Rattle.tree_model.specs.Write.{location, proposed}
+use Rattle.tree_model.specs.Put.{location, merged}
 use Rattle.path_capture.specs.Write.{tree_or_null}
 use Rattle.path_capture.specs.Working.Rewind.{rewound, CanRewind}
 use Rattle.path_capture.proofs.Rewinding.{popped, same_or_null}
@@ -18,7 +18,7 @@ loop-undo-preserved c =
     let t = tree_or_null c.loop-undo.tree in
     let left = c.pop.new.self.items in
     let turned = popped c.loop-undo.left.items left c.in-Some.undo c.in-Some.ensures.items in
-    let undone : tree_or_null c.undo.new.tree ≡ proposed t (c.in-Some.undo ∷ []) = sym (same_or_null c.undo.new.tree) ∙ c.undo.ensures ∙ ap (λ old. proposed old (c.in-Some.undo ∷ [])) (same_or_null c.loop-undo.tree) in
+    let undone : tree_or_null c.undo.new.tree ≡ merged t (c.in-Some.undo ∷ []) = sym (same_or_null c.undo.new.tree) ∙ c.undo.ensures ∙ ap (λ old. merged old (c.in-Some.undo ∷ [])) (same_or_null c.loop-undo.tree) in
     record {
       can = subst (CanRewind (reverse left)) (sym undone) (subst (λ us. CanRewind us t) turned c.loop-undo.invariant.can).1;
       same = ap (rewound (reverse left)) undone ∙ sym (ap (λ us. rewound us t) turned) ∙ c.loop-undo.invariant.same;

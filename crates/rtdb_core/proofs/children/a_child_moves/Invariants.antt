@@ -3,7 +3,7 @@ use Rattle.std.specs.List.{AllWithin}
 use Rattle.tree_model.specs.Key.{Key}
 use Rattle.tree_model.specs.Path.{Path}
 use Rattle.tree_model.specs.PathMap.{sub}
-use Rattle.tree_model.specs.Write.{location}
+use Rattle.tree_model.specs.Put.{location}
 use Rattle.rtdb_core.specs.Working.Moved.{IsLeft}
 use Rattle.rtdb_core.specs.Working.Passages.{tree_before, tree_after}
 use Rattle.rtdb_core.proofs.children.a_child_moves.Given as goal

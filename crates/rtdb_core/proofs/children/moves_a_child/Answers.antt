@@ -3,7 +3,8 @@ use Rattle.tree_model.specs.Key.{Key}
 use Rattle.tree_model.specs.Path.{Path, is_prefix}
 use Rattle.tree_model.specs.PathMap.{sub}
 use Rattle.tree_model.specs.Tree.{Tree}
-use Rattle.tree_model.specs.Write.{Write, location, proposed}
+use Rattle.tree_model.specs.Put.{location}
+use Rattle.tree_model.specs.Write.{Write, proposed}
 use Rattle.arena_snapshot.proofs.Tests.{from_true, on_true, on_false}
 use Rattle.listeners.specs.Selection.{is_selected}
 use Rattle.rtdb_core.specs.Working.Moved.{IsMovedBy, IsLeft}
@@ -40,8 +41,8 @@ is_selected_after-is_seen-requires c alone k other =
     let found = follows path (location w) d begins (omega (arith, c.if-at-front.false, l, m)) in
     let goes_on : location w ≡ path ++ d ∷ found.0 = found.1 ∙ ap (λ (x : Key). path ++ x ∷ found.0) (sym own) in
     ap (λ (v : Tree). sub v (k ∷ [])) c.requires.before
-    ∙ alone_stays t w path d found.0 c.requires.below goes_on k (λ is. other (is ∙ sym c.text-key.ensures.bytes))
-    ∙ ap (λ (ws : List Write). sub (sub (proposed t ws) path) (k ∷ [])) (sym (c.requires.alone alone))
+    ∙ alone_stays t p.moment w path d found.0 c.requires.below goes_on k (λ is. other (is ∙ sym c.text-key.ensures.bytes))
+    ∙ ap (λ (ws : List Write). sub (sub (proposed t ws p.moment) path) (k ∷ [])) (sym (c.requires.alone alone))
     ∙ ap (λ (v : Tree). sub v (k ∷ [])) (sym c.requires.after)
 
 pub returns-then-is_seen-clause-moved : goal.returns-then-is_seen-clause-moved
@@ -60,10 +61,10 @@ returns-then-is_seen-clause-moved c =
     let begins : is_prefix path (location w) ≡ true = (λ i. is_prefix (sym front i) (sym at i)) ∙ sym c.is_prefix_of.ensures ∙ c.if-not-is_prefix_of.false in
     let found = follows path (location w) d begins (omega (arith, c.if-at-front.false, l, m)) in
     let goes_on : c.keys-at.result.now ≡ c.keys-front.result.now ++ key ∷ found.0 = at ∙ found.1 ∙ (λ i. sym front i ++ sym own i ∷ found.0) in
-    on_true c.is_changed_at.result ((k : Key) × IsMovedBy query (sub (tree_before p) path) (sub (tree_after p) path) k) (λ on. (
+    on_true c.changes_at.result ((k : Key) × IsMovedBy query (sub (tree_before p) path) (sub (tree_after p) path) k) (λ on. (
       key,
       (
-        (λ same. from_true _ _ c.is_changed_at.ensures.changed on
+        (λ same. from_true _ _ c.changes_at.ensures.changed on
             (there_at (tree_after p) c.keys-front.result.now c.keys-at.result.now path found.0 key front goes_on
             ∙ sym same
             ∙ sym (there_at (tree_before p) c.keys-front.result.now c.keys-at.result.now path found.0 key front goes_on))),
@@ -81,10 +82,10 @@ returns-then-is_seen-clause-left c =
     let query = c.args.query.now in
     let at = c.keys-at.ensures.keys ∙ c.at.ensures.path in
     let front = c.keys-front.ensures.keys in
-    on_false c.is_changed_at.result ((k : Key) (rest : Path) → location c.args.write.now ≡ path ++ k ∷ rest → IsLeft query (sub (tree_before p) path) (sub (tree_after p) path) k) (λ off k rest e.
+    on_false c.changes_at.result ((k : Key) (rest : Path) → location c.args.write.now ≡ path ++ k ∷ rest → IsLeft query (sub (tree_before p) path) (sub (tree_after p) path) k) (λ off k rest e.
     let goes_on : c.keys-at.result.now ≡ c.keys-front.result.now ++ k ∷ rest = at ∙ e ∙ (λ i. sym front i ++ k ∷ rest) in
     inl (sym (there_at (tree_before p) c.keys-front.result.now c.keys-at.result.now path rest k front goes_on)
-    ∙ sym (from_false _ _ c.is_changed_at.ensures.unchanged off)
+    ∙ sym (from_false _ _ c.changes_at.ensures.unchanged off)
     ∙ there_at (tree_after p) c.keys-front.result.now c.keys-at.result.now path rest k front goes_on))
 
 pub returns-else-is_seen-clause-left : goal.returns-else-is_seen-clause-left

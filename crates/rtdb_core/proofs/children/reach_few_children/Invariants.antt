@@ -1,7 +1,7 @@
 use Rattle.std.proofs.Common.{◌≡◌, ◌≤◌, false}
 use Rattle.std.specs.List.{AllWithin}
 use Rattle.tree_model.specs.Path.{is_prefix}
-use Rattle.tree_model.specs.Write.{location}
+use Rattle.tree_model.specs.Put.{location}
 use Rattle.rtdb_core.proofs.children.reach_few_children.Given as goal
 
 abbrev pub invariant-loop-write : goal.invariant-loop-write

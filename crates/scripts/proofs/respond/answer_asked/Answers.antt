@@ -1,5 +1,8 @@
-use Rattle.std.proofs.Common.{ap, refl}
+use Rattle.std.proofs.Common.{ap, subst, refl}
 use Rattle.std.proofs.lemmas.Result.{IfOk-weaker}
+use Rattle.rtdb_model.specs.declared.event.Event.{Event}
+use Rattle.rtdb_model.specs.Step.{Step}
+use Rattle.rtdb_model.proofs.Filling.{step_filled}
 use Rattle.rtdb_model.specs.Borrowed.{reply_of, refusal_of}
 use Rattle.rtdb_model.specs.declared.reply.Reply.TheVariants.{Refused}
 use Rattle.rtdb_model.specs.declared.reply.Refusal.TheVariants.{NoMemory}
@@ -11,16 +14,23 @@ use Rattle.scripts.proofs.respond.answer_asked.Goals as goal
 
 pub returns-in-Err-clause-answered : goal.returns-in-Err-clause-answered
 returns-in-Err-clause-answered c =
+    let old = c.args.core.now in
+    let stamp = c.args.asked.stamp in
     let reply = Refused (refusal_of c.in-Err.refusal) in
-    IfOk-weaker c.say_borrowed_refusal.result _ _ (λ answer line. (text reply, (reply, c.in-Err.ensures.refused, refl), line)) c.say_borrowed_refusal.ensures.line
+    let step = step_filled old stamp.now stamp.session c.args.asked.event reply old (subst (λ (e : Event). Step old stamp.now stamp.session e reply old) c.fill.ensures.filled c.in-Err.ensures.refused) in
+    IfOk-weaker c.say_borrowed_refusal.result _ _ (λ answer line. (text reply, (reply, step, refl), line)) c.say_borrowed_refusal.ensures.line
 
 pub returns-in-Ok-commit-clause-answered : goal.returns-in-Ok-commit-clause-answered
 returns-in-Ok-commit-clause-answered c =
     let stamp = c.args.asked.stamp in
     let granted = c.in-Ok.granted in
-    let said = c.in_ok-answer-in-Ok in (
-      text (reply_of granted.reply),
-      (reply_of granted.reply, done_by_plan c.args.core.now c.commit.new.self stamp.now stamp.session c.args.asked.event granted.reply granted.plan said.plan c.in-Ok.ensures.granted said.ensures.plan c.in-Ok-commit.ensures.done, refl),
+    let said = c.in_ok-answer-in-Ok in
+    let old = c.args.core.now in
+    let new = c.commit.new.self in
+    let reply = reply_of granted.reply in
+    let done = done_by_plan old new stamp.now stamp.session c.fill.new.self granted.reply granted.plan said.plan c.in-Ok.ensures.granted said.ensures.plan c.in-Ok-commit.ensures.done in (
+      text reply,
+      (reply, step_filled old stamp.now stamp.session c.args.asked.event reply new (subst (λ (e : Event). Step old stamp.now stamp.session e reply new) c.fill.ensures.filled done), refl),
       said.ensures.line,
     )
 
@@ -28,8 +38,12 @@ pub returns-in-Err-commit-clause-answered : goal.returns-in-Err-commit-clause-an
 returns-in-Err-commit-clause-answered c =
     let stamp = c.args.asked.stamp in
     let granted = c.in-Ok.granted in
-    let said = c.in_ok-answer-in-Ok in (
-      text (Refused NoMemory),
-      (Refused NoMemory, refused_by_plan c.args.core.now c.commit.new.self stamp.now stamp.session c.args.asked.event granted.reply granted.plan said.plan c.in-Ok.ensures.granted said.ensures.plan (Refused NoMemory) c.in-Err-commit.ensures.refused, refl),
+    let said = c.in_ok-answer-in-Ok in
+    let old = c.args.core.now in
+    let new = c.commit.new.self in
+    let reply = Refused NoMemory in
+    let wants = refused_by_plan old new stamp.now stamp.session c.fill.new.self granted.reply granted.plan said.plan c.in-Ok.ensures.granted said.ensures.plan reply c.in-Err-commit.ensures.refused in (
+      text reply,
+      (reply, step_filled old stamp.now stamp.session c.args.asked.event reply new (subst (λ (e : Event). Step old stamp.now stamp.session e reply new) c.fill.ensures.filled wants), refl),
       ap as_line no_memory_of_reply,
     )

@@ -1,7 +1,7 @@
 -- By the laws of what is left.
 use Rattle.std.proofs.Common.{ap, ◌∙◌}
 use Rattle.tree_model.proofs.Paths.{strip-append, strip_is, prefix-append}
-use Rattle.tree_model.proofs.Proposals.{prefix_is, proper_is, proper-append}
+use Rattle.tree_model.proofs.Merging.{prefix_is, proper_is, proper-append}
 use Rattle.tree_model.specs.Path.{strip_prefix, is_prefix, is_proper_prefix}
 use Rattle.tree_model.proofs.path_laws.what_is_left_below_a_prefix.Goals as goal
 

@@ -1,5 +1,5 @@
--- By look-up.
-use Rattle.tree_model.proofs.Proposals.{proposed_pairs}
+-- By the pairs of the trees that are put.
+use Rattle.tree_model.proofs.Drafts.{proposed_pairs}
 use Rattle.tree_model.proofs.write_laws.pairs_of_the_proposed_tree.Goals as goal
 
 pub returns : goal.returns

@@ -6,7 +6,7 @@ use Rattle.tree_model.specs.Key.{key_cmp}
 use Rattle.tree_model.specs.Tree.{Tree}
 use Rattle.json_tree.specs.Json.{value_of}
 use Rattle.json_tree.proofs.Edits.{gap_at, sorted-insert}
-use Rattle.json_lines.specs.TreeMembers.{is_plain, members_named}
+use Rattle.json_lines.specs.DraftMembers.{is_plain, members_named}
 use Rattle.json_lines.proofs.Naming.{plain_some, plain_insert, put_gap}
 use Rattle.json_lines.proofs.children.Children.put.Goals as goal
 
@@ -30,4 +30,4 @@ returns-in_ok-ok-in-Err c =
     let node : Tree = c.args.node in
     let gap = gap_at name cs c.in-Err.index c.self.invariant.ascending c.in-Err.ensures.bound c.in-Err.ensures.position in
     let items : c.insert.new.self.items ≡ insert cs c.in-Err.index (name, node) = grind arith in
-    ap members_named items ∙ sym (put_gap cs c.in-Err.index name node gap) ∙ ap (λ xs. put name (value_of node) (members_named xs)) c.self.view_is
+    ap members_named items ∙ sym (put_gap value_of cs c.in-Err.index name node gap) ∙ ap (λ xs. put name (value_of node) (members_named xs)) c.self.view_is

@@ -17,7 +17,8 @@ decide_all-requires-clause-passage c =
     record {
       moment = c.requires.moment;
       apart = c.requires.apart;
-      coming = c.requires.proposes ∙ ap (λ (t : Tree). proposed t c.args.writes.now) (sym base);
+      fixed = c.requires.fixed;
+      coming = c.requires.proposes ∙ ap (λ (t : Tree). proposed t c.args.writes.now c.args.now) (sym base);
     }
 
 pub decide_all-requires-clause-heard : goal.decide_all-requires-clause-heard
@@ -31,7 +32,7 @@ returns c =
     let s = c.args.self.now in
     let ws = c.args.writes.now in
     let base : node_or_null c.as_ref.result ≡ s.tree = base_is c.as_ref.result c.self.inside.tree c.as_ref.ensures.value ∙ ap (λ (state : State). state.tree) c.self.view_is in
-    let fates : fates_of (node_or_null c.as_ref.result) c.self.inside.rules (proposed (node_or_null c.as_ref.result) ws) c.args.now (all_sessions s.sessions) ≡ fates_of s.tree s.rules (tree_with s ws) c.args.now (all_sessions s.sessions) =
-    λ i. fates_of (base i) (ap (λ (state : State). state.rules) c.self.view_is i) (proposed (base i) ws) c.args.now (all_sessions s.sessions) in
+    let fates : fates_of (node_or_null c.as_ref.result) c.self.inside.rules (proposed (node_or_null c.as_ref.result) ws c.args.now) c.args.now (all_sessions s.sessions) ≡ fates_of s.tree s.rules (tree_with s c.args.now ws) c.args.now (all_sessions s.sessions) =
+    λ i. fates_of (base i) (ap (λ (state : State). state.rules) c.self.view_is i) (proposed (base i) ws c.args.now) c.args.now (all_sessions s.sessions) in
     if_both c.decide_all.result c.decide_all.ensures.made c.decide_all.ensures.fits (λ decisions made fits.
-    state_made s.tree (with_tree s ws) c.args.now decisions.made.items (made ∙ ap (sparse 0) fates) (subst (λ fs. length fs < 2 ^ 64) fates fits))
+    state_made s.tree (with_tree s c.args.now ws) c.args.now decisions.made.items (made ∙ ap (sparse 0) fates) (subst (λ fs. length fs < 2 ^ 64) fates fits))

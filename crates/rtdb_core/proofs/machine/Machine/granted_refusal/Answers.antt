@@ -1,6 +1,6 @@
 use Rattle.std.proofs.Common.{[], ◌∷◌, sym, ◌∙◌}
 use Rattle.path_capture.specs.Write.{tree_or_null}
-use Rattle.tree_model.specs.Write.{location}
+use Rattle.tree_model.specs.Put.{location}
 use Rattle.judge.specs.Question.{scene_of}
 use Rattle.rtdb_core.proofs.Refusing.{alone_denied, alone_granted}
 use Rattle.rtdb_core.proofs.machine.Machine.granted_refusal.Goals as goal

@@ -11,8 +11,8 @@ returns-clause-found c =
     let opened = sym c.in_ok-open.ensures.open in
     IfOk-weaker c.judge_writes.result _ _
     (λ found g. (
-      set_comes c.args.self.now c.args.now c.args.session who c.from_ref.result.now c.args.write.now is opened c.from_ref.ensures.value found g,
-      set_can_be_made c.args.self.now c.args.now c.args.session who c.from_ref.result.now c.args.write.now is opened c.from_ref.ensures.value found g,
+      set_comes c.args.self.now c.args.now c.args.session who c.from_ref.result.now c.args.write.now is opened c.from_ref.ensures.value found g c.requires.fixed,
+      set_can_be_made c.args.self.now c.args.now c.args.session who c.from_ref.result.now c.args.write.now is opened c.from_ref.ensures.value found g c.requires.fixed,
     ))
     c.judge_writes.ensures.granted
 

@@ -1,5 +1,8 @@
 use Rattle.std.proofs.Common.{◌∙◌, inl, sym}
 use Rattle.std.proofs.lemmas.Result.{IfOk-weaker, IfErr-weaker}
+use Rattle.std.proofs.lemmas.List.Sorted.{All-permutation}
+use Rattle.tree_model.specs.Put.{written}
+use Rattle.tree_model.specs.Draft.{IsFixed}
 use Rattle.rtdb_core.specs.Working.Passages.{who_of}
 use Rattle.rtdb_core.proofs.AnyOrder.{some_in_any_order, update_empty, update_overlaps, update_refuses, update_comes, update_can_be_made, update_takes_memory}
 use Rattle.rtdb_core.proofs.machine.Machine.judge_update.Goals as goal
@@ -15,6 +18,9 @@ returns-then-overlaps-clause-refused c =
     let p = c.in_order-writes.ensures.permutation in
     inl (update_overlaps c.args.self.now c.args.now c.args.session ws xs c.in_ok-open.ensures.open (some_in_any_order ws xs p (sym c.is_empty.ensures ∙ c.if-is_empty.false)) p (sym c.overlaps.ensures ∙ c.if-overlaps.true))
 
+pub judge_writes-requires-clause-fixed : goal.judge_writes-requires-clause-fixed
+judge_writes-requires-clause-fixed c = All-permutation (λ w. IsFixed (written w)) c.args.writes.now c.in_order-writes.result.now c.in_order-writes.ensures.permutation c.requires.fixed
+
 pub returns-clause-found : goal.returns-clause-found
 returns-clause-found c =
     let old = c.args.self.now in
@@ -28,8 +34,8 @@ returns-clause-found c =
     let apart = sym c.overlaps.ensures ∙ c.if-overlaps.false in
     IfOk-weaker c.judge_writes.result _ _
     (λ found g. (
-      update_comes old c.args.now c.args.session who ws xs is opened some p c.rules.ensures.one apart found g,
-      update_can_be_made old c.args.now c.args.session who ws xs is opened some p c.rules.ensures.one apart found g,
+      update_comes old c.args.now c.args.session who ws xs is opened some p c.rules.ensures.one apart found g c.requires.fixed,
+      update_can_be_made old c.args.now c.args.session who ws xs is opened some p c.rules.ensures.one apart found g c.requires.fixed,
       update_takes_memory old c.args.now c.args.session ws xs opened some p apart,
     ))
     c.judge_writes.ensures.granted

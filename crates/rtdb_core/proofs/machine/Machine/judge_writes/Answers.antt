@@ -1,12 +1,16 @@
 use Rattle.std.proofs.Common.{ap}
 use Rattle.rtdb_model.specs.State.{State}
+use Rattle.rtdb_model.proofs.Filling.{moment_is_whole}
 use Rattle.rtdb_core.proofs.Refusing.{tree_is_proposed}
 use Rattle.rtdb_core.proofs.machine.Machine.judge_writes.Goals as goal
 
+pub overlay-requires-clause-moment : goal.overlay-requires-clause-moment
+overlay-requires-clause-moment c = moment_is_whole c.args.now c.requires.moment
+
 pub write_refusal-requires-clause-proposes : goal.write_refusal-requires-clause-proposes
 write_refusal-requires-clause-proposes c =
-    tree_is_proposed c.as_ref.result c.self.inside.tree c.args.self.now.tree c.in_ok-coming.coming c.args.writes.now c.as_ref.ensures.value (ap (λ (state : State). state.tree) c.self.view_is) c.in_ok-coming.ensures
+    tree_is_proposed c.as_ref.result c.self.inside.tree c.args.self.now.tree c.in_ok-coming.coming c.args.writes.now c.args.now c.as_ref.ensures.value (ap (λ (state : State). state.tree) c.self.view_is) c.in_ok-coming.ensures
 
 pub decide_proposed-requires-clause-proposes : goal.decide_proposed-requires-clause-proposes
 decide_proposed-requires-clause-proposes c =
-    tree_is_proposed c.as_ref.result c.self.inside.tree c.args.self.now.tree c.in_ok-coming.coming c.args.writes.now c.as_ref.ensures.value (ap (λ (state : State). state.tree) c.self.view_is) c.in_ok-coming.ensures
+    tree_is_proposed c.as_ref.result c.self.inside.tree c.args.self.now.tree c.in_ok-coming.coming c.args.writes.now c.args.now c.as_ref.ensures.value (ap (λ (state : State). state.tree) c.self.view_is) c.in_ok-coming.ensures

@@ -1,6 +1,6 @@
 use Rattle.std.proofs.Common.{[], List, ◌∷◌, sym, ap, subst, ◌∙◌}
 use Rattle.path_capture.specs.Write.{tree_or_null}
-use Rattle.tree_model.specs.Write.{location}
+use Rattle.tree_model.specs.Put.{location}
 use Rattle.rules_reader.specs.Place.{HasOneCapture}
 use Rattle.judge.specs.Question.{Scene, scene_of}
 use Rattle.judge.specs.Judging.{MayWriteAll, IsWriteVerdict}

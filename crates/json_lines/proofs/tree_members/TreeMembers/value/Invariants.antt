@@ -1,7 +1,0 @@
-use Rattle.std.proofs.Common.{◌≡◌, take}
-use Rattle.serde_json.specs.View.{members_view}
-use Rattle.json_lines.specs.TreeMembers.{members_named}
-use Rattle.json_lines.proofs.tree_members.TreeMembers.value.Given as goal
-
-abbrev pub invariant-loop-entry : goal.invariant-loop-entry
-invariant-loop-entry l = members_view l.members.entries ≡ members_named (take l.entry-index l.self)
