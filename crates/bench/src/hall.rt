@@ -5,7 +5,7 @@ ghost use Rattle.std.specs.Thread.{IsSync};
 
 use anyhow::{Context, Result};
 use bumpalo::Bump;
-use json_tree::{Leaf, Node, Number};
+use json_tree::{Draft, Leaf, Node, Number};
 use locked_server::{Hall, Seat};
 use path_capture::{Path, Write};
 use rtdb_core::{Core, Event, Reply};
@@ -141,7 +141,7 @@ fn write_of(alloc: Global, text: &str, value: u32) -> Option<Write> {
     let path = Path::parse(alloc, text).ok()?;
     let number = Number::new(i64::from(value))?;
     let tree = Node::of_leaf(Leaf::Whole(number)).ok()?;
-    Write::new(path, Some(tree)).ok()
+    Write::new(path, Some(Draft::fixed(tree))).ok()
 }
 
 fn done(reply: Reply) -> Option<()> {

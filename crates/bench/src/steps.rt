@@ -4,7 +4,7 @@
 use anyhow::{Context, Result, anyhow};
 use bumpalo::Bump;
 use evaluator::{Claims, Identity};
-use json_tree::{Leaf, Node, Number};
+use json_tree::{Draft, Leaf, Node, Number};
 use listeners::ListenerId;
 use path_capture::{Path, Write};
 use rtdb_core::{Core, Event, Reply};
@@ -159,5 +159,5 @@ fn write_of(alloc: Global, path: &str, number: u32) -> Result<Write> {
     let path = Path::parse(alloc, path)?;
     let number = Number::new(i64::from(number)).context("a number is small")?;
     let node = Node::of_leaf(Leaf::Whole(number))?;
-    Ok(Write::new(path, Some(node))?)
+    Ok(Write::new(path, Some(Draft::fixed(node)))?)
 }

@@ -7,7 +7,7 @@ use anyhow::{Context, Result, anyhow};
 use arena_snapshot::{View, overlaps, overlay};
 use bumpalo::Bump;
 use evaluator::{Claims, Identity, Moment};
-use json_tree::{Node, from_json};
+use json_tree::{Draft, Node, draft_from_json, from_json};
 use judge::{Scene, Verdict, judge_write};
 use path_capture::{Path, Write};
 use rules_reader::{Rules, compile};
@@ -120,10 +120,15 @@ fn is_granted(alloc: Global, arena: &Bump, world: &World, who: &Identity) -> boo
     if overlaps(writes) {
         return false;
     }
-    let Ok(coming) = overlay(arena, world.base.as_ref(), writes) else {
+    let scene = scene_of(world, who);
+    let Ok(coming) = overlay(
+        arena,
+        world.base.as_ref(),
+        writes,
+        scene.moment.milliseconds(),
+    ) else {
         return false;
     };
-    let scene = scene_of(world, who);
     matches!(
         judge_write(alloc, arena, &scene, coming, writes),
         Ok(Verdict::Granted)
@@ -185,9 +190,14 @@ fn tree_of(alloc: Global, text: &str) -> Result<Option<Node>> {
     Ok(from_json(alloc, &value)?)
 }
 
+fn draft_of(alloc: Global, text: &str) -> Result<Option<Draft>> {
+    let value = Value::from_str(alloc, text)?;
+    Ok(draft_from_json(alloc, &value)?)
+}
+
 fn write_of(alloc: Global, path: &str, value: &str) -> Result<Write> {
     let path = Path::parse(alloc, path)?;
-    Ok(Write::new(path, tree_of(alloc, value)?)?)
+    Ok(Write::new(path, draft_of(alloc, value)?)?)
 }
 
 fn identity_of(alloc: Global, name: &str) -> Result<Identity> {

@@ -3,7 +3,7 @@
 use anyhow::{Context, Result};
 use arena_snapshot::{View, is_changed, overlaps, overlay, same};
 use bumpalo::Bump;
-use json_tree::{Node, from_json};
+use json_tree::{Draft, Node, draft_from_json, from_json};
 use path_capture::{Path, Write};
 use serde_json::Value;
 use std::alloc::{AllocError, Global};
@@ -35,6 +35,7 @@ pub(crate) fn time_width(rt: &(impl Clock + Print), alloc: Global, width: u32) -
     time_readers(rt, &arena, base.as_ref(), &write)
 }
 
+#[tactic(auto, unfolding(tree_model::specs::Primitive::is_whole))]
 fn time_readers(
     rt: &(impl Clock + Print),
     arena: &Bump,
@@ -45,7 +46,7 @@ fn time_readers(
     if overlaps(writes) {
         return Ok(());
     }
-    let Some(view) = overlay(arena, base, writes)? else {
+    let Some(view) = overlay(arena, base, writes, 0)? else {
         return Ok(());
     };
     let bytes = arena.allocated_bytes();
@@ -145,7 +146,7 @@ fn is_same_as_itself(base: Option<&Node>) -> bool {
 fn ask_often(base: Option<&Node>, write: &Write, path: &Path) -> u32 {
     let writes = std::slice::from_ref(write);
     let mut changed = 0u32;
-    if overlaps(writes) {
+    if overlaps(writes) || !write.is_fixed() {
         return changed;
     }
     for _ in 0..TIMES {
@@ -185,9 +186,14 @@ fn tree_of(alloc: Global, text: &str) -> Result<Option<Node>> {
     Ok(from_json(alloc, &value)?)
 }
 
+fn draft_of(alloc: Global, text: &str) -> Result<Option<Draft>> {
+    let value = Value::from_str(alloc, text)?;
+    Ok(draft_from_json(alloc, &value)?)
+}
+
 fn write_of(alloc: Global, path: &str, value: &str) -> Result<Write> {
     let path = Path::parse(alloc, path)?;
-    Ok(Write::new(path, tree_of(alloc, value)?)?)
+    Ok(Write::new(path, draft_of(alloc, value)?)?)
 }
 
 // How many of the overlays were made, each in an arena that is reset.
@@ -204,8 +210,9 @@ fn lay_often(arena: &mut Bump, base: Option<&Node>, writes: &[Write], rounds: u3
     made
 }
 
+#[tactic(auto, unfolding(tree_model::specs::Primitive::is_whole))]
 fn is_laid(arena: &Bump, base: Option<&Node>, writes: &[Write]) -> bool {
-    !overlaps(writes) && overlay(arena, base, writes).is_ok()
+    !overlaps(writes) && overlay(arena, base, writes, 0).is_ok()
 }
 
 fn read_often(view: &View) -> u32 {
