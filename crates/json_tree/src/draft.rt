@@ -116,14 +116,26 @@ impl Draft {
         })
     }
 
+    /// The same draft, by the growths of a copy of its tree, and where a moment stands in it by one more and those of a
+    /// copy of the moments' places.
+    pub fn copy(&self, alloc: Global) -> Result<Draft, NoMemory>
+        ensures { IfOk result (λ draft. draft ≡ self.now) }
+    {
+        let marks = copy_of(alloc, &self.marks)?;
+        Ok(Draft {
+            node: self.node.copy(alloc)?,
+            marks,
+        })
+    }
+
     /// Whether no moment stands in it. It takes no memory.
     pub fn is_fixed(&self) -> bool
         ensures fixed { result ≡ true → IsFixed self.now }
         ensures moment { result ≡ false → (p : Path) × (get self.now p ≡ Some moment) }
     {
         match &self.marks {
-            Some(marks) => {
-                marks.law();
+            Some(boxed) => {
+                boxed.law();
                 false
             }
             None => true,
@@ -169,7 +181,7 @@ impl Draft {
         }
     }
 
-    /// What holds of every draft: something stands there, and all of it is lawful.
+    /// Every draft is lawful, and none is null.
     pub fn law(&self)
         ensures some { self.now ≢ map_of.empty }
         ensures lawful { IsLawfulDraft self.now }
@@ -183,9 +195,13 @@ impl<'a> DraftRef<'a> {
     /// Whether no moment stands in it. It takes no memory.
     pub fn is_fixed(&self) -> bool
         ensures fixed { result ≡ true → IsFixed self.now }
+        ensures moment { result ≡ false → (p : Path) × (get self.now p ≡ Some moment) }
     {
         match self.marks {
-            Some(_) => false,
+            Some(places) => {
+                places.law();
+                false
+            }
             None => true,
         }
     }
@@ -245,12 +261,22 @@ impl<'a> DraftRef<'a> {
         self.node.depth()
     }
 
-    /// What holds of every draft: something stands there, and all of it is lawful.
+    /// Every draft is lawful, and none is null.
     pub fn law(&self)
         ensures some { self.now ≢ map_of.empty }
         ensures lawful { IsLawfulDraft self.now }
     {
         self.node.law();
+    }
+}
+
+// A copy of marks, if there are any.
+fn copy_of(alloc: Global, marks: &Option<Box<Node>>) -> Result<Option<Box<Node>>, NoMemory>
+    ensures { IfOk result (λ copy. marks_of copy ≡ marks_of marks.now) }
+{
+    match marks {
+        Some(marks) => Ok(Some(Box::new(alloc, marks.copy(alloc)?)?)),
+        None => Ok(None),
     }
 }
 

@@ -1,10 +1,11 @@
 //! A write: a location, and the draft that is put there.
-ghost use Rattle.std.specs.Prelude.{◌≡◌, ◌↔◌, ◌+◌, ◌≤◌, ◌<◌, ◌∷◌, [], ℕ, true, length, pos, option_map, IsOk, IsErr, IsNone, IfOk, IfErr, OnOk, OnErr};
+ghost use Rattle.std.specs.Prelude.{◌≡◌, ◌↔◌, ◌+◌, ◌≤◌, ◌<◌, ◌∷◌, [], ℕ, true, false, Some, length, pos, option_map, IsOk, IsErr, IsNone, IfOk, IfErr, OnOk, OnErr};
 ghost use Rattle.tree_model.specs.Primitive.{is_whole};
-ghost use Rattle.tree_model.specs.PathMap.{depth};
+ghost use Rattle.tree_model.specs.Path.{Path as Keys};
+ghost use Rattle.tree_model.specs.PathMap.{get, depth};
 ghost use Rattle.tree_model.specs.Tree.{non_null};
 ghost use Rattle.tree_model.specs.Put.{location, written};
-ghost use Rattle.tree_model.specs.Draft.{null_draft, tree_at, as_draft, IsFixed, IsLawfulDraft};
+ghost use Rattle.tree_model.specs.Draft.{moment, null_draft, tree_at, as_draft, IsFixed, IsLawfulDraft};
 ghost use Rattle.tree_model.specs.Write.{made, as_write, proposed, IsLawfulWrite};
 ghost use Rattle.path_capture.specs.Write.{tree_or_null, draft_or_null};
 
@@ -61,6 +62,17 @@ impl Write {
         Ok(Write { path, draft })
     }
 
+    /// The same write, by the growths of a copy of its path and of one of its draft.
+    pub fn copy(&self, alloc: Global) -> Result<Write, NoMemory>
+        ensures { IfOk result (λ write. write ≡ self.now) }
+    {
+        let draft = copy_of(alloc, &self.draft)?;
+        Ok(Write {
+            path: self.path.copy(alloc)?,
+            draft,
+        })
+    }
+
     /// The location that is written. It takes no memory.
     pub fn at(&self) -> &Path
         ensures path { result.now ≡ location self.now }
@@ -97,7 +109,8 @@ impl Write {
 
     /// Whether no moment stands in what is put. It takes no memory.
     pub fn is_fixed(&self) -> bool
-        ensures { result ≡ true → IsFixed (written self.now) }
+        ensures fixed { result ≡ true → IsFixed (written self.now) }
+        ensures moment { result ≡ false → (p : Keys) × (get (written self.now) p ≡ Some moment) }
     {
         match &self.draft {
             Some(draft) => draft.is_fixed(),
@@ -124,6 +137,16 @@ impl Write {
     {
         let Write { path, draft } = self;
         put(alloc, tree, path.into_keys(), into_tree(draft))
+    }
+}
+
+// A copy of an optional draft.
+fn copy_of(alloc: Global, draft: &Option<Draft>) -> Result<Option<Draft>, NoMemory>
+    ensures { IfOk result (λ copy. draft_or_null copy ≡ draft_or_null draft.now) }
+{
+    match draft {
+        Some(draft) => Ok(Some(draft.copy(alloc)?)),
+        None => Ok(None),
     }
 }
 
