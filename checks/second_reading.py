@@ -1184,7 +1184,7 @@ MOST_LISTENERS = 64
 
 class Session:
     def __init__(self):
-        self.identity, self.listeners = None, {}
+        self.identity, self.listeners, self.actions = None, {}, []
 
 
 class Listener:
@@ -1222,8 +1222,9 @@ class Database:
         self.sessions[it["s"]] = Session()
 
     def close(self, it):
-        self.session(it)
+        left = len(self.session(it).actions)
         del self.sessions[it["s"]]
+        return {"left": left}
 
     def signin(self, it):
         if it["token"] not in self.tokens:

@@ -17,7 +17,9 @@ use Rattle.rules_reader.specs.Book.{kind_name}
 use Rattle.rules_reader.specs.declared.kind.Kind.{Kind}
 use Rattle.rules_reader.specs.Refusal.{left_out_name, Reason, no_json, bad_shape, too_many_rules, bad_rule, no_memory, reason}
 use Rattle.path_capture.specs.Path.{printed}
-use Rattle.rtdb_model.specs.declared.reply.Reply.TheVariants.{Done, Value}
+use Rattle.rtdb_model.specs.declared.reply.Refusal.{Refusal}
+use Rattle.rtdb_model.specs.declared.reply.Reply.TheVariants.{Done, Value, Refused, Ran}
+use Rattle.rtdb_model.specs.declared.reply.Ran.TheVariants.{Empty, Applied, Skipped}
 use Rattle.answers.specs.declared.code.Code.TheVariants as code
 use Rattle.answers.specs.AnswerText.{refusal_members, plain_data, placed_data, rules_fault_text, rule_fault_data, rules_fault_data, text}
 
@@ -48,6 +50,30 @@ text_of_view items d v e f h = h (ap has_float e ∙ f) ∙ ap compact_text e
 pub done_text : codes "{\"ok\":true}" ≡ text Done
 unfolding text serde_json_on_literals
 done_text = refl
+
+pub empty_text : codes "{\"ok\":true,\"ran\":\"empty\"}" ≡ text (Ran Empty)
+unfolding text serde_json_on_literals
+empty_text = refl
+
+pub applied_text : codes "{\"ok\":true,\"ran\":\"applied\"}" ≡ text (Ran Applied)
+unfolding text serde_json_on_literals
+applied_text = refl
+
+-- a refusal between what stands before and after it
+skipped_text : (refusal : Refusal) → codes "{\"ok\":true,\"ran\":\"skipped\",\"why\":" ++ (text (Refused refusal) ++ codes "}") ≡ text (Ran (Skipped refusal))
+unfolding text serde_json_on_literals
+skipped_text refusal = refl
+
+-- it is written behind what stands before it, and closed
+pub skipped_told : (old front middle all : List ℕ) (refusal : Refusal) → front ≡ old ++ codes "{\"ok\":true,\"ran\":\"skipped\",\"why\":" → middle ≡ front ++ text (Refused refusal) → all ≡ middle ++ codes "}" → all ≡ old ++ text (Ran (Skipped refusal))
+skipped_told old front middle all refusal begins is closes =
+    let head = codes "{\"ok\":true,\"ran\":\"skipped\",\"why\":" in
+    let why = text (Refused refusal) in
+    closes
+    ∙ ap (λ x. x ++ codes "}") (is ∙ ap (λ x. x ++ why) begins)
+    ∙ append_assoc (old ++ head) why (codes "}")
+    ∙ append_assoc old head (why ++ codes "}")
+    ∙ ap (λ x. old ++ x) (skipped_text refusal)
 
 -- a value between what stands before and after it
 pub value_text : (tree : Option Tree) → codes "{\"ok\":true,\"value\":" ++ (compact_text (value_of (tree_or_null tree)) ++ codes "}") ≡ text (Value tree)

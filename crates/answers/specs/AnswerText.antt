@@ -28,7 +28,9 @@ use Rattle.rtdb_model.specs.declared.news.Notice.{Notice}
 use Rattle.rtdb_model.specs.declared.news.What.{What}
 use Rattle.rtdb_model.specs.declared.news.What.TheVariants.{Gone, Now}
 use Rattle.rtdb_model.specs.declared.reply.Reply.{Reply}
-use Rattle.rtdb_model.specs.declared.reply.Reply.TheVariants.{Done, Value, News, Refused}
+use Rattle.rtdb_model.specs.declared.reply.Reply.TheVariants.{Done, Value, News, Refused, Ran, Closed}
+use Rattle.rtdb_model.specs.declared.reply.Ran.{Ran as Outcome}
+use Rattle.rtdb_model.specs.declared.reply.Ran.TheVariants.{Empty, Applied, Skipped}
 use Rattle.rtdb_model.specs.declared.reply.Refusal.{Refusal}
 use Rattle.rtdb_model.specs.declared.reply.Refusal.TheVariants as refusals
 
@@ -49,7 +51,10 @@ number_of code.NoSession = 202
 number_of code.SessionOpen = 203
 number_of code.TooManySessions = 204
 number_of code.NotAdmin = 205
+number_of code.Leaving = 206
+number_of code.TooManyActions = 207
 number_of code.BadTokens = 208
+number_of code.NotLeaving = 209
 number_of code.DuplicateId = 301
 number_of code.NoListener = 302
 number_of code.TooManyListeners = 303
@@ -82,7 +87,10 @@ name_of code.NoSession = codes "NoSession"
 name_of code.SessionOpen = codes "SessionOpen"
 name_of code.TooManySessions = codes "TooManySessions"
 name_of code.NotAdmin = codes "NotAdmin"
+name_of code.Leaving = codes "Leaving"
+name_of code.TooManyActions = codes "TooManyActions"
 name_of code.BadTokens = codes "BadTokens"
+name_of code.NotLeaving = codes "NotLeaving"
 name_of code.DuplicateId = codes "DuplicateId"
 name_of code.NoListener = codes "NoListener"
 name_of code.TooManyListeners = codes "TooManyListeners"
@@ -151,6 +159,9 @@ refusal_data refusals.Overlap = plain_data code.Overlap
 refusal_data refusals.DuplicateId = plain_data code.DuplicateId
 refusal_data refusals.TooManyListeners = plain_data code.TooManyListeners
 refusal_data refusals.NoListener = plain_data code.NoListener
+refusal_data refusals.Leaving = plain_data code.Leaving
+refusal_data refusals.TooManyActions = plain_data code.TooManyActions
+refusal_data refusals.NotLeaving = plain_data code.NotLeaving
 refusal_data (refusals.ReadDenied named) = read_denied_data named
 refusal_data (refusals.WriteDenied at named) = write_denied_data at named
 refusal_data (refusals.ValidateDenied at pattern why) = validate_denied_data at pattern why
@@ -169,11 +180,23 @@ notice_data notice = what_data_of notice.id notice.what
 abbrev pub notices_data : List Notice → Data
 notices_data notices = array (items_of (map notice_data notices))
 
+-- what became of an action: none was left, it was made, or it was skipped, with its refusal
+abbrev pub ran_data : Outcome → Data
+ran_data Empty = object (member (codes "ok") (boolean true) (member (codes "ran") (string (codes "empty")) no_members))
+ran_data Applied = object (member (codes "ok") (boolean true) (member (codes "ran") (string (codes "applied")) no_members))
+ran_data (Skipped refusal) = object (member (codes "ok") (boolean true) (member (codes "ran") (string (codes "skipped")) (member (codes "why") (refusal_data refusal) no_members)))
+
+-- a session was closed, and so many actions were left
+abbrev pub closed_data : ℕ → Data
+closed_data left = object (member (codes "left") (number (unsigned left)) (member (codes "ok") (boolean true) no_members))
+
 abbrev pub reply_data : Reply → Data
 reply_data Done = object (member (codes "ok") (boolean true) no_members)
 reply_data (Value tree) = object (member (codes "ok") (boolean true) (member (codes "value") (value_of (tree_or_null tree)) no_members))
 reply_data (News notices) = object (member (codes "news") (notices_data notices) (member (codes "ok") (boolean true) no_members))
 reply_data (Refused refusal) = refusal_data refusal
+reply_data (Ran ran) = ran_data ran
+reply_data (Closed left) = closed_data left
 
 -- the text of a reply
 unfoldable pub text : Reply → List ℕ

@@ -2,7 +2,7 @@
 //! names, and no line feed.
 ghost use Rattle.std.specs.Prelude.{◌≡◌, ◌++◌, [], option_map, IfOk, OnOk};
 ghost use Rattle.serde_json.specs.View.{view};
-ghost use Rattle.rtdb_model.specs.Borrowed.{reply_of, refusal_of};
+ghost use Rattle.rtdb_model.specs.Borrowed.{reply_of, ran_of, refusal_of};
 ghost use Rattle.answers.specs.AnswerText.{text, fault_text, rules_fault_text, bad_tokens_text, unknown_token_text, line_fault_text, accepted_text, message_code, plain_data, placed_data, accepted_data, rule_data, byte_data, what_data, rule_fault_data, rules_fault_data};
 
 use crate::answer_writer::AnswerWriter;
@@ -11,10 +11,13 @@ use arena_snapshot::View;
 use json_lines::MessageFault;
 use json_tree::{NoMemory, Node};
 use requests::LineFault;
-use rtdb_model::{BorrowedRefusal, BorrowedReply, Refusal, Reply};
+use rtdb_model::{BorrowedRan, BorrowedRefusal, BorrowedReply, Ran, Refusal, Reply};
 use rules_reader::{RuleFault, RuleName, RulesFault};
 use serde_json::{Value, json};
 use std::alloc::Global;
+
+// What stands before the refusal of an action that was skipped.
+const SKIPPED: &[u8] = b"{\"ok\":true,\"ran\":\"skipped\",\"why\":";
 
 /// The text of a reply, in one pass over what it has.
 pub fn write_reply(alloc: Global, reply: &Reply) -> Result<Vec<u8>, NoMemory>
@@ -63,6 +66,8 @@ impl AnswerWriter {
             Reply::Value(tree) => self.put_value(tree.as_ref()),
             Reply::News(news) => self.put_news(news),
             Reply::Refused(refusal) => self.put_refusal(refusal),
+            Reply::Ran(ran) => self.put_ran(ran),
+            Reply::Closed(left) => self.put_closed(*left),
         }
     }
 
@@ -91,7 +96,71 @@ impl AnswerWriter {
             BorrowedReply::Done => self.put_done(),
             BorrowedReply::Value(view) => self.put_view(view.as_ref()),
             BorrowedReply::News(tidings) => self.put_tidings(tidings),
+            BorrowedReply::Ran(ran) => self.put_borrowed_ran(ran),
+            BorrowedReply::Closed(left) => self.put_closed(*left),
         }
+    }
+
+    fn put_ran(&mut self, ran: &Ran) -> Result<(), NoMemory>
+        ensures before { self.new.before ≡ self.old.before }
+        ensures text { OnOk result (self.new.text ≡ self.old.text ++ text (Reply.Ran ran.now)) }
+    {
+        match ran {
+            Ran::Empty => self.put_empty(),
+            Ran::Applied => self.put_applied(),
+            Ran::Skipped(refusal) => self.put_skipped(refusal),
+        }
+    }
+
+    fn put_borrowed_ran(&mut self, ran: &BorrowedRan<'_>) -> Result<(), NoMemory>
+        ensures before { self.new.before ≡ self.old.before }
+        ensures text { OnOk result (self.new.text ≡ self.old.text ++ text (Reply.Ran (ran_of ran.now))) }
+    {
+        match ran {
+            BorrowedRan::Empty => self.put_empty(),
+            BorrowedRan::Applied => self.put_applied(),
+            BorrowedRan::Skipped(refusal) => self.put_borrowed_skipped(refusal),
+        }
+    }
+
+    fn put_empty(&mut self) -> Result<(), NoMemory>
+        ensures before { self.new.before ≡ self.old.before }
+        ensures text { OnOk result (self.new.text ≡ self.old.text ++ text (Reply.Ran Ran.Empty)) }
+    {
+        self.piece(b"{\"ok\":true,\"ran\":\"empty\"}")
+    }
+
+    fn put_applied(&mut self) -> Result<(), NoMemory>
+        ensures before { self.new.before ≡ self.old.before }
+        ensures text { OnOk result (self.new.text ≡ self.old.text ++ text (Reply.Ran Ran.Applied)) }
+    {
+        self.piece(b"{\"ok\":true,\"ran\":\"applied\"}")
+    }
+
+    fn put_skipped(&mut self, refusal: &Refusal) -> Result<(), NoMemory>
+        ensures before { self.new.before ≡ self.old.before }
+        ensures text { OnOk result (self.new.text ≡ self.old.text ++ text (Reply.Ran (Ran.Skipped refusal.now))) }
+    {
+        self.piece(SKIPPED)?;
+        self.put_refusal(refusal)?;
+        self.piece(b"}")
+    }
+
+    fn put_borrowed_skipped(&mut self, refusal: &BorrowedRefusal<'_>) -> Result<(), NoMemory>
+        ensures before { self.new.before ≡ self.old.before }
+        ensures text { OnOk result (self.new.text ≡ self.old.text ++ text (Reply.Ran (Ran.Skipped (refusal_of refusal.now)))) }
+    {
+        self.piece(SKIPPED)?;
+        self.put_borrowed_refusal(refusal)?;
+        self.piece(b"}")
+    }
+
+    #[tactic(auto, unfolding(crate::specs::AnswerText::text))]
+    fn put_closed(&mut self, left: usize) -> Result<(), NoMemory>
+        ensures before { self.new.before ≡ self.old.before }
+        ensures text { OnOk result (self.new.text ≡ self.old.text ++ text (Reply.Closed left)) }
+    {
+        self.closed(left as u64)
     }
 
     fn put_view(&mut self, view: Option<&View>) -> Result<(), NoMemory>

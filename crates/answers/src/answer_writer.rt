@@ -5,9 +5,10 @@ ghost use Rattle.json.specs.Print.{quoted};
 ghost use Rattle.serde_json.specs.Written.{compact_text, comma_if};
 ghost use Rattle.json_tree.specs.Json.{value_of};
 ghost use Rattle.path_capture.specs.Write.{tree_or_null};
-ghost use Rattle.answers.specs.AnswerText.{plain_data};
+ghost use Rattle.answers.specs.AnswerText.{plain_data, closed_data};
 ghost use Rattle.json_lines.specs.Tokens.{is_plain};
 
+use crate::closing::put_closed;
 use crate::code::Code;
 use crate::refusal::put_plain;
 use arena_snapshot::{View, write_view};
@@ -174,6 +175,17 @@ impl AnswerWriter {
     {
         let mut out = Writer::new(self.lend_room());
         put_plain(&mut out, code)?;
+        self.put_written(out.into_inner())?;
+        Ok(())
+    }
+
+    /// Writes that a session was closed, and how many actions were left.
+    pub(crate) fn closed(&mut self, left: u64) -> Result<(), NoMemory>
+        ensures before { self.new.before ≡ self.old.before }
+        ensures text { OnOk result (self.new.text ≡ self.old.text ++ compact_text (closed_data left)) }
+    {
+        let mut out = Writer::new(self.lend_room());
+        put_closed(&mut out, left)?;
         self.put_written(out.into_inner())?;
         Ok(())
     }

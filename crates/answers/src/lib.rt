@@ -6,6 +6,7 @@
 
 mod answer;
 mod answer_writer;
+mod closing;
 mod code;
 mod news;
 mod refusal;

@@ -1,7 +1,7 @@
 //! The arena of a step. Where it can't be made free, each step that places something in it wants memory and changes
-//! nothing, but one that closes a session or ends a listener, which leaves the arena alone. No contract says so, since
-//! contracts see nothing of an arena.
-use crate::runs::{answer, answer_all, core_of, run_all, tried};
+//! nothing, but one that closes a session, ends a listener, takes actions back or leaves, and the run of no action: these
+//! leave the arena alone. No contract says so, since contracts see nothing of an arena.
+use crate::runs::{answer, answer_all, answer_each, core_of, run_all, tried};
 use bumpalo::Bump;
 use rtdb_core::Core;
 use std::alloc::Global;
@@ -14,8 +14,9 @@ fn stuck_arena(alloc: Global) -> Result<Bump, Fail> {
     Ok(arena)
 }
 
-// A step of each other kind, where 1 and 2 are open, and 1 is signed in as an administrator and listens under `a`.
-const STEPS: [&str; 11] = [
+// A step of each other kind but the run of an action, where 1 and 2 are open, and 1 is signed in as an administrator,
+// listens under `a`, and has an action.
+const STEPS: [&str; 14] = [
     "3 open",
     "1 in ann",
     "1 out",
@@ -27,7 +28,15 @@ const STEPS: [&str; 11] = [
     "1 poll",
     "1 tick",
     "1 deploy shut",
+    "1 onset /x=2",
+    "1 onremove /x",
+    "1 onupdate /x=2 | /y=3",
 ];
+
+// What is there before these, and what leaves the arena alone.
+const BEFORE: &str = "1 in admin; 1 listen a /x; 1 set /x=1; 1 onset /x=5";
+
+const QUIET: &str = "1 unlisten a; 1 oncancel /y; 1 leave; 2 leave; 2 runnext";
 
 // The first of these steps that does not want memory.
 fn first_done(
@@ -47,18 +56,20 @@ fn first_done(
 fn over_an_arena_that_cannot_be_reset_memory_is_wanting(rt: HostRuntime) -> Result<(), Fail> {
     let alloc = rt.alloc();
     let mut core = core_of(alloc, "plain")?;
-    let _before = run_all(alloc, &mut core, "1 in admin; 1 listen a /x; 1 set /x=1")?;
+    let _before = run_all(alloc, &mut core, BEFORE)?;
     let mut arena = stuck_arena(alloc)?;
     let done = first_done(alloc, &mut core, &mut arena)?;
     let left = answer_all(alloc, &mut core, "1 poll; 1 get /; 3 get /; 1 deploy plain")?;
-    let ended = answer(alloc, &mut core, &mut arena, "1 unlisten a")?;
+    let quiet = answer_each(alloc, &mut core, &mut arena, QUIET)?;
+    let run = tried(alloc, &mut core, &mut arena, "1 runnext")?;
     let closed = answer(alloc, &mut core, &mut arena, "1 close")?;
-    let gone = answer_all(alloc, &mut core, "2 get /; 1 get /")?;
+    let gone = answer_all(alloc, &mut core, "1 get /; 1 open; 1 get /")?;
     drop(core);
     assert!(rt; done.is_none(), "{}", done.unwrap_or(""));
     assert_eq!(rt; left.as_str(), "news a=1; {\"x\":1}; NoSession; ok");
-    assert_eq!(rt; ended.as_str(), "ok");
-    assert_eq!(rt; closed.as_str(), "ok");
-    assert_eq!(rt; gone.as_str(), "{\"x\":1}; NoSession");
+    assert_eq!(rt; quiet.as_str(), "ok; ok; ok; ok; empty");
+    assert!(rt; run.is_none(), "an action is run");
+    assert_eq!(rt; closed.as_str(), "closed 1");
+    assert_eq!(rt; gone.as_str(), "NoSession; ok; {\"x\":1}");
     Ok(())
 }

@@ -1,8 +1,9 @@
-//! The tests of `rtdb_core`: worked runs of several sessions, random runs beside a plain second reading, and
-//! what is left where memory is refused. They stand in a crate of their own, since a crate with tests is
-//! proved twice.
+//! The tests of `rtdb_core`: what is written when a session goes, and what is left where memory is refused. They stand
+//! in a crate of their own, since a crate with tests is proved twice.
 #![tactic(auto)]
 
+#[cfg(test)]
+mod actions;
 #[cfg(test)]
 mod arena;
 #[cfg(test)]

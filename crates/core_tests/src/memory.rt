@@ -14,7 +14,7 @@ const MOST_STEPS: usize = 192;
 
 const STEP_BYTES: usize = 64;
 
-const TRIALS: [Trial; 10] = [
+const TRIALS: [Trial; 14] = [
     (
         "plain: 1 set /x={\"a\":1,\"b\":2}; 2 listen a /x ? {\"limitToLast\":1}; 1 listen b /x",
         "1 set /x/c=3",
@@ -64,6 +64,27 @@ const TRIALS: [Trial; 10] = [
         "plain: 1 set /x={\"a\":1,\"b\":2}",
         "1 get /x ? {\"orderBy\":\"$value\",\"limitToLast\":1}",
         "1 get /; 1 poll",
+    ),
+    (
+        "plain: 1 set /x={\"a\":1,\"b\":2}; 2 listen a /x; 1 onset /x/a=7",
+        "1 onset /x/c=3",
+        "1 leave; 1 runnext; 2 get /; 1 runnext; 2 get /; 1 runnext; 2 poll; 1 close",
+    ),
+    (
+        "plain: 1 set /x={\"a\":1,\"b\":2}; 2 listen a /y",
+        "1 onupdate /x/a=null | /x/d/e={\".sv\":\"timestamp\"} | /y=1",
+        "1 leave; 1001@1 runnext; 2 get /; 2 poll; 1 runnext; 1 close",
+    ),
+    (
+        "plain: 2 listen a /x ? {\"limitToLast\":1}; 1 onupdate /x/a=1 | /x/b={\".sv\":\"timestamp\"}; 1 onset /y=2; \
+         1 leave",
+        "1 runnext",
+        "2 get /; 2 poll; 1 runnext; 2 get /; 2 poll; 1 runnext; 1 close",
+    ),
+    (
+        "going: 5@1 onset /on/bob=1; 5@1 onupdate /on/ann=2 | /on/eve=3; 5@1 in ann; 6@1 leave",
+        "20@1 runnext",
+        "20@1 runnext; 20@1 runnext; 2 get /; 1 close",
     ),
 ];
 

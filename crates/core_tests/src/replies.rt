@@ -1,7 +1,8 @@
-//! Replies in words: `ok`, the JSON text of a value, news as `news a=1 b!`, of which the last is gone, and the
-//! name of a refusal.
+//! Replies in words: `ok`, the JSON text of a value, news as `news a=1 b!`, of which the last is gone, the name of a
+//! refusal, what became of an action that was run, as `applied`, `empty` or `skipped WriteDenied`, and `closed 2` of a
+//! session that had two of them.
 use crate::texts::text_of;
-use rtdb_core::{Notice, Refusal, Reply, What};
+use rtdb_core::{Notice, Ran, Refusal, Reply, What};
 use std::alloc::Global;
 use std::test::Fail;
 
@@ -19,7 +20,24 @@ fn in_words(alloc: Global, reply: &Reply) -> Result<String, Fail> {
         Reply::Value(tree) => text_of(alloc, tree.as_ref()),
         Reply::News(news) => told(alloc, news.as_slice()),
         Reply::Refused(refusal) => Ok(String::from_str(alloc, name_of(refusal))?),
+        Reply::Ran(ran) => ran_in_words(alloc, ran),
+        Reply::Closed(dropped) => closed_in_words(alloc, *dropped),
     }
+}
+
+fn ran_in_words(alloc: Global, ran: &Ran) -> Result<String, Fail> {
+    match ran {
+        Ran::Empty => Ok(String::from_str(alloc, "empty")?),
+        Ran::Applied => Ok(String::from_str(alloc, "applied")?),
+        Ran::Skipped(refusal) => {
+            let name = name_of(refusal);
+            Ok(format!(in alloc; "skipped {name}")?)
+        }
+    }
+}
+
+fn closed_in_words(alloc: Global, dropped: usize) -> Result<String, Fail> {
+    Ok(format!(in alloc; "closed {dropped}")?)
 }
 
 fn told(alloc: Global, notices: &[Notice]) -> Result<String, Fail> {
@@ -53,6 +71,9 @@ fn name_of(refusal: &Refusal) -> &'static str {
         Refusal::DuplicateId => "DuplicateId",
         Refusal::TooManyListeners => "TooManyListeners",
         Refusal::NoListener => "NoListener",
+        Refusal::Leaving => "Leaving",
+        Refusal::TooManyActions => "TooManyActions",
+        Refusal::NotLeaving => "NotLeaving",
         Refusal::ReadDenied(_) => "ReadDenied",
         Refusal::WriteDenied(_, _) => "WriteDenied",
         Refusal::ValidateDenied(_, _, _) => "ValidateDenied",

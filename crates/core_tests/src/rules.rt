@@ -20,6 +20,14 @@ const OWN: &str =
 
 const ASKED: &str = r#"{"rules":{".read":"query.limitToLast <= 2",".write":true}}"#;
 
+const GOING: &str =
+    r#"{"rules":{".read":true,"on":{"$u":{".write":"$u == auth.uid || now < 10"}}}}"#;
+
+const BORN: &str = r#"{"rules":{".read":true,"$x":{".write":"!data.exists()"}}}"#;
+
+const CLOCK: &str =
+    r#"{"rules":{".read":true,".write":true,"at":{".validate":"newData.val() === now"}}}"#;
+
 /// The rules of a file.
 pub(crate) fn rules_named(alloc: Global, name: &str) -> Result<Rules, Fail> {
     let file = file_named(name).ok_or("no such rules")?;
@@ -38,6 +46,9 @@ fn file_named(name: &str) -> Option<&'static str> {
         "timed" => TIMED,
         "own" => OWN,
         "asked" => ASKED,
+        "going" => GOING,
+        "born" => BORN,
+        "clock" => CLOCK,
         _ => return None,
     })
 }

@@ -55,6 +55,21 @@ pub(crate) fn answer(
     }
 }
 
+/// What steps are answered over this arena, one after another, where memory suffices for each.
+pub(crate) fn answer_each(
+    alloc: Global,
+    core: &mut Core,
+    arena: &mut Bump,
+    steps: &str,
+) -> Result<String, Fail> {
+    let mut answers = String::new(alloc);
+    for text in steps.split("; ") {
+        let next = answer(alloc, core, arena, text)?;
+        add(&mut answers, next.as_str())?;
+    }
+    Ok(answers)
+}
+
 // The tree, and how many rules and sessions there are.
 fn seen(alloc: Global, core: &Core) -> Result<String, Fail> {
     let tree = text_of(alloc, core.tree())?;
@@ -108,8 +123,8 @@ fn open_two(alloc: Global, core: &mut Core) -> Result<(), Fail> {
     Ok(())
 }
 
-/// Adds an answer behind others.
-pub(crate) fn add(answers: &mut String, answer: &str) -> Result<(), AllocError> {
+// Adds an answer behind others.
+fn add(answers: &mut String, answer: &str) -> Result<(), AllocError> {
     if !answers.is_empty() {
         answers.push_str("; ")?;
     }

@@ -27,6 +27,12 @@ pub(crate) enum Ask<'a> {
     Poll,
     Tick,
     Deploy(&'a str),
+    OnSet(Put<'a>),
+    OnRemove(&'a str),
+    OnUpdate(&'a str),
+    OnCancel(&'a str),
+    Leave,
+    RunNext,
 }
 
 /// What is read: a path, and a query if there is one, as `/a ? {"limitToLast":1}`.
@@ -62,6 +68,7 @@ fn ask_of(what: &str) -> Result<Ask<'_>, Fail> {
     match verb {
         "get" => Ok(Ask::Get(read_of(rest))),
         "set" => Ok(Ask::Set(put_of(rest)?)),
+        "onset" => Ok(Ask::OnSet(put_of(rest)?)),
         "listen" => listen_of(rest),
         _ => Ok(simple_ask(verb, rest).ok_or("no such verb")?),
     }
@@ -80,6 +87,11 @@ fn simple_ask<'a>(verb: &str, rest: &'a str) -> Option<Ask<'a>> {
         "poll" => Ask::Poll,
         "tick" => Ask::Tick,
         "deploy" => Ask::Deploy(rest),
+        "onremove" => Ask::OnRemove(rest),
+        "onupdate" => Ask::OnUpdate(rest),
+        "oncancel" => Ask::OnCancel(rest),
+        "leave" => Ask::Leave,
+        "runnext" => Ask::RunNext,
         _ => return None,
     })
 }

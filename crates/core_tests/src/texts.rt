@@ -65,13 +65,19 @@ pub(crate) fn event_of(alloc: Global, ask: Ask<'_>) -> Result<Event, Fail> {
         Ask::SignOut => Ok(Event::SignOut),
         Ask::Get(read) => get_of(alloc, read),
         Ask::Set(put) => Ok(Event::Set(write_of(alloc, put)?)),
-        Ask::Remove(path) => Ok(Event::Remove(Removal::of(Path::parse(alloc, path)?))),
-        Ask::Update(text) => update_of(alloc, text),
+        Ask::Remove(path) => Ok(Event::Remove(removal_of(alloc, path)?)),
+        Ask::Update(text) => Ok(Event::Update(writes_of(alloc, text)?)),
         Ask::Listen(id, read) => listen_of(alloc, id, read),
         Ask::Unlisten(id) => Ok(Event::Unlisten(id_of(id)?)),
         Ask::Poll => Ok(Event::Poll),
         Ask::Tick => Ok(Event::Tick),
         Ask::Deploy(name) => Ok(Event::Deploy(rules_named(alloc, name)?)),
+        Ask::OnSet(put) => Ok(Event::OnSet(write_of(alloc, put)?)),
+        Ask::OnRemove(path) => Ok(Event::OnRemove(removal_of(alloc, path)?)),
+        Ask::OnUpdate(text) => Ok(Event::OnUpdate(writes_of(alloc, text)?)),
+        Ask::OnCancel(path) => Ok(Event::OnCancel(Path::parse(alloc, path)?)),
+        Ask::Leave => Ok(Event::Leave),
+        Ask::RunNext => Ok(Event::RunNext),
     }
 }
 
@@ -107,10 +113,14 @@ fn id_of(text: &str) -> Result<ListenerId, Fail> {
     Ok(ListenerId::new(text).ok_or("no id")?)
 }
 
-fn update_of(alloc: Global, text: &str) -> Result<Event, Fail> {
+fn removal_of(alloc: Global, path: &str) -> Result<Removal, Fail> {
+    Ok(Removal::of(Path::parse(alloc, path)?))
+}
+
+fn writes_of(alloc: Global, text: &str) -> Result<Writes, Fail> {
     let mut writes = Vec::new(alloc);
     for put in &puts_of(alloc, text)? {
         writes.push(write_of(alloc, *put)?)?;
     }
-    Ok(Event::Update(Writes::of_vec(writes)))
+    Ok(Writes::of_vec(writes))
 }

@@ -30,6 +30,13 @@ pub(crate) enum Ask<'a> {
     Poll,
     Tick,
     Deploy(&'a str),
+    OnSet(&'a str, i64),
+    OnRemove(&'a str),
+    /// Establishes a 1 at each of these paths, of which a bar stands between two.
+    OnUpdate(&'a str),
+    OnCancel(&'a str),
+    Leave,
+    RunNext,
 }
 
 /// A call in the session of a number, and its reply in words.
@@ -46,6 +53,8 @@ pub(crate) fn event_of(alloc: Global, number: u64, ask: Ask<'_>) -> Option<Event
         Ask::Tick => Event::Tick,
         Ask::Deploy(file) => Event::Deploy(rules_of(alloc, file)?),
         Ask::Unlisten(id) => Event::Unlisten(ListenerId::new(id)?),
+        Ask::Leave => Event::Leave,
+        Ask::RunNext => Event::RunNext,
         _ => event_at(alloc, number, ask)?,
     })
 }
@@ -63,6 +72,17 @@ fn event_at(alloc: Global, number: u64, ask: Ask<'_>) -> Option<Event> {
         Ask::Listen(id, path) => {
             Event::Listen(ListenerId::new(id)?, path_of(alloc, number, path)?, None)
         }
+        _ => later_event_at(alloc, number, ask)?,
+    })
+}
+
+// The event of an ask that is about what is written when a session goes.
+fn later_event_at(alloc: Global, number: u64, ask: Ask<'_>) -> Option<Event> {
+    Some(match ask {
+        Ask::OnSet(path, value) => Event::OnSet(write_of(alloc, number, path, value)?),
+        Ask::OnRemove(path) => Event::OnRemove(Removal::of(path_of(alloc, number, path)?)),
+        Ask::OnUpdate(paths) => Event::OnUpdate(writes_of(alloc, number, paths)?),
+        Ask::OnCancel(path) => Event::OnCancel(path_of(alloc, number, path)?),
         _ => return None,
     })
 }

@@ -9,11 +9,12 @@ use bumpalo::Bump;
 use listeners::MAX_LISTENERS;
 use locked_server::{Hall, Seat};
 use rtdb_core::{Core, MAX_SESSIONS};
+use rtdb_model::MAX_ACTIONS;
 use std::alloc::Global;
 use std::sync::Wait;
 use std::test::Fail;
 
-const ROWS: [Row<'static>; 9] = [
+const ROWS: [Row<'static>; 10] = [
     (1, Ask::Poll, "NoSession"),
     (1, Ask::Open, "ok"),
     (1, Ask::Open, "SessionOpen"),
@@ -21,14 +22,19 @@ const ROWS: [Row<'static>; 9] = [
     (1, Ask::Update(""), "EmptyUpdate"),
     (1, Ask::Update("/a|/a/b"), "Overlap"),
     (1, Ask::Unlisten("l"), "NoListener"),
+    (1, Ask::RunNext, "NotLeaving"),
     (1, Ask::Listen("l", "/a"), "null"),
     (1, Ask::Listen("l", "/b"), "DuplicateId"),
 ];
 
-// What is refused where the first session is open with one listener, and as many others as may be.
-const ROWS_WHERE_FULL: [Row<'static>; 2] = [
+// What is refused where the first session is open with as many listeners and actions as may be, and as many others are,
+// and then where it is leaving.
+const ROWS_WHERE_FULL: [Row<'static>; 5] = [
     (100, Ask::Open, "TooManySessions"),
     (1, Ask::Listen("m", "/b"), "TooManyListeners"),
+    (1, Ask::OnSet("/b", 1), "TooManyActions"),
+    (1, Ask::Leave, "ok"),
+    (1, Ask::Poll, "Leaving"),
 ];
 
 #[test]
@@ -59,6 +65,7 @@ fn make_all<R: Wait>(
     }
     fill_sessions(rt, alloc, hall, seat, core, arena)?;
     fill_listeners(rt, alloc, hall, seat, core, arena)?;
+    fill_actions(rt, alloc, hall, seat, core, arena)?;
     for row in &ROWS_WHERE_FULL {
         make(rt, alloc, hall, seat, core, arena, row)?;
     }
@@ -107,6 +114,25 @@ fn fill_listeners<R: Wait>(
         let id = number.to_string(alloc).ok().ok_or(Trouble::NoMemory)?;
         let ask = Ask::Listen(id.as_str(), "/b");
         make(rt, alloc, hall, seat, core, arena, &(1, ask, "null"))?;
+    }
+    Ok(())
+}
+
+// Keeps as many actions as may be.
+fn fill_actions<R: Wait>(
+    rt: &R,
+    alloc: Global,
+    hall: &Hall,
+    seat: &mut Seat,
+    core: &mut Core,
+    arena: &mut Bump,
+) -> Result<(), Trouble>
+    requires { seat.old.hall ≡ hall.now }
+    ensures { seat.new.hall ≡ hall.now }
+{
+    for _action in 0..MAX_ACTIONS {
+        let ask = Ask::OnSet("/a", 1);
+        make(rt, alloc, hall, seat, core, arena, &(1, ask, "ok"))?;
     }
     Ok(())
 }

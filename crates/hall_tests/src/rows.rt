@@ -11,7 +11,7 @@ use std::alloc::Global;
 use std::sync::Wait;
 
 /// How many calls there are.
-pub(crate) const CALLS: u64 = 24;
+pub(crate) const CALLS: u64 = 40;
 
 /// How often each seat makes all of them.
 pub(crate) const ROUNDS: u64 = 4;
@@ -21,7 +21,7 @@ pub(crate) const LEFT: &str = r#"{"a":2,"c":1}"#;
 
 // The sessions are the first and the second of whoever makes the calls, who writes and reads at a place of its own,
 // and deploys the same rules as all others.
-const ROWS: [Row<'static>; 24] = [
+const ROWS: [Row<'static>; 40] = [
     (1, Ask::Open, "ok"),
     (2, Ask::Open, "ok"),
     (2, Ask::Open, "SessionOpen"),
@@ -43,9 +43,25 @@ const ROWS: [Row<'static>; 24] = [
     (1, Ask::SignOut, "ok"),
     (1, Ask::Deploy(WIDE), "NotAdmin"),
     (2, Ask::Get(""), LEFT),
-    (1, Ask::Close, "ok"),
+    (2, Ask::OnUpdate("/b|/d"), "ok"),
+    (2, Ask::OnSet("/e", 3), "ok"),
+    (2, Ask::OnCancel("/e"), "ok"),
+    (2, Ask::OnRemove("/b"), "ok"),
+    (2, Ask::OnRemove("/d"), "ok"),
+    (2, Ask::OnSet("/e", 3), "ok"),
+    (2, Ask::RunNext, "NotLeaving"),
+    (2, Ask::Leave, "ok"),
+    (2, Ask::Get(""), "Leaving"),
+    (1, Ask::Get(""), LEFT),
+    (2, Ask::RunNext, "applied"),
+    (1, Ask::Get(""), r#"{"a":2,"b":1,"c":1,"d":1}"#),
+    (2, Ask::RunNext, "applied"),
+    (2, Ask::RunNext, "applied"),
+    (1, Ask::Leave, "ok"),
+    (1, Ask::RunNext, "empty"),
+    (1, Ask::Close, "closed 0"),
     (1, Ask::Poll, "NoSession"),
-    (2, Ask::Close, "ok"),
+    (2, Ask::Close, "closed 1"),
 ];
 
 /// Makes all calls so often, if each is answered as it should be.

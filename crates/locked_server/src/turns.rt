@@ -131,7 +131,13 @@ fn deploys_file(event: &Event)
         | Event::Listen(_, _, _)
         | Event::Unlisten(_)
         | Event::Poll
-        | Event::Tick => {}
+        | Event::Tick
+        | Event::OnSet(_)
+        | Event::OnRemove(_)
+        | Event::OnUpdate(_)
+        | Event::OnCancel(_)
+        | Event::Leave
+        | Event::RunNext => {}
     }
 }
 

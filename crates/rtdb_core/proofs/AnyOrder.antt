@@ -21,7 +21,7 @@ use Rattle.rtdb_model.specs.declared.limits.TheConstants.{MAX_LOCATIONS}
 use Rattle.rtdb_model.specs.Borrowed.{reply_of, refusal_of}
 use Rattle.rtdb_model.specs.State.{State, is_open, identity_of, scene_at}
 use Rattle.rtdb_model.specs.Rejudged.{all_rejudged}
-use Rattle.rtdb_model.specs.Step.{Outcome, refused, unless_refused, denial, or_full, tree_with, write_refusal, makes, updates, takes_no_memory}
+use Rattle.rtdb_model.specs.Step.{Outcome, refused, unless_refused, denial, or_full, tree_with, write_refusal, makes, updates, takes_none}
 use Rattle.evaluator.specs.Identity.{Identity}
 use Rattle.rtdb_core.specs.declared.fates.Decision.{Decision}
 use Rattle.rtdb_core.specs.declared.plan.Found.{Found}
@@ -30,7 +30,7 @@ use Rattle.rtdb_core.specs.Working.Plans.{Comes, Refuses, AreGranted, IsRefused,
 use Rattle.rtdb_core.proofs.Refusing.{writes_refuse, writes_come}
 use Rattle.rtdb_core.proofs.Room.{has_room}
 
-verdict_same : (scene : Scene) (t : Tree) (ls ms : List Path) → HasOneCapture scene.book → IsPermutation ls ms → write_verdict scene t ls ≡ write_verdict scene t ms
+pub verdict_same : (scene : Scene) (t : Tree) (ls ms : List Path) → HasOneCapture scene.book → IsPermutation ls ms → write_verdict scene t ls ≡ write_verdict scene t ms
 verdict_same scene t ls ms one p =
     sym (one_verdict scene t ls (write_verdict scene t ms) one (verdict_in_any_order scene t ls ms (write_verdict scene t ms) p (writes_decided scene t ms (write_verdict scene t ms) refl)))
 
@@ -53,9 +53,12 @@ overlap_same ws xs p = by_one (overlaps ws) (overlaps xs) refl refl
 pub some_in_any_order : (ws xs : List Write) → IsPermutation ws xs → length xs == 0 ≡ false → length ws == 0 ≡ false
 some_in_any_order ws xs p h = ap (λ (n : ℕ). n == 0) (sym (length_permutation ws xs p)) ∙ h
 
+pub none_in_any_order : (ws xs : List Write) → IsPermutation ws xs → length xs == 0 ≡ true → length ws == 0 ≡ true
+none_in_any_order ws xs p h = ap (λ (n : ℕ). n == 0) (sym (length_permutation ws xs p)) ∙ h
+
 pub update_empty : (old : State) (now session : ℕ) (ws xs : List Write) → is_open old session ≡ true → IsPermutation ws xs → length xs == 0 ≡ true → updates old now session ws ≡ refused old EmptyUpdate
 update_empty old now session ws xs opened p none =
-    λ i. cond (not (opened i)) (refused old NoSession) (cond ((ap (λ (n : ℕ). n == 0) (sym (length_permutation ws xs p)) ∙ none) i) (refused old EmptyUpdate) (cond (overlaps ws) (refused old Overlap) (makes old now session ws)))
+    λ i. cond (not (opened i)) (refused old NoSession) (cond (none_in_any_order ws xs p none i) (refused old EmptyUpdate) (cond (overlaps ws) (refused old Overlap) (makes old now session ws)))
 
 -- ---- an update of an open session that has a write, by what is found of its writes in another order
 
@@ -70,7 +73,7 @@ module _ (old : State) (now session : ℕ) (ws xs : List Write) (opened : is_ope
       let by : updates old now session ws ≡ makes old now session ws = (λ i. cond (not (opened i)) (refused old NoSession) (cond (some i) (refused old EmptyUpdate) (cond (apart i) (refused old Overlap) (makes old now session ws)))) in
       by ∙ makes_same old now session ws xs one p apart
 
-  pub update_takes_memory : overlaps xs ≡ false → takes_no_memory old session (Update ws) ≡ false
+  pub update_takes_memory : overlaps xs ≡ false → takes_none old session (Update ws) ≡ false
   update_takes_memory h = λ i. not (opened i) || some i || (overlap_same ws xs p ∙ h) i
 
 -- what writes propose in another order
@@ -82,10 +85,10 @@ same_with_tree old now ws xs ds p h = ap (λ (t : Tree). with_settled (record ol
 
 -- ---- what an update comes to, by what its writes come to in another order
 module _ (old : State) (now session : ℕ) (who : Option Identity) (ws xs : List Write) (is : who ≡ identity_of old session) (opened : is_open old session ≡ true) (some : length ws == 0 ≡ false) (p : IsPermutation ws xs) (one : HasOneCapture old.rules) (apart : overlaps xs ≡ false) where
-  pub update_refuses : (refusal : BorrowedRefusal) → IsRefused (write_refusal_for old now who xs) refusal → Refuses old (updates old now session ws) (takes_no_memory old session (Update ws)) (refusal_of refusal)
+  pub update_refuses : (refusal : BorrowedRefusal) → IsRefused (write_refusal_for old now who xs) refusal → Refuses old (updates old now session ws) (takes_none old session (Update ws)) (refusal_of refusal)
   update_refuses refusal h =
-      subst (λ (o : Outcome). Refuses old o (takes_no_memory old session (Update ws)) (refusal_of refusal)) (sym (update_made old now session ws xs opened some p one apart))
-      (writes_refuse old now session who xs is (takes_no_memory old session (Update ws)) (update_takes_memory old now session ws xs opened some p apart) refusal h)
+      subst (λ (o : Outcome). Refuses old o (takes_none old session (Update ws)) (refusal_of refusal)) (sym (update_made old now session ws xs opened some p one apart))
+      (writes_refuse old now session who xs is (takes_none old session (Update ws)) (update_takes_memory old now session ws xs opened some p apart) refusal h)
 
   pub update_comes : (found : Found) → AreGranted old now who xs found → AreFixed ws → Comes (updates old now session ws) found (with_settled (with_tree old 0 ws) found.decisions.made.items)
   update_comes found g fixed =

@@ -18,7 +18,7 @@ use Rattle.rtdb_model.specs.declared.reply.Reply.TheVariants.{Done, News, Value,
 use Rattle.rtdb_model.specs.Borrowed.{refusal_of}
 use Rattle.rtdb_model.specs.State.{State, is_open, identity_of, listeners_of}
 use Rattle.rtdb_model.specs.Rejudged.{selected_at}
-use Rattle.rtdb_model.specs.Step.{Outcome, refused, unless_refused, with_session, own_again, signs, news_of, polls, listening, listens, takes_no_memory}
+use Rattle.rtdb_model.specs.Step.{Outcome, refused, unless_refused, with_session, own_again, signs, news_of, polls, listening, listens, takes_none}
 use Rattle.rtdb_core.specs.declared.plan.Found.{Found}
 use Rattle.rtdb_core.specs.Working.Fates.{sparse, settled, fate_of, read_refusal_for, listen_refusal}
 use Rattle.rtdb_core.specs.Working.Plans.{Comes, Refuses, IsGranted, IsRefused}
@@ -79,7 +79,7 @@ module _ (old : State) (now n : ℕ) (who : Option Identity) (ls : List Listener
     listens_may : listens old now n id path query ≡ answered (read_refusal_for old now who path query)
     listens_may = listens_as ∙ ap (λ (o : Option Refusal). unless_refused old o (answered (read_refusal_for old now who path query))) may
 
-    pub listen_is_judged : takes_no_memory old n (Listen id path query) ≡ false
+    pub listen_is_judged : takes_none old n (Listen id path query) ≡ false
     listen_is_judged = (λ i. not (sym opened i) || has_id id (sym heard i) || nat_le MAX_LISTENERS (length (sym heard i))) ∙ by_none (has_id id ls) (nat_le MAX_LISTENERS (length ls)) may
       where
         by_none : (a b : Bool) → cond a (Some DuplicateId) (cond b (Some TooManyListeners) None) ≡ None → a || b ≡ false
@@ -87,7 +87,7 @@ module _ (old : State) (now n : ℕ) (who : Option Identity) (ls : List Listener
         by_none false true h = cc
         by_none false false h = refl
 
-    pub listen_refuses : (refusal : BorrowedRefusal) → IsRefused (read_refusal_for old now who path query) refusal → Refuses old (listens old now n id path query) (takes_no_memory old n (Listen id path query)) (refusal_of refusal)
+    pub listen_refuses : (refusal : BorrowedRefusal) → IsRefused (read_refusal_for old now who path query) refusal → Refuses old (listens old now n id path query) (takes_none old n (Listen id path query)) (refusal_of refusal)
     listen_refuses refusal (inl h) = inl (listens_may ∙ ap answered h)
     listen_refuses refusal (inr h) = inr (ap Refused h, refl, listen_is_judged)
 

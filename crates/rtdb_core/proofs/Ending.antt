@@ -6,7 +6,7 @@ use Rattle.std.specs.Cmp.{nat_cmp_total}
 use Rattle.listeners.specs.Table.{has_id, without_id}
 use Rattle.rtdb_model.specs.declared.reply.Refusal.TheVariants.{NoSession, NoListener}
 use Rattle.rtdb_model.specs.declared.reply.Reply.TheVariants.{Done, Refused}
-use Rattle.rtdb_model.specs.State.{State, Session, Sessions, is_open, identity_of, listeners_in, listeners_of}
+use Rattle.rtdb_model.specs.State.{State, Session, Sessions, session_or_fresh, session_in, is_open, identity_of, listeners_in, listeners_of}
 use Rattle.rtdb_model.specs.Step.{Outcome, refused, with_session, unlistens}
 use Rattle.rtdb_model.proofs.Slots.{is_same, who_in}
 use Rattle.rtdb_core.proofs.Without.{all_stay}
@@ -19,9 +19,9 @@ same_put s n opened =
     map_of.get-insert nat_cmp_total s.sessions n one q ∙ ap (λ (b : Bool). cond b (Some one) (map_of.get s.sessions q)) (is_same q n) ∙ by_test q (nat_eq q n) refl))
   where
     one : Session
-    one = record { identity = identity_of s n; listeners = listeners_of s n }
+    one = record (session_in s n) { identity = identity_of s n; listeners = listeners_of s n }
 
-    found : (o : Option Session) → is_some o ≡ true → Some (record { identity = who_in o; listeners = listeners_in o }) ≡ o
+    found : (o : Option Session) → is_some o ≡ true → Some (record (session_or_fresh o) { identity = who_in o; listeners = listeners_in o }) ≡ o
     found None h = absurd (false≢true h)
     found (Some x) h = refl
 

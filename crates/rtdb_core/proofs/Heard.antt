@@ -1,5 +1,5 @@
 -- Each step leaves no live listener whose read was not granted.
-use Rattle.std.proofs.Common.{◌≡◌, ℕ, Bool, true, false, not, cond, eqb, leb, List, [], ◌∷◌, ◌++◌, length, get_or, Option, Some, None, inl, inr, sym, ap, subst, ◌∙◌, refl}
+use Rattle.std.proofs.Common.{◌≡◌, ℕ, Bool, true, false, not, ◌&&◌, cond, eqb, leb, List, [], ◌∷◌, ◌++◌, length, get_or, Option, Some, None, inl, inr, sym, ap, subst, ◌∙◌, refl}
 use Rattle.std.proofs.lemmas.List.Elements.{All-nil, All-push, All-map, All-filter}
 use Rattle.std.specs.Prelude.{◌==◌, filter, bytes_eq}
 use Rattle.std.specs.Cmp.{second_so}
@@ -22,18 +22,18 @@ use Rattle.judge.proofs.Verdicts.{grants_decided, reads_decided}
 use Rattle.listeners.specs.declared.limits.TheConstants.{MAX_LISTENERS}
 use Rattle.listeners.specs.Query.{Query}
 use Rattle.listeners.specs.Table.{Listener, begun, has_id, without_id, unmarked, taken}
-use Rattle.rtdb_model.specs.declared.limits.TheConstants.{MAX_SESSIONS}
+use Rattle.rtdb_model.specs.declared.limits.TheConstants.{MAX_SESSIONS, MAX_ACTIONS}
 use Rattle.rtdb_model.specs.declared.event.Event.{Event}
-use Rattle.rtdb_model.specs.declared.event.Event.TheVariants.{Open, Close, SignIn, SignOut, Get, Set, Remove, Update, Listen, Unlisten, Poll, Tick, Deploy}
+use Rattle.rtdb_model.specs.declared.event.Event.TheVariants.{Open, Close, SignIn, SignOut, Get, Set, Remove, Update, Listen, Unlisten, Poll, Tick, Deploy, OnSet, OnRemove, OnUpdate, OnCancel, Leave, RunNext}
 use Rattle.rtdb_model.specs.declared.reply.Refusal.{Refusal}
-use Rattle.rtdb_model.specs.declared.reply.Refusal.TheVariants.{SessionOpen, TooManySessions, NoSession, NotAdmin, EmptyUpdate, Overlap, DuplicateId, TooManyListeners, NoListener}
+use Rattle.rtdb_model.specs.declared.reply.Refusal.TheVariants.{SessionOpen, TooManySessions, NoSession, NotAdmin, EmptyUpdate, Overlap, DuplicateId, TooManyListeners, NoListener, Leaving, TooManyActions, NotLeaving}
 use Rattle.rtdb_model.specs.declared.reply.Reply.{Reply}
-use Rattle.rtdb_model.specs.State.{State, opening, is_open, identity_of, listeners_in, listeners_of, is_admin, scene_at}
+use Rattle.rtdb_model.specs.State.{Action, State, Session, opening, fresh, session_in, is_open, is_leaving, identity_of, listeners_in, listeners_of, actions_of, is_admin, scene_at}
 use Rattle.rtdb_model.specs.Rejudged.{asked_for, hears, moves, judged, judged_again, all_rejudged}
-use Rattle.rtdb_model.specs.Step.{Outcome, refused, unless_refused, denial, read_refusal, write_refusal, closed, with_session, own_again, signs, tree_with, makes, sets, removal, listens, outcome, Step}
+use Rattle.rtdb_model.specs.Step.{Outcome, refused, unless_refused, denial, verdict_on, read_refusal, write_refusal, closed, with_session, own_again, signs, tree_with, written_to, makes, sets, removal, listens, writes_of, with_actions, with_action, keeps, keeps_one, departing, run_by, runs_first, wants_presence, unbarred, outcome, Step}
 use Rattle.rtdb_core.specs.Working.Fates.{scene_by}
 use Rattle.rtdb_core.specs.Working.Heard.{IsHeard, AreHeard, AllHeard}
-use Rattle.rtdb_model.proofs.Slots.{listeners-with, identity-with, listeners-without, identity-without, listeners-again, identity-again}
+use Rattle.rtdb_model.proofs.Slots.{who_in, put_at, get-put_at, identity-in, listeners-in, listeners-without, identity-without, listeners-again, identity-again}
 use Rattle.rtdb_model.proofs.Histories.{judged_is}
 
 -- ---- one listener
@@ -68,17 +68,28 @@ granted_where_not_refused old now session path query none =
 
 -- ---- a state whose session is put, or gone, or all are judged again
 
-own_heard : (old : State) (n : ℕ) (who : Option Identity) (mine : List Listener) → AllHeard old → AreHeard old.rules old.tree who mine → AllHeard (with_session old n who mine)
-own_heard old n who mine heard h m =
-    elim (eqb m n) as (λ b. eqb m n ≡ b → AreHeard old.rules old.tree (identity_of (with_session old n who mine) m) (listeners_of (with_session old n who mine) m)) [
-      | true ↦ λ e. put true e h
-      | false ↦ λ e. put false e (heard m)
-    ] refl
+put_heard : (old : State) (n : ℕ) (one : Session) → AllHeard old → AreHeard old.rules old.tree one.identity one.listeners → AllHeard (put_at old n one)
+put_heard old n one heard h m =
+    subst (λ (o : Option Session). AreHeard old.rules old.tree (who_in o) (listeners_in o)) (sym (get-put_at old n one m)) (there (eqb m n))
   where
-    put : (b : Bool) → eqb m n ≡ b → AreHeard old.rules old.tree (cond b who (identity_of old m)) (cond b mine (listeners_of old m)) → AreHeard old.rules old.tree (identity_of (with_session old n who mine) m) (listeners_of (with_session old n who mine) m)
-    put b e g =
-        subst (λ (w : Option Identity). AreHeard old.rules old.tree w (listeners_of (with_session old n who mine) m)) (sym (identity-with old n who mine m ∙ ap (λ (c : Bool). cond c who (identity_of old m)) e))
-        (subst (AreHeard old.rules old.tree (cond b who (identity_of old m))) (sym (listeners-with old n who mine m ∙ ap (λ (c : Bool). cond c mine (listeners_of old m)) e)) g)
+    there : (b : Bool) → AreHeard old.rules old.tree (who_in (cond b (Some one) (map_of.get old.sessions m))) (listeners_in (cond b (Some one) (map_of.get old.sessions m)))
+    there true = h
+    there false = heard m
+
+own_heard : (old : State) (n : ℕ) (who : Option Identity) (mine : List Listener) → AllHeard old → AreHeard old.rules old.tree who mine → AllHeard (with_session old n who mine)
+own_heard old n who mine heard h = put_heard old n (record (session_in old n) { identity = who; listeners = mine }) heard h
+
+-- one that is as it was, but for its actions or its leaving
+as_heard : (old : State) (n : ℕ) → AllHeard old → AreHeard old.rules old.tree (session_in old n).identity (session_in old n).listeners
+as_heard old n heard =
+    subst (λ (w : Option Identity). AreHeard old.rules old.tree w (session_in old n).listeners) (sym (identity-in old n))
+    (subst (AreHeard old.rules old.tree (identity_of old n)) (sym (listeners-in old n)) (heard n))
+
+actions_heard : (old : State) (n : ℕ) (actions : List Action) → AllHeard old → AllHeard (with_actions old n actions)
+actions_heard old n actions heard = put_heard old n (record (session_in old n) { actions = actions }) heard (as_heard old n heard)
+
+departing_heard : (old : State) (n : ℕ) → AllHeard old → AllHeard (departing old n)
+departing_heard old n heard = put_heard old n (record (session_in old n) { leaving = true }) heard (as_heard old n heard)
 
 gone_heard : (old : State) (n : ℕ) → AllHeard old → AllHeard (closed old n)
 gone_heard old n heard m =
@@ -132,37 +143,67 @@ module _ (old : State) (now n : ℕ) (heard : AllHeard old) where
       (All-push (IsHeard old.rules old.tree (identity_of old n)) (listeners_of old n) (begun id path query) (heard n)
       (λ _. (now, granted_where_not_refused old now n path query none)))))))
 
-  pub outcome_heard : (event : Event) → AllHeard (outcome old now n event).after
-  outcome_heard Open =
+  keep_heard : (writes : List Write) → AllHeard (keeps old now n writes).after
+  keep_heard writes =
+      test_heard (leb MAX_ACTIONS (length (actions_of old n))) TooManyActions _
+      (unless_heard (denial (verdict_on old now n writes)) _ (λ _. actions_heard old n _ heard))
+
+  keep_one_heard : (write : Write) → AllHeard (keeps_one old now n write).after
+  keep_one_heard write = test_heard (not (is_open old n)) NoSession _ (keep_heard (write ∷ []))
+
+  run_heard : (writes : List Write) (others : List Action) (r : Option Refusal) → AllHeard (run_by old now n writes others r).after
+  run_heard writes others None = actions_heard (written_to old now writes) n others (again_heard old.tree now (record { tree = tree_with old now writes; rules = old.rules; sessions = old.sessions }))
+  run_heard writes others (Some refusal) = actions_heard old n others heard
+
+  first_heard : (actions : List Action) → AllHeard (runs_first old now n actions).after
+  first_heard [] = heard
+  first_heard (action ∷ others) = run_heard (writes_of action) others (write_refusal old now n (writes_of action))
+
+  unbarred_heard : (event : Event) → AllHeard (unbarred old now n event).after
+  unbarred_heard Open =
       test_heard (is_open old n) SessionOpen _
       (test_heard (leb MAX_SESSIONS (map_of.len old.sessions)) TooManySessions _
-      (own_heard old n None [] heard (All-nil (IsHeard old.rules old.tree None))))
-  outcome_heard Close = test_heard (not (is_open old n)) NoSession _ (gone_heard old n heard)
-  outcome_heard (SignIn who) = sign_heard (Some who)
-  outcome_heard SignOut = sign_heard None
-  outcome_heard (Get path query) = test_heard (not (is_open old n)) NoSession _ (unless_heard (read_refusal old now n path query) _ (λ _. heard))
-  outcome_heard (Set write) = set_heard write
-  outcome_heard (Remove path) = set_heard (removal path)
-  outcome_heard (Update writes) =
+      (put_heard old n fresh heard (All-nil (IsHeard old.rules old.tree None))))
+  unbarred_heard Close = test_heard (not (is_open old n)) NoSession _ (gone_heard old n heard)
+  unbarred_heard (SignIn who) = sign_heard (Some who)
+  unbarred_heard SignOut = sign_heard None
+  unbarred_heard (Get path query) = test_heard (not (is_open old n)) NoSession _ (unless_heard (read_refusal old now n path query) _ (λ _. heard))
+  unbarred_heard (Set write) = set_heard write
+  unbarred_heard (Remove path) = set_heard (removal path)
+  unbarred_heard (Update writes) =
       test_heard (not (is_open old n)) NoSession _
       (test_heard (length writes == 0) EmptyUpdate _
       (test_heard (overlaps writes) Overlap _ (make_heard writes)))
-  outcome_heard (Listen id path query) = listen_heard id path query
-  outcome_heard (Unlisten id) =
+  unbarred_heard (Listen id path query) = listen_heard id path query
+  unbarred_heard (Unlisten id) =
       test_heard (not (is_open old n)) NoSession _
       (test_heard (not (has_id id (listeners_of old n))) NoListener _
       (own_heard old n (identity_of old n) (without_id id (listeners_of old n)) heard
       (All-filter (λ l. not (bytes_eq id l.id)) (IsHeard old.rules old.tree (identity_of old n)) (listeners_of old n) (heard n))))
-  outcome_heard Poll =
+  unbarred_heard Poll =
       test_heard (not (is_open old n)) NoSession _
       (own_heard old n (identity_of old n) (taken (own_again old now n (identity_of old n))) heard
       (All-map (IsHeard old.rules old.tree (identity_of old n)) unmarked (filter (λ l. l.live) (own_again old now n (identity_of old n)))
       (All-filter (λ l. l.live) (λ l. IsHeard old.rules old.tree (identity_of old n) (unmarked l)) (own_again old now n (identity_of old n))
       (own_again_heard old now n (identity_of old n)))))
-  outcome_heard Tick = again_heard old.tree now old
-  outcome_heard (Deploy rules) =
+  unbarred_heard Tick = again_heard old.tree now old
+  unbarred_heard (Deploy rules) =
       test_heard (not (is_open old n)) NoSession _
       (test_heard (not (is_admin (identity_of old n))) NotAdmin _ (again_heard old.tree now (record { tree = old.tree; rules = rules; sessions = old.sessions })))
+  unbarred_heard (OnSet write) = keep_one_heard write
+  unbarred_heard (OnRemove path) = keep_one_heard (removal path)
+  unbarred_heard (OnUpdate writes) =
+      test_heard (not (is_open old n)) NoSession _
+      (test_heard (length writes == 0) EmptyUpdate _
+      (test_heard (overlaps writes) Overlap _ (keep_heard writes)))
+  unbarred_heard (OnCancel path) = test_heard (not (is_open old n)) NoSession _ (actions_heard old n _ heard)
+  unbarred_heard Leave = test_heard (not (is_open old n)) NoSession _ (departing_heard old n heard)
+  unbarred_heard RunNext =
+      test_heard (not (is_open old n)) NoSession _
+      (test_heard (not (is_leaving old n)) NotLeaving _ (first_heard (actions_of old n)))
+
+  pub outcome_heard : (event : Event) → AllHeard (outcome old now n event).after
+  outcome_heard event = test_heard (wants_presence event && is_leaving old n) Leaving _ (unbarred_heard event)
 
 -- ---- steps
 

@@ -2,7 +2,11 @@ pub mod Sessions
 pub mod Walks
 pub mod Room
 pub mod Refusing
+pub mod Barring
 pub mod AnyOrder
+pub mod Acting
+pub mod Keeping
+pub mod Running
 pub mod Borrowed
 pub mod Fatings
 pub mod Passing

@@ -80,18 +80,19 @@ pub verdict_is : (old : State) (now : ℕ) (who : Option Identity) (scene : Scen
 verdict_is old now who scene ws v same one h =
     one_verdict (scene_for old now who) (tree_with old now ws) (map location ws) v one (subst (λ (s : Scene). IsWriteVerdict s (proposed s.old ws s.moment) (map location ws) v) same h)
 
-pub is_denied : (old : State) (now : ℕ) (who : Option Identity) (ws : List Write) (v : Verdict) (refusal : Refusal) → v ≡ verdict_for old now who ws → denial v ≡ Some refusal → Some refusal ≡ write_refusal_for old now who ws
+-- the denial that is owed, if one is, stands before the want of room
+pub is_denied : (old : State) (now : ℕ) (who : Option Identity) (ws : List Write) (o : Option BorrowedRefusal) (denied : BorrowedRefusal) → o ≡ Some denied → option_map refusal_of o ≡ denial (verdict_for old now who ws) → Some (refusal_of denied) ≡ write_refusal_for old now who ws
 unfolding write_refusal_for
-is_denied old now who ws v refusal is denied = ap (λ (o : Option Refusal). or_full o (tree_with old now ws)) (sym denied ∙ ap denial is)
+is_denied old now who ws o denied is owed = ap (λ (r : Option Refusal). or_full r (tree_with old now ws)) (sym (ap (option_map refusal_of) is) ∙ owed)
 
-pub is_granted : (old : State) (now : ℕ) (who : Option Identity) (ws : List Write) (v : Verdict) → v ≡ verdict_for old now who ws → denial v ≡ None → full (tree_with old now ws) ≡ write_refusal_for old now who ws
+pub is_granted : (old : State) (now : ℕ) (who : Option Identity) (ws : List Write) (o : Option BorrowedRefusal) → o ≡ None → option_map refusal_of o ≡ denial (verdict_for old now who ws) → full (tree_with old now ws) ≡ write_refusal_for old now who ws
 unfolding write_refusal_for
-is_granted old now who ws v is none = ap (λ (o : Option Refusal). or_full o (tree_with old now ws)) (sym none ∙ ap denial is)
+is_granted old now who ws o is owed = ap (λ (r : Option Refusal). or_full r (tree_with old now ws)) (sym (ap (option_map refusal_of) is) ∙ owed)
 
 -- ---- writes of a session, as they are judged for who is signed in on it
 
 module _ (old : State) (now session : ℕ) (who : Option Identity) (ws : List Write) (is : who ≡ identity_of old session) where
-  writes_as : write_refusal_for old now who ws ≡ write_refusal old now session ws
+  pub writes_as : write_refusal_for old now who ws ≡ write_refusal old now session ws
   unfolding write_refusal write_refusal_for
   writes_as = ap (λ (w : Option Identity). or_full (denial (verdict_for old now w ws)) (tree_with old now ws)) is
 
@@ -142,21 +143,12 @@ module _ (old : State) (now session : ℕ) (who : Option Identity) (ws : List Wr
 pub match_none : {A : Type 0} (N : Type 0) (P : A → Type 0) (o : Option A) → o ≡ None → MatchOption o N P → N
 match_none N P o is h = subst (λ p. MatchOption p N P) is h
 
--- a verdict by itself, as a refusal
-pub alone_denied : (scene : Scene) (t : Tree) (ls : List Path) (v : Verdict) (refusal : Refusal) → HasOneCapture scene.book → IsWriteVerdict scene t ls v → denial v ≡ Some refusal → Some refusal ≡ or_full (denial (write_verdict scene t ls)) t
-alone_denied scene t ls v refusal one h denied = ap (λ (o : Option Refusal). or_full o t) (sym denied ∙ ap denial (one_verdict scene t ls v one h))
-
-pub alone_granted : (scene : Scene) (t : Tree) (ls : List Path) (v : Verdict) → HasOneCapture scene.book → IsWriteVerdict scene t ls v → denial v ≡ None → full t ≡ or_full (denial (write_verdict scene t ls)) t
-alone_granted scene t ls v one h none = ap (λ (o : Option Refusal). or_full o t) (sym none ∙ ap denial (one_verdict scene t ls v one h))
-
 module _ (old : State) (now : ℕ) (who : Option Identity) (scene : Scene) (t : Tree) (write : Write) (scene_is : scene ≡ scene_for old now who) (tree_is : t ≡ tree_with old now (write ∷ [])) where
-  pub set_judged : or_full (denial (write_verdict scene t (location write ∷ []))) t ≡ write_refusal_for old now who (write ∷ [])
-  unfolding write_refusal_for
-  set_judged = λ i. or_full (denial (write_verdict (scene_is i) (tree_is i) (location write ∷ []))) (tree_is i)
+  pub set_judged : denial (write_verdict scene t (location write ∷ [])) ≡ denial (verdict_for old now who (write ∷ []))
+  set_judged = λ i. denial (write_verdict (scene_is i) (tree_is i) (location write ∷ []))
 
-  pub set_denied : (names : List Named) (o : Option (List Named)) (N : Type 0) (at : Path) → at ≡ location write → HasOneCapture scene.book → o ≡ Some names → MatchOption o N (λ all. IsWriteVerdict scene t (location write ∷ []) (verdicts.WriteDenied (location write) all)) → Some (WriteDenied at names) ≡ write_refusal_for old now who (write ∷ [])
+  pub set_denied : (names : List Named) (o : Option (List Named)) (N : Type 0) (at : Path) → at ≡ location write → HasOneCapture scene.book → o ≡ Some names → MatchOption o N (λ all. IsWriteVerdict scene t (location write ∷ []) (verdicts.WriteDenied (location write) all)) → Some (WriteDenied at names) ≡ denial (verdict_for old now who (write ∷ []))
   set_denied names o N at there one some h =
       ap (λ (l : Path). Some (WriteDenied l names)) there
-      ∙ alone_denied scene t (location write ∷ []) (verdicts.WriteDenied (location write) names) (WriteDenied (location write) names) one
-      (subst (λ p. MatchOption p N (λ all. IsWriteVerdict scene t (location write ∷ []) (verdicts.WriteDenied (location write) all))) some h) refl
+      ∙ ap denial (one_verdict scene t (location write ∷ []) (verdicts.WriteDenied (location write) names) one (subst (λ p. MatchOption p N (λ all. IsWriteVerdict scene t (location write ∷ []) (verdicts.WriteDenied (location write) all))) some h))
       ∙ set_judged

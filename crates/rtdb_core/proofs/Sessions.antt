@@ -18,7 +18,7 @@ use Rattle.evaluator.specs.Identity.{Identity}
 use Rattle.tree_model.specs.Tree.{Tree}
 use Rattle.rules_reader.specs.Book.{Book}
 use Rattle.listeners.specs.Table.{Listener}
-use Rattle.rtdb_model.specs.State.{Session, Sessions, State, is_open, identity_of, listeners_in, listeners_of}
+use Rattle.rtdb_model.specs.State.{Session, Sessions, State, session_or_fresh, session_in, is_open, identity_of, listeners_in, listeners_of}
 use Rattle.rtdb_model.specs.Step.{closed, with_session}
 
 -- the sessions of these entries
@@ -113,10 +113,15 @@ module _ (tree : Tree) (rules : Book) (es fs : List (ℕ × Session)) (state : S
   pub listeners_are : kept es ≡ state → Found → was.listeners ≡ listeners_of state n
   listeners_are is found = listeners_at es n was found ∙ ap (λ (s : State). listeners_of s n) is
 
-  pub put_is : kept es ≡ state → IsChanged es fs n (Some one) → (who : Option Identity) (ls : List Listener) → one ≡ record { identity = who; listeners = ls } → kept fs ≡ with_session state n who ls
-  put_is is changed who ls so =
-      ap (λ (m : Sessions). record { tree = tree; rules = rules; sessions = m }) (with_one es fs n one changed ∙ ap (map_of.insert (sessions_of es) n) so)
-      ∙ ap (λ (s : State). with_session s n who ls) is
+  -- what is put in its place is made of what stood there
+  pub changed_is : kept es ≡ state → Found → IsChanged es fs n (Some one) → (change : Session → Session) → one ≡ change was → kept fs ≡ record state { sessions = map_of.insert state.sessions n (change (session_in state n)) }
+  changed_is is found changed change so =
+      let here : was ≡ session_in (kept es) n = ap session_or_fresh (found ∙ sym (at es n)) in
+      ap (λ (m : Sessions). record { tree = tree; rules = rules; sessions = m }) (with_one es fs n one changed ∙ ap (map_of.insert (sessions_of es) n) (so ∙ ap change here))
+      ∙ ap (λ (s : State). record s { sessions = map_of.insert s.sessions n (change (session_in s n)) }) is
+
+  pub put_is : kept es ≡ state → Found → IsChanged es fs n (Some one) → (who : Option Identity) (ls : List Listener) → one ≡ record was { identity = who; listeners = ls } → kept fs ≡ with_session state n who ls
+  put_is is found changed who ls so = changed_is is found changed (λ w. record w { identity = who; listeners = ls }) so
 
   -- one that stays as it was leaves all as it was
   pub stays_is : kept es ≡ state → Found → IsChanged es fs n (Some one) → one ≡ was → kept fs ≡ state
@@ -145,6 +150,10 @@ module _ (tree : Tree) (rules : Book) (es : List (ℕ × Session)) (state : Stat
   pub open_listeners : (o : Option (Bor Session)) → LookedUp o → IfSome o (λ one. one.now.listeners ≡ listeners_of state n)
   open_listeners None found = tt
   open_listeners (Some one) found = listeners_at es n one.now found ∙ ap (λ (s : State). listeners_of s n) is
+
+  pub open_one : (o : Option (Bor Session)) → LookedUp o → IfSome o (λ one. one.now ≡ session_in state n)
+  open_one None found = tt
+  open_one (Some one) found = ap session_or_fresh (found ∙ sym (at es n)) ∙ ap (λ (s : State). session_in s n) is
 
 -- ---- what holds of a result
 

@@ -65,13 +65,14 @@ impl Core {
     /// borrowed, from the database, the event and the arena, so that no tree and no name is copied. A read costs one
     /// step for each key of its path, log w of w children each, the rules on the way, and with a query what `select`
     /// looks at, and a listen the same; a write the same for each of its locations, and what is written. Nothing else
-    /// grows with what is stored beside them. Opening, closing and unlistening cost a look-up among the sessions. An
-    /// event that judges listeners again costs a look at the rules of each that is live; these are evaluated only where
-    /// the event signs in or out, deploys, or changes what they look at, or where they look at the moment or at other
-    /// places; and what a query selects is looked at only where the event writes at, above or below the listener's
-    /// path, and changes something there. The arena is for what one event needs: it is reset before anything is placed
-    /// in it, once no refusal is left but those of the rules, of room and of memory; closing and unlistening leave it
-    /// as it is.
+    /// grows with what is stored beside them. An action is judged as its write is, without a look at listeners, and run
+    /// as one that copies what it writes. Opening, closing, unlistening, taking actions back, leaving and the run of no
+    /// action cost a look-up among the sessions. An event that judges listeners again costs a look at the rules of each
+    /// that is live; these are evaluated only where the event signs in or out, deploys, or changes what they look at,
+    /// or where they look at the moment or at other places; and what a query selects is looked at only where the event
+    /// writes at, above or below the listener's path, and changes something there. The arena is for what one event
+    /// needs: it is reset before anything is placed in it, once no refusal is left but those of the rules, of room and
+    /// of memory; closing, unlistening, taking actions back, leaving and the run of no action leave it as it is.
     #[tactic(auto, unfolding(rtdb_model::specs::Step::Step))]
     pub fn judge<'r, 'a: 'r>(
         &'r self,
@@ -86,7 +87,14 @@ impl Core {
         ensures refused { IfErr result (λ refusal. Step self.now now session event.now (Reply.Refused (refusal_of refusal)) self.now) }
     {
         let found = self.machine.judge(arena, now, session, event)?;
-        let plan = Plan::of(&self.machine, now, session, event, found.decisions);
+        let plan = Plan::of(
+            &self.machine,
+            now,
+            session,
+            event,
+            found.decisions,
+            found.run,
+        );
         Ok(Granted {
             reply: found.reply,
             plan,
@@ -96,7 +104,8 @@ impl Core {
     /// Does an event by the plan that [`Core::judge`] made for it in this state: the two are the step of the event.
     /// Where it wants memory, nothing has changed, and that is the refusal. A write costs one step for each key of each
     /// location, log w of w children each; where a child is new or goes, those behind it are moved, 16 bytes each; a
-    /// deployment what the rules that were in force take to be dropped. All others cost no more than what was decided.
+    /// deployment what the rules that were in force take to be dropped; taking actions back a look at each write of the
+    /// session's actions, which are 16 at most. All others cost no more than what was decided.
     pub fn commit(&mut self, plan: Plan<'_>, event: Event) -> Result<(), NoMemory>
         requires state { plan.before ≡ self.old }
         requires event { plan.event ≡ event }
@@ -104,7 +113,9 @@ impl Core {
         ensures refused { OnErr result (Step self.old plan.entry.moment plan.entry.session event (Reply.Refused Refusal.NoMemory) self.new) }
         ensures unchanged { OnErr result (self.new ≡ self.old) }
     {
-        self.machine.commit(plan.session(), event, plan.decisions())
+        let session = plan.session();
+        let (decisions, run) = plan.into_parts();
+        self.machine.commit(session, event, &decisions, run)
     }
 
     /// Answers one event of a session at a moment: [`Event::fill`], [`Core::judge`] and [`Core::commit`], one after the
@@ -188,7 +199,7 @@ fn owned<'a>(alloc: Global, granted: Granted<'_, 'a>) -> Result<(Reply, Plan<'a>
     ensures later { OnErr result (is_copied (reply_of granted.entry.reply) ≡ true) }
 {
     let Granted { reply, plan } = granted;
-    let reply = reply.copy(alloc)?;
+    let reply = reply.into_owned(alloc)?;
     Ok((reply, plan))
 }
 

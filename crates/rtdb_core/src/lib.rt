@@ -6,6 +6,7 @@
 //! is them in one call.
 #![tactic(auto)]
 
+mod action;
 mod children;
 mod database;
 mod fates;
@@ -25,7 +26,7 @@ mod trees;
 pub use database::{Core, TooLarge};
 pub use plan::{Granted, Plan};
 pub use rtdb_model::{
-    BorrowedName, BorrowedNames, BorrowedRefusal, BorrowedReply, Event, MAX_LOCATIONS, MAX_MOMENT,
-    MAX_SESSIONS, Named, NamedRules, News, Notice, Refusal, Removal, Reply, Sight, Tiding, Tidings,
-    What, Why, Writes, the_limits,
+    BorrowedName, BorrowedNames, BorrowedRan, BorrowedRefusal, BorrowedReply, Event, MAX_ACTIONS,
+    MAX_LOCATIONS, MAX_MOMENT, MAX_SESSIONS, Named, NamedRules, News, Notice, Ran, Refusal,
+    Removal, Reply, Sight, Tiding, Tidings, What, Why, Writes, the_limits,
 };

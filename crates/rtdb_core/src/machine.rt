@@ -1,5 +1,5 @@
 //! The state machine: an event is judged, and what is granted is done.
-ghost use Rattle.std.specs.Prelude.{◌≡◌, true, ◌↔◌, map, ◌≤◌, ◌<◌, ◌^◌, ◌∷◌, ◌++◌, [], length, Some, None, Option, false, not, IsErr, IfOk, IfErr, IfSome, OnOk, OnErr, is_some, option_map};
+ghost use Rattle.std.specs.Prelude.{◌≡◌, ◌||◌, drop, true, ◌↔◌, map, ◌≤◌, ◌<◌, ◌^◌, ◌∷◌, ◌++◌, [], length, Some, None, Option, false, not, IsErr, IfOk, IfErr, IfSome, OnOk, OnErr, is_some, option_map};
 ghost use Rattle.std.specs.FinMap as map_of;
 ghost use Rattle.tree_model.specs.Tree.{non_null, count};
 ghost use Rattle.tree_model.specs.Put.{written, overlaps};
@@ -14,17 +14,18 @@ ghost use Rattle.judge.specs.Tests.{write_verdict};
 ghost use Rattle.judge.specs.Question.{scene_of};
 ghost use Rattle.evaluator.specs.Identity.{Identity};
 ghost use Rattle.listeners.specs.Table.{has_id, without_id, taken};
-ghost use Rattle.rtdb_model.specs.State.{opening, is_open, identity_of, listeners_of, is_admin, scene_for};
+ghost use Rattle.rtdb_model.specs.State.{State, opening, session_in, is_open, is_leaving, identity_of, listeners_of, actions_of, is_admin, scene_for};
 ghost use Rattle.rtdb_model.specs.Rejudged.{selected_at};
 ghost use Rattle.rtdb_model.specs.Borrowed.{refusal_of};
-ghost use Rattle.rtdb_model.specs.Step.{outcome, opened, closed, opens, closes, with_session, signs, gets, sets, updates, listens, unlistens, polls, ticks, deploys, tree_with, listening, news_of, deployed, written_to, denial, or_full, takes_no_memory, Step};
+ghost use Rattle.rtdb_model.specs.Step.{outcome, opened, closed, opens, closes, with_session, signs, gets, sets, updates, listens, unlistens, polls, ticks, deploys, keeps_one, keeps_update, runs, tree_with, listening, news_of, deployed, written_to, with_action, with_actions, without_actions, departing, writes_of, denial, takes_no_memory, Step};
 ghost use Rattle.rtdb_model.specs.declared.borrowed.BorrowedRefusal.TheVariants as refusals;
 ghost use Rattle.rtdb_model.specs.declared.reply.Refusal.TheVariants.{ReadDenied};
-ghost use Rattle.rtdb_core.specs.Working.Fates.{sparse, settled, fate_of, fates_of, all_sessions, with_settled, with_tree, with_rules, read_refusal_for, write_refusal_for};
+ghost use Rattle.rtdb_core.specs.Working.Fates.{sparse, settled, fate_of, fates_of, all_sessions, with_settled, with_tree, with_rules, read_refusal_for, verdict_for, write_refusal_for};
 ghost use Rattle.rtdb_core.specs.Working.Heard.{AreHeard, AllHeardIn, AllHeard};
 ghost use Rattle.rtdb_core.specs.Working.Passages.{IsPassage, tree_before, tree_after, who_of};
-ghost use Rattle.rtdb_core.specs.Working.Plans.{committed, MayBeDone, CanBeMade, Comes, Refuses, IsFound, IsGranted, AreGranted, IsRefused};
+ghost use Rattle.rtdb_core.specs.Working.Plans.{barred, quiet, committed, MayBeDone, MayBeMade, MayBeKept, CanBeMade, Comes, Refuses, IsBarred, IsFound, IsGranted, AreGranted, AreGrantedNow, IsRefused, IsRunSo};
 
+use crate::action::Action;
 use crate::database::TooLarge;
 use crate::fates::{Decision, Decisions, Docket};
 use crate::passage::{Passage, shared};
@@ -127,19 +128,26 @@ impl Machine {
             Event::Poll => self.judge_poll(arena, now, session),
             Event::Tick => self.judge_tick(arena, now),
             Event::Deploy(rules) => self.judge_deploy(arena, now, session, rules),
+            Event::OnSet(write) => self.judge_keep(arena, now, session, write),
+            Event::OnRemove(removal) => self.judge_keep(arena, now, session, removal.write()),
+            Event::OnUpdate(writes) => self.judge_keep_update(arena, now, session, writes),
+            Event::OnCancel(_path) => self.judge_quiet(arena, session),
+            Event::Leave => self.judge_quiet(arena, session),
+            Event::RunNext => self.judge_run(arena, now, session),
         }
     }
 
-    /// Does an event of a session that may be done, by what was decided of listeners. Only a session that opens, a
-    /// write and a listen take memory.
+    /// Does an event of a session that may be done, by what was decided of listeners, and where an action is run with its
+    /// writes. Only a session that opens, a write, a listen and what is kept for later take memory.
     pub(crate) fn commit(
         &mut self,
         session: u64,
         event: Event,
         decisions: &[Decision],
+        run: Option<Box<Writes>>,
     ) -> Result<(), NoMemory>
-        requires { MayBeDone self.old session event }
-        ensures done { OnOk result (self.new ≡ committed self.old session event decisions.now) }
+        requires { MayBeDone self.old session event run }
+        ensures done { OnOk result (self.new ≡ committed self.old session event decisions.now run) }
         ensures unchanged { OnErr result (self.new ≡ self.old) }
         ensures later { OnErr result (takes_no_memory self.old session event ≡ false) }
     {
@@ -157,6 +165,12 @@ impl Machine {
             Event::Poll => self.hand_out(session, decisions),
             Event::Tick => self.settle_all(decisions),
             Event::Deploy(rules) => self.put_rules(rules, decisions),
+            Event::OnSet(write) => return self.keep_write(session, write),
+            Event::OnRemove(removal) => return self.keep_write(session, removal.into_write()),
+            Event::OnUpdate(writes) => return self.keep(session, Action::of(writes)),
+            Event::OnCancel(path) => self.cancel(session, &path),
+            Event::Leave => self.leave(session),
+            Event::RunNext => return self.run_first(session, decisions, run),
         }
         Ok(())
     }
@@ -207,6 +221,7 @@ impl Machine {
         ensures open { is_some result ≡ is_open self.now session }
         ensures identity { IfSome result (λ one. one.now.identity ≡ identity_of self.now session) }
         ensures listeners { IfSome result (λ one. one.now.listeners ≡ listeners_of self.now session) }
+        ensures one { IfSome result (λ one. one.now ≡ session_in self.now session) }
     {
         self.sessions.get(&session)
     }
@@ -216,12 +231,29 @@ impl Machine {
         ensures open { OnOk result (is_open self.now session ≡ true) }
         ensures identity { IfOk result (λ one. one.now.identity ≡ identity_of self.now session) }
         ensures listeners { IfOk result (λ one. one.now.listeners ≡ listeners_of self.now session) }
+        ensures one { IfOk result (λ one. one.now ≡ session_in self.now session) }
         ensures refused { IfErr result (λ refusal. (refusal ≡ refusals.Other Refusal.NoSession) × (is_open self.now session ≡ false)) }
     {
         match self.open_session(session) {
             Some(open) => Ok(open),
             None => Err(BorrowedRefusal::Other(Refusal::NoSession)),
         }
+    }
+
+    // The session of this number, or a refusal where it is not open or is leaving.
+    fn demand_present<'r>(&'r self, session: u64) -> Result<&'r Session, BorrowedRefusal<'r>>
+        ensures open { OnOk result (is_open self.now session ≡ true) }
+        ensures stays { OnOk result (is_leaving self.now session ≡ false) }
+        ensures identity { IfOk result (λ one. one.now.identity ≡ identity_of self.now session) }
+        ensures listeners { IfOk result (λ one. one.now.listeners ≡ listeners_of self.now session) }
+        ensures actions { IfOk result (λ one. one.now.actions ≡ actions_of self.now session) }
+        ensures refused { IfErr result (λ refusal. IsBarred self.now session (refusal_of refusal)) }
+    {
+        let open = self.demand_open(session)?;
+        if open.is_leaving() {
+            return Err(BorrowedRefusal::Other(Refusal::Leaving));
+        }
+        Ok(open)
     }
 
     // ---- what each event comes to
@@ -252,8 +284,9 @@ impl Machine {
         ensures found { IfOk result (λ found. Comes (closes self.now session) found (closed self.now session)) }
         ensures refused { IfErr result (λ refusal. Refuses self.now (closes self.now session) true (refusal_of refusal)) }
     {
-        self.demand_open(session)?;
-        Ok(Found::done(arena))
+        let open = self.demand_open(session)?;
+        let dropped = open.actions().len();
+        Ok(Found::replied(arena, BorrowedReply::Closed(dropped)))
     }
 
     fn judge_sign<'r, 'a: 'r>(
@@ -264,10 +297,10 @@ impl Machine {
         who: Option<&'r Identity>,
     ) -> Result<Found<'r, 'a>, BorrowedRefusal<'r>>
         requires { now ≤ MAX_MOMENT }
-        ensures found { IfOk result (λ found. Comes (signs self.now now session (who_of who.entry)) found (with_session self.now session (who_of who.entry) (settled 0 found.decisions.made.items (listeners_of self.now session))) × (is_open self.now session ≡ true)) }
-        ensures refused { IfErr result (λ refusal. Refuses self.now (signs self.now now session (who_of who.entry)) (not (is_open self.now session)) (refusal_of refusal)) }
+        ensures found { IfOk result (λ found. Comes (barred self.now session (signs self.now now session (who_of who.entry))) found (with_session self.now session (who_of who.entry) (settled 0 found.decisions.made.items (listeners_of self.now session))) × (is_open self.now session ≡ true)) }
+        ensures refused { IfErr result (λ refusal. Refuses self.now (barred self.now session (signs self.now now session (who_of who.entry))) (is_leaving self.now session || not (is_open self.now session)) (refusal_of refusal)) }
     {
-        let open = self.demand_open(session)?;
+        let open = self.demand_present(session)?;
         reset(arena)?;
         let decisions = self.decide_own(arena, now, open, who, false)?;
         Ok(Found::decided(decisions))
@@ -282,10 +315,10 @@ impl Machine {
         query: Option<&'r Query>,
     ) -> Result<Found<'r, 'a>, BorrowedRefusal<'r>>
         requires { now ≤ MAX_MOMENT }
-        ensures found { IfOk result (λ found. Comes (gets self.now now session path.now (option_map (λ query. query.now) query.entry)) found self.now) }
-        ensures refused { IfErr result (λ refusal. Refuses self.now (gets self.now now session path.now (option_map (λ query. query.now) query.entry)) (not (is_open self.now session)) (refusal_of refusal)) }
+        ensures found { IfOk result (λ found. Comes (barred self.now session (gets self.now now session path.now (option_map (λ query. query.now) query.entry))) found self.now) }
+        ensures refused { IfErr result (λ refusal. Refuses self.now (barred self.now session (gets self.now now session path.now (option_map (λ query. query.now) query.entry))) (is_leaving self.now session || not (is_open self.now session)) (refusal_of refusal)) }
     {
-        let open = self.demand_open(session)?;
+        let open = self.demand_present(session)?;
         self.judge_read(arena, now, open.identity(), path, query)
     }
 
@@ -299,10 +332,10 @@ impl Machine {
         requires moment { now ≤ MAX_MOMENT }
         requires heard { AllHeard self.now }
         requires fixed { IsFixed (written write.now) }
-        ensures found { IfOk result (λ found. Comes (sets self.now now session write.now) found (with_settled (with_tree self.now 0 (write.now ∷ [])) found.decisions.made.items) × CanBeMade self.now session (write.now ∷ [])) }
-        ensures refused { IfErr result (λ refusal. Refuses self.now (sets self.now now session write.now) (not (is_open self.now session)) (refusal_of refusal)) }
+        ensures found { IfOk result (λ found. Comes (barred self.now session (sets self.now now session write.now)) found (with_settled (with_tree self.now 0 (write.now ∷ [])) found.decisions.made.items) × CanBeMade self.now session (write.now ∷ []) × (takes_no_memory self.now session (Event.Set write.now) ≡ false)) }
+        ensures refused { IfErr result (λ refusal. Refuses self.now (barred self.now session (sets self.now now session write.now)) (is_leaving self.now session || not (is_open self.now session)) (refusal_of refusal)) }
     {
-        let open = self.demand_open(session)?;
+        let open = self.demand_present(session)?;
         self.judge_writes(arena, now, open.identity(), slice::from_ref(write))
     }
 
@@ -316,10 +349,10 @@ impl Machine {
         requires moment { now ≤ MAX_MOMENT }
         requires heard { AllHeard self.now }
         requires fixed { AreFixed writes.now }
-        ensures found { IfOk result (λ found. Comes (updates self.now now session writes.now) found (with_settled (with_tree self.now 0 writes.now) found.decisions.made.items) × CanBeMade self.now session writes.now × (takes_no_memory self.now session (Event.Update writes.now) ≡ false)) }
-        ensures refused { IfErr result (λ refusal. Refuses self.now (updates self.now now session writes.now) (takes_no_memory self.now session (Event.Update writes.now)) (refusal_of refusal)) }
+        ensures found { IfOk result (λ found. Comes (barred self.now session (updates self.now now session writes.now)) found (with_settled (with_tree self.now 0 writes.now) found.decisions.made.items) × CanBeMade self.now session writes.now × (takes_no_memory self.now session (Event.Update writes.now) ≡ false)) }
+        ensures refused { IfErr result (λ refusal. Refuses self.now (barred self.now session (updates self.now now session writes.now)) (takes_no_memory self.now session (Event.Update writes.now)) (refusal_of refusal)) }
     {
-        let open = self.demand_open(session)?;
+        let open = self.demand_present(session)?;
         self.rules();
         let writes = writes.in_order();
         if writes.is_empty() {
@@ -341,10 +374,10 @@ impl Machine {
         query: Option<&'r Query>,
     ) -> Result<Found<'r, 'a>, BorrowedRefusal<'r>>
         requires { now ≤ MAX_MOMENT }
-        ensures found { IfOk result (λ found. Comes (listens self.now now session id.now path.now (option_map (λ query. query.now) query.entry)) found (listening self.now session id.now path.now (option_map (λ query. query.now) query.entry)) × (is_open self.now session ≡ true) × (takes_no_memory self.now session (Event.Listen id.now path.now (option_map (λ query. query.now) query.entry)) ≡ false)) }
-        ensures refused { IfErr result (λ refusal. Refuses self.now (listens self.now now session id.now path.now (option_map (λ query. query.now) query.entry)) (takes_no_memory self.now session (Event.Listen id.now path.now (option_map (λ query. query.now) query.entry))) (refusal_of refusal)) }
+        ensures found { IfOk result (λ found. Comes (barred self.now session (listens self.now now session id.now path.now (option_map (λ query. query.now) query.entry))) found (listening self.now session id.now path.now (option_map (λ query. query.now) query.entry)) × (is_open self.now session ≡ true) × (takes_no_memory self.now session (Event.Listen id.now path.now (option_map (λ query. query.now) query.entry)) ≡ false)) }
+        ensures refused { IfErr result (λ refusal. Refuses self.now (barred self.now session (listens self.now now session id.now path.now (option_map (λ query. query.now) query.entry))) (takes_no_memory self.now session (Event.Listen id.now path.now (option_map (λ query. query.now) query.entry))) (refusal_of refusal)) }
     {
-        let open = self.demand_open(session)?;
+        let open = self.demand_present(session)?;
         if let Some(refusal) = listen_refusal(open, id) {
             return Err(BorrowedRefusal::Other(refusal));
         }
@@ -357,10 +390,10 @@ impl Machine {
         session: u64,
         id: &'r ListenerId,
     ) -> Result<Found<'r, 'a>, BorrowedRefusal<'r>>
-        ensures found { IfOk result (λ found. Comes (unlistens self.now session id.now) found (with_session self.now session (identity_of self.now session) (without_id id.now (listeners_of self.now session))) × (is_open self.now session ≡ true)) }
-        ensures refused { IfErr result (λ refusal. Refuses self.now (unlistens self.now session id.now) true (refusal_of refusal)) }
+        ensures found { IfOk result (λ found. Comes (barred self.now session (unlistens self.now session id.now)) found (with_session self.now session (identity_of self.now session) (without_id id.now (listeners_of self.now session))) × (is_open self.now session ≡ true)) }
+        ensures refused { IfErr result (λ refusal. Refuses self.now (barred self.now session (unlistens self.now session id.now)) (is_leaving self.now session || true) (refusal_of refusal)) }
     {
-        let open = self.demand_open(session)?;
+        let open = self.demand_present(session)?;
         if !open.listeners().has(id) {
             return Err(BorrowedRefusal::Other(Refusal::NoListener));
         }
@@ -375,10 +408,10 @@ impl Machine {
     ) -> Result<Found<'r, 'a>, BorrowedRefusal<'r>>
         requires moment { now ≤ MAX_MOMENT }
         requires heard { AllHeard self.now }
-        ensures found { IfOk result (λ found. Comes (polls self.now now session) found (with_session self.now session (identity_of self.now session) (taken (settled 0 found.decisions.made.items (listeners_of self.now session)))) × (is_open self.now session ≡ true)) }
-        ensures refused { IfErr result (λ refusal. Refuses self.now (polls self.now now session) (not (is_open self.now session)) (refusal_of refusal)) }
+        ensures found { IfOk result (λ found. Comes (barred self.now session (polls self.now now session)) found (with_session self.now session (identity_of self.now session) (taken (settled 0 found.decisions.made.items (listeners_of self.now session)))) × (is_open self.now session ≡ true)) }
+        ensures refused { IfErr result (λ refusal. Refuses self.now (barred self.now session (polls self.now now session)) (is_leaving self.now session || not (is_open self.now session)) (refusal_of refusal)) }
     {
-        let open = self.demand_open(session)?;
+        let open = self.demand_present(session)?;
         reset(arena)?;
         let arena: &'a Bump = arena;
         let decisions = self.decide_own(arena, now, open, open.identity(), true)?;
@@ -386,6 +419,7 @@ impl Machine {
         Ok(Found {
             reply: BorrowedReply::News(tidings),
             decisions,
+            run: None,
         })
     }
 
@@ -412,16 +446,94 @@ impl Machine {
         rules: &'r Rules,
     ) -> Result<Found<'r, 'a>, BorrowedRefusal<'r>>
         requires { now ≤ MAX_MOMENT }
-        ensures found { IfOk result (λ found. Comes (deploys self.now now session rules.now) found (with_settled (with_rules self.now rules.now) found.decisions.made.items)) }
-        ensures refused { IfErr result (λ refusal. Refuses self.now (deploys self.now now session rules.now) (takes_no_memory self.now session (Event.Deploy rules.now)) (refusal_of refusal)) }
+        ensures found { IfOk result (λ found. Comes (barred self.now session (deploys self.now now session rules.now)) found (with_settled (with_rules self.now rules.now) found.decisions.made.items)) }
+        ensures refused { IfErr result (λ refusal. Refuses self.now (barred self.now session (deploys self.now now session rules.now)) (takes_no_memory self.now session (Event.Deploy rules.now)) (refusal_of refusal)) }
     {
-        let open = self.demand_open(session)?;
+        let open = self.demand_present(session)?;
         if !open.is_admin() {
             return Err(BorrowedRefusal::Other(Refusal::NotAdmin));
         }
         reset(arena)?;
         let decisions = self.decide_by(arena, rules, now, false)?;
         Ok(Found::decided(decisions))
+    }
+
+    fn judge_keep<'r, 'a: 'r>(
+        &'r self,
+        arena: &'a mut Bump,
+        now: u64,
+        session: u64,
+        write: &'r Write,
+    ) -> Result<Found<'r, 'a>, BorrowedRefusal<'r>>
+        requires { now ≤ MAX_MOMENT }
+        ensures found { IfOk result (λ found. Comes (barred self.now session (keeps_one self.now now session write.now)) found (with_action self.now session (write.now ∷ [])) × (is_open self.now session ≡ true) × (takes_no_memory self.now session (Event.OnSet write.now) ≡ false)) }
+        ensures refused { IfErr result (λ refusal. Refuses self.now (barred self.now session (keeps_one self.now now session write.now)) (takes_no_memory self.now session (Event.OnSet write.now)) (refusal_of refusal)) }
+    {
+        let open = self.demand_present(session)?;
+        if open.is_full() {
+            return Err(BorrowedRefusal::Other(Refusal::TooManyActions));
+        }
+        self.judge_later(arena, now, open.identity(), slice::from_ref(write))
+    }
+
+    fn judge_keep_update<'r, 'a: 'r>(
+        &'r self,
+        arena: &'a mut Bump,
+        now: u64,
+        session: u64,
+        writes: &'r Writes,
+    ) -> Result<Found<'r, 'a>, BorrowedRefusal<'r>>
+        requires { now ≤ MAX_MOMENT }
+        ensures found { IfOk result (λ found. Comes (barred self.now session (keeps_update self.now now session writes.now)) found (with_action self.now session writes.now) × MayBeKept self.now session writes.now) }
+        ensures refused { IfErr result (λ refusal. Refuses self.now (barred self.now session (keeps_update self.now now session writes.now)) (takes_no_memory self.now session (Event.OnUpdate writes.now)) (refusal_of refusal)) }
+    {
+        let open = self.demand_present(session)?;
+        self.rules();
+        let writes = writes.in_order();
+        if writes.is_empty() {
+            return Err(BorrowedRefusal::Other(Refusal::EmptyUpdate));
+        }
+        if overlaps(writes) {
+            return Err(BorrowedRefusal::Other(Refusal::Overlap));
+        }
+        if open.is_full() {
+            return Err(BorrowedRefusal::Other(Refusal::TooManyActions));
+        }
+        self.judge_later(arena, now, open.identity(), writes)
+    }
+
+    // What no rule is asked about can be done by a session that is open and not leaving.
+    fn judge_quiet<'r, 'a: 'r>(
+        &'r self,
+        arena: &'a mut Bump,
+        session: u64,
+    ) -> Result<Found<'r, 'a>, BorrowedRefusal<'r>>
+        ensures found { IfOk result (λ found. ((after : State) → Comes (barred self.now session (quiet self.now session after)) found after) × (is_open self.now session ≡ true)) }
+        ensures refused { IfErr result (λ refusal. IsBarred self.now session (refusal_of refusal)) }
+    {
+        self.demand_present(session)?;
+        Ok(Found::done(arena))
+    }
+
+    fn judge_run<'r, 'a: 'r>(
+        &'r self,
+        arena: &'a mut Bump,
+        now: u64,
+        session: u64,
+    ) -> Result<Found<'r, 'a>, BorrowedRefusal<'r>>
+        requires moment { now ≤ MAX_MOMENT }
+        requires heard { AllHeard self.now }
+        ensures found { IfOk result (λ found. Comes (runs self.now now session) found (committed self.now session Event.RunNext found.decisions.made.items found.run) × MayBeDone self.now session Event.RunNext found.run) }
+        ensures refused { IfErr result (λ refusal. Refuses self.now (runs self.now now session) (takes_no_memory self.now session Event.RunNext) (refusal_of refusal)) }
+    {
+        let open = self.demand_open(session)?;
+        if !open.is_leaving() {
+            return Err(BorrowedRefusal::Other(Refusal::NotLeaving));
+        }
+        match open.actions().first() {
+            Some(action) => Ok(self.judge_action(arena, now, open.identity(), action)?),
+            None => Ok(Found::empty(arena)),
+        }
     }
 
     // ---- reads and writes, judged
@@ -445,10 +557,7 @@ impl Machine {
             return Err(BorrowedRefusal::ReadDenied(names));
         }
         let found = view_in(arena, self.tree.as_ref(), path.keys(), query)?;
-        Ok(Found {
-            reply: BorrowedReply::Value(found),
-            decisions: Decisions::new(arena),
-        })
+        Ok(Found::replied(arena, BorrowedReply::Value(found)))
     }
 
     // What writes come to that don't overlap, for whoever is signed in.
@@ -477,7 +586,59 @@ impl Machine {
         Ok(Found::decided(decisions))
     }
 
-    // Why writes that propose this tree are refused, if they are.
+    // What writes come to that don't overlap and are made later, for whoever is signed in: whether the tree has room is
+    // seen then.
+    fn judge_later<'r, 'a: 'r>(
+        &'r self,
+        arena: &'a mut Bump,
+        now: u64,
+        who: Option<&'r Identity>,
+        writes: &'r [Write],
+    ) -> Result<Found<'r, 'a>, BorrowedRefusal<'r>>
+        requires moment { now ≤ MAX_MOMENT }
+        requires apart { overlaps writes.now ≡ false }
+        ensures granted { IfOk result (AreGrantedNow self.now now (who_of who.entry) writes.now) }
+        ensures refused { IfErr result (IsRefused (denial (verdict_for self.now now (who_of who.entry) writes.now))) }
+    {
+        reset(arena)?;
+        let arena: &'a Bump = arena;
+        let lent: &'r Bump = arena;
+        let coming = overlay(lent, self.tree.as_ref(), writes, now)?;
+        if let Some(denial) = self.writes_denial(lent, now, who, writes, &coming)? {
+            return Err(denial);
+        }
+        Ok(Found::done(arena))
+    }
+
+    // What the run of an action comes to, for whoever is signed in. The tree and what becomes of listeners are those of a
+    // copy of its writes, with the moment filled in, so that the action is still there where memory is wanting.
+    fn judge_action<'r, 'a: 'r>(
+        &'r self,
+        arena: &'a mut Bump,
+        now: u64,
+        who: Option<&'r Identity>,
+        action: &'r Action,
+    ) -> Result<Found<'r, 'a>, NoMemory>
+        requires moment { now ≤ MAX_MOMENT }
+        requires heard { AllHeard self.now }
+        ensures { IfOk result (IsRunSo self.now now (who_of who.entry) (writes_of action.now)) }
+    {
+        reset(arena)?;
+        let arena: &'a Bump = arena;
+        let lent: &'r Bump = arena;
+        let writes = action.in_order();
+        let coming = overlay(lent, self.tree.as_ref(), writes, now)?;
+        if let Some(refusal) = self.write_refusal(lent, now, who, writes, &coming)? {
+            return Ok(Found::skipped(arena, Box::new(self.alloc, refusal)?));
+        }
+        let mut made = Writes::copied(self.alloc, writes)?;
+        made.fill(now);
+        let decisions = self.decide_proposed(arena, now, made.in_order(), coming)?;
+        let boxed = Box::new(self.alloc, made)?;
+        Ok(Found::applied(decisions, boxed))
+    }
+
+    // Why writes that propose this tree are refused, if they are: by the rules, else for want of room.
     fn write_refusal<'r>(
         &'r self,
         arena: &'r Bump,
@@ -491,14 +652,34 @@ impl Machine {
         requires proposes { tree_or_null coming.now ≡ tree_with self.now now writes.now }
         ensures { IfOk result (λ refusal. option_map refusal_of refusal ≡ write_refusal_for self.now now (who_of who.entry) writes.now) }
     {
+        match self.writes_denial(arena, now, who, writes, coming)? {
+            Some(denial) => Ok(Some(denial)),
+            None => Ok(other(full(count_in(coming)))),
+        }
+    }
+
+    // Why the rules deny writes that propose this tree, if they do.
+    fn writes_denial<'r>(
+        &'r self,
+        arena: &'r Bump,
+        now: u64,
+        who: Option<&'r Identity>,
+        writes: &'r [Write],
+        coming: &Option<View<'r>>,
+    ) -> Result<Option<BorrowedRefusal<'r>>, NoMemory>
+        requires moment { now ≤ MAX_MOMENT }
+        requires apart { overlaps writes.now ≡ false }
+        requires proposes { tree_or_null coming.now ≡ tree_with self.now now writes.now }
+        ensures { IfOk result (λ denied. option_map refusal_of denied ≡ denial (verdict_for self.now now (who_of who.entry) writes.now)) }
+    {
         match writes {
-            [write] => self.set_refusal(arena, now, who, write, coming),
-            _ => self.update_refusal(arena, now, who, writes, coming),
+            [write] => self.set_denial(arena, now, who, write, coming),
+            _ => self.update_denial(arena, now, who, writes, coming),
         }
     }
 
     // The same of one write, where a denial for write is borrowed.
-    fn set_refusal<'r>(
+    fn set_denial<'r>(
         &'r self,
         arena: &'r Bump,
         now: u64,
@@ -508,18 +689,18 @@ impl Machine {
     ) -> Result<Option<BorrowedRefusal<'r>>, NoMemory>
         requires moment { now ≤ MAX_MOMENT }
         requires proposes { tree_or_null coming.now ≡ tree_with self.now now (write.now ∷ []) }
-        ensures { IfOk result (λ refusal. option_map refusal_of refusal ≡ write_refusal_for self.now now (who_of who.entry) (write.now ∷ [])) }
+        ensures { IfOk result (λ denied. option_map refusal_of denied ≡ denial (verdict_for self.now now (who_of who.entry) (write.now ∷ []))) }
     {
         self.rules();
         let scene = arena.try_alloc(self.scene(now, who))?;
         if let Some(names) = write_denial(arena, scene, coming, write)? {
             return Ok(Some(BorrowedRefusal::WriteDenied(write.at(), names)));
         }
-        Ok(other(self.granted_refusal(arena, scene, coming, write)?))
+        Ok(other(self.granted_denial(arena, scene, coming, write)?))
     }
 
     // The same of several writes.
-    fn update_refusal<'r>(
+    fn update_denial<'r>(
         &'r self,
         arena: &'r Bump,
         now: u64,
@@ -529,16 +710,12 @@ impl Machine {
     ) -> Result<Option<BorrowedRefusal<'r>>, NoMemory>
         requires moment { now ≤ MAX_MOMENT }
         requires proposes { tree_or_null coming.now ≡ tree_with self.now now writes.now }
-        ensures { IfOk result (λ refusal. option_map refusal_of refusal ≡ write_refusal_for self.now now (who_of who.entry) writes.now) }
+        ensures { IfOk result (λ denied. option_map refusal_of denied ≡ denial (verdict_for self.now now (who_of who.entry) writes.now)) }
     {
         self.rules();
-        let count = count_in(coming);
         let scene = arena.try_alloc(self.scene(now, who))?;
         let verdict = judge_write(self.alloc, arena, scene, shared(coming), writes)?;
-        match denial(verdict) {
-            Some(denial) => Ok(other(Some(denial))),
-            None => Ok(other(full(count))),
-        }
+        Ok(other(denial(verdict)))
     }
 
     // Why a read is denied for whoever is signed in, if it is.
@@ -558,8 +735,8 @@ impl Machine {
         read_denial(arena, scene, path, asked)
     }
 
-    // Why a write is refused that is not denied for write, if it is.
-    fn granted_refusal<'x>(
+    // Why the rules deny a write that is granted for write, if they do.
+    fn granted_denial<'x>(
         &self,
         arena: &'x Bump,
         scene: &'x Scene<'x>,
@@ -568,14 +745,10 @@ impl Machine {
     ) -> Result<Option<Refusal>, NoMemory>
         requires one { HasOneCapture (scene_of scene.now).book }
         requires granted { MayWriteAll (scene_of scene.now) (tree_or_null coming.now) (location write.now ∷ []) }
-        ensures { IfOk result (λ refusal. refusal ≡ or_full (denial (write_verdict (scene_of scene.now) (tree_or_null coming.now) (location write.now ∷ []))) (tree_or_null coming.now)) }
+        ensures { IfOk result (λ denied. denied ≡ denial (write_verdict (scene_of scene.now) (tree_or_null coming.now) (location write.now ∷ []))) }
     {
-        let locations = count_in(coming);
         let verdict = judge_granted(self.alloc, arena, scene, coming, write)?;
-        match denial(verdict) {
-            Some(denial) => Ok(Some(denial)),
-            None => Ok(full(locations)),
-        }
+        Ok(denial(verdict))
     }
 
     // What the rules and the trees are judged by, for whoever is signed in.
@@ -797,6 +970,98 @@ impl Machine {
         self.put_all(writes.into_vec())?;
         self.settle_all(decisions);
         Ok(())
+    }
+
+    // Keeps one write for when an open session goes.
+    fn keep_write(&mut self, session: u64, write: Write) -> Result<(), NoMemory>
+        requires { is_open self.old session ≡ true }
+        ensures ok { OnOk result (self.new ≡ with_action self.old session (write ∷ [])) }
+        ensures err { OnErr result (self.new ≡ self.old) }
+    {
+        let action = Action::of_write(self.alloc, write)?;
+        self.keep(session, action)
+    }
+
+    // Keeps an action more for when an open session goes.
+    fn keep(&mut self, session: u64, action: Action) -> Result<(), NoMemory>
+        requires { is_open self.old session ≡ true }
+        ensures ok { OnOk result (self.new ≡ with_actions self.old session (actions_of self.old session ++ action ∷ [])) }
+        ensures err { OnErr result (self.new ≡ self.old) }
+    {
+        let Some(open) = self.sessions.get_mut(&session) else {
+            unreachable!()
+        };
+        open.keep(action)
+    }
+
+    // Takes back what an open session keeps at this path and below it alone.
+    fn cancel(&mut self, session: u64, path: &Path)
+        requires { is_open self.old session ≡ true }
+        ensures { self.new ≡ without_actions self.old session path.now }
+    {
+        let Some(open) = self.sessions.get_mut(&session) else {
+            unreachable!()
+        };
+        open.cancel_below(path);
+    }
+
+    // Lets an open session leave.
+    fn leave(&mut self, session: u64)
+        requires { is_open self.old session ≡ true }
+        ensures { self.new ≡ departing self.old session }
+    {
+        let Some(open) = self.sessions.get_mut(&session) else {
+            unreachable!()
+        };
+        open.leave();
+    }
+
+    // Makes what the first action of an open session writes, if that was granted, and drops it.
+    fn run_first(
+        &mut self,
+        session: u64,
+        decisions: &[Decision],
+        run: Option<Box<Writes>>,
+    ) -> Result<(), NoMemory>
+        requires open { is_open self.old session ≡ true }
+        requires may { MayBeMade self.old session run }
+        ensures ok { OnOk result (self.new ≡ committed self.old session Event.RunNext decisions.now run) }
+        ensures err { OnErr result (self.new ≡ self.old) }
+    {
+        match run {
+            Some(writes) => self.run_made(session, Box::into_inner(writes), decisions),
+            None => {
+                self.drop_first(session);
+                Ok(())
+            }
+        }
+    }
+
+    // Makes these writes, which the first action of an open session is, and drops it.
+    fn run_made(
+        &mut self,
+        session: u64,
+        writes: Writes,
+        decisions: &[Decision],
+    ) -> Result<(), NoMemory>
+        requires { CanBeMade self.old session writes }
+        ensures ok { OnOk result (self.new ≡ with_actions (with_settled (with_tree self.old 0 writes) decisions.now) session (drop 1 (actions_of self.old session))) }
+        ensures err { OnErr result (self.new ≡ self.old) }
+    {
+        self.make_update(writes, decisions)?;
+        self.drop_first(session);
+        Ok(())
+    }
+
+    // Drops the first action of an open session, if it has one.
+    fn drop_first(&mut self, session: u64)
+        requires { is_open self.old session ≡ true }
+        ensures { self.new ≡ with_actions self.old session (drop 1 (actions_of self.old session)) }
+    {
+        let Some(open) = self.sessions.get_mut(&session) else {
+            unreachable!()
+        };
+        open.drop_first();
     }
 
     // Makes a write in the tree.

@@ -1,23 +1,30 @@
 //! A session: one of those who use the database.
-ghost use Rattle.std.specs.Prelude.{◌≡◌, ◌++◌, ◌∷◌, [], Option, option_map, OnOk, OnErr};
+ghost use Rattle.std.specs.Prelude.{◌≡◌, ◌++◌, ◌∷◌, [], true, not, length, nat_le, drop, filter, Option, option_map, OnOk, OnErr};
 ghost use Rattle.evaluator.specs.Identity.{Identity};
 ghost use Rattle.listeners.specs.Table.{begun, has_id, without_id, taken};
+ghost use Rattle.rtdb_model.specs.declared.limits.TheConstants.{MAX_ACTIONS};
 ghost use Rattle.rtdb_model.specs.State.{fresh, is_admin};
+ghost use Rattle.rtdb_model.specs.Step.{is_below};
 ghost use Rattle.rtdb_core.specs.Working.Fates.{settled, left_of, with_listeners};
 
+use crate::action::Action;
 use crate::fates::{Docket, settle};
 use evaluator::Identity;
 use json_tree::NoMemory;
 use listeners::{ListenerId, Query, Table};
 use path_capture::Path;
+use rtdb_model::MAX_ACTIONS;
 use std::alloc::Global;
 use std::marker::Model;
 
-/// A session that is open: who is signed in on it, if anybody is, and what it listens to.
+/// A session that is open: who is signed in on it, if anybody is, what it listens to, what is written when it goes, and
+/// whether it is leaving.
 #[derive(Debug, Drop)]
 pub(crate) struct Session {
     identity: Option<Identity>,
     listeners: Table,
+    actions: Vec<Action>,
+    is_leaving: bool,
 }
 
 impl Model for Session {
@@ -27,17 +34,19 @@ impl Model for Session {
 
     ghost coded = { session_code };
 
-    ghost view = { λ session. record { identity = session.identity; listeners = session.listeners } };
+    ghost view = { λ session. record { identity = session.identity; listeners = session.listeners; actions = session.actions.items; leaving = session.is_leaving } };
 }
 
 impl Session {
-    /// A session on which nobody is signed in, and which listens to nothing. It takes no memory.
+    /// A session on which nobody is signed in, which listens to nothing, and which has no actions. It takes no memory.
     pub(crate) fn new(alloc: Global) -> Session
         ensures { result ≡ fresh }
     {
         Session {
             identity: None,
             listeners: Table::new(alloc),
+            actions: Vec::new(alloc),
+            is_leaving: false,
         }
     }
 
@@ -60,7 +69,7 @@ impl Session {
 
     /// Signs in whoever this is, or signs out.
     pub(crate) fn sign(&mut self, who: Option<Identity>)
-        ensures { self.new ≡ record { identity = who; listeners = self.old.listeners } }
+        ensures { self.new ≡ record self.old { identity = who } }
     {
         self.identity = who;
     }
@@ -104,6 +113,59 @@ impl Session {
         ensures left { result.decisions.now ≡ (left_of docket.entry.place docket.entry.decisions.now self.old.listeners).1 }
     {
         settle(&mut self.listeners, docket)
+    }
+
+    /// What is written when it goes, in the order in which it was established.
+    pub(crate) fn actions(&self) -> &[Action]
+        ensures { result.now ≡ self.now.actions }
+    {
+        self.actions.as_slice()
+    }
+
+    /// Whether it has as many actions as it may.
+    pub(crate) fn is_full(&self) -> bool
+        ensures { result ≡ nat_le MAX_ACTIONS (length self.now.actions) }
+    {
+        self.actions.len() >= MAX_ACTIONS
+    }
+
+    /// Whether it is leaving.
+    pub(crate) fn is_leaving(&self) -> bool
+        ensures { result ≡ self.now.leaving }
+    {
+        self.is_leaving
+    }
+
+    /// Establishes one action more, or changes nothing. That takes memory.
+    pub(crate) fn keep(&mut self, action: Action) -> Result<(), NoMemory>
+        ensures ok { OnOk result (self.new ≡ record self.old { actions = self.old.actions ++ action ∷ [] }) }
+        ensures err { OnErr result (self.new ≡ self.old) }
+    {
+        self.actions.push(action)?;
+        Ok(())
+    }
+
+    /// Takes back the actions that write at this path and below it alone. It takes no memory.
+    pub(crate) fn cancel_below(&mut self, path: &Path)
+        ensures { self.new ≡ record self.old { actions = filter (λ action. not (is_below path.now action)) self.old.actions } }
+    {
+        self.actions.retain(|action| !action.is_below(path));
+    }
+
+    /// Lets it leave. It takes no memory.
+    pub(crate) fn leave(&mut self)
+        ensures { self.new ≡ record self.old { leaving = true } }
+    {
+        self.is_leaving = true;
+    }
+
+    /// Drops its first action, if it has one. It takes no memory.
+    pub(crate) fn drop_first(&mut self)
+        ensures { self.new ≡ record self.old { actions = drop 1 self.old.actions } }
+    {
+        if !self.actions.is_empty() {
+            drop(self.actions.remove(0));
+        }
     }
 
     /// The news of its listeners was told. It takes no memory.

@@ -13,7 +13,7 @@ use Rattle.tree_model.proofs.Orders.{bytes_eq-self}
 use Rattle.rules_reader.specs.Book.{Book}
 use Rattle.listeners.specs.Table.{Listener, unmarked, taken}
 use Rattle.rtdb_model.specs.declared.event.Event.{Event}
-use Rattle.rtdb_model.specs.declared.event.Event.TheVariants.{Open, Close, SignIn, SignOut, Get, Set, Remove, Update, Listen, Unlisten, Poll, Tick, Deploy}
+use Rattle.rtdb_model.specs.declared.event.Event.TheVariants.{Open, Close, SignIn, SignOut, Get, Set, Remove, Update, Listen, Unlisten, Poll, Tick, Deploy, OnSet, OnRemove, OnUpdate, OnCancel, Leave, RunNext}
 use Rattle.rtdb_model.specs.declared.news.Notice.{Notice}
 use Rattle.rtdb_model.specs.declared.reply.Reply.{Reply}
 use Rattle.rtdb_model.specs.News.{gone, selected_now}
@@ -147,6 +147,12 @@ not_anew n id t j = by_event (is_accepted t.reply) t.call.event j
     by_event true Poll h = refl
     by_event true Tick h = refl
     by_event true (Deploy rules) h = refl
+    by_event true (OnSet write) h = refl
+    by_event true (OnRemove path) h = refl
+    by_event true (OnUpdate writes) h = refl
+    by_event true (OnCancel path) h = refl
+    by_event true Leave h = refl
+    by_event true RunNext h = refl
 
 -- the one listener under its id
 found : (ls : List Listener) → All (λ l. length (with_id l.id ls) ≤ 1 → with_id l.id ls ≡ l ∷ []) ls

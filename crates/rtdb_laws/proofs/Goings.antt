@@ -15,22 +15,24 @@ use Rattle.rules_reader.specs.Book.{Book}
 use Rattle.listeners.specs.declared.limits.TheConstants.{MAX_LISTENERS}
 use Rattle.listeners.specs.Query.{Query}
 use Rattle.listeners.specs.Table.{Listener, begun, has_id, without_id, unmarked, taken}
-use Rattle.rtdb_model.specs.declared.limits.TheConstants.{MAX_SESSIONS}
+use Rattle.rtdb_model.specs.declared.limits.TheConstants.{MAX_SESSIONS, MAX_ACTIONS}
 use Rattle.rtdb_model.specs.declared.event.Event.{Event}
-use Rattle.rtdb_model.specs.declared.event.Event.TheVariants.{Open, Close, SignIn, SignOut, Get, Set, Remove, Update, Listen, Unlisten, Poll, Tick, Deploy}
+use Rattle.rtdb_model.specs.declared.event.Event.TheVariants.{Open, Close, SignIn, SignOut, Get, Set, Remove, Update, Listen, Unlisten, Poll, Tick, Deploy, OnSet, OnRemove, OnUpdate, OnCancel, Leave, RunNext}
 use Rattle.rtdb_model.specs.declared.news.Notice.{Notice}
 use Rattle.rtdb_model.specs.declared.reply.Refusal.{Refusal}
-use Rattle.rtdb_model.specs.declared.reply.Refusal.TheVariants.{SessionOpen, TooManySessions, NoSession, NotAdmin, EmptyUpdate, Overlap, DuplicateId, TooManyListeners, NoListener, NoMemory}
+use Rattle.rtdb_model.specs.declared.reply.Refusal.TheVariants.{SessionOpen, TooManySessions, NoSession, NotAdmin, EmptyUpdate, Overlap, DuplicateId, TooManyListeners, NoListener, Leaving, TooManyActions, NotLeaving, NoMemory}
 use Rattle.rtdb_model.specs.declared.reply.Reply.{Reply}
-use Rattle.rtdb_model.specs.declared.reply.Reply.TheVariants.{Done, Value, News, Refused}
+use Rattle.rtdb_model.specs.declared.reply.Reply.TheVariants.{Done, Value, News, Refused, Ran, Closed}
+use Rattle.rtdb_model.specs.declared.reply.Ran.TheVariants.{Empty, Applied, Skipped}
 use Rattle.rtdb_model.specs.News.{gone, selected_now}
-use Rattle.rtdb_model.specs.State.{State, is_open, identity_of, listeners_of, is_admin, scene_for}
+use Rattle.rtdb_model.specs.State.{Action, State, is_open, is_leaving, identity_of, listeners_of, actions_of, is_admin, scene_for}
 use Rattle.rtdb_model.specs.Rejudged.{hears, selected_at, moves, judged_again, all_rejudged}
-use Rattle.rtdb_model.specs.Step.{Outcome, refused, unless_refused, read_refusal, write_refusal, opens, closed, closes, with_session, own_again, signs, tree_with, makes, sets, removal, listens, unlistens, told, news_of, polls, outcome, Step, Call}
+use Rattle.rtdb_model.specs.Step.{Outcome, refused, unless_refused, denial, verdict_on, read_refusal, write_refusal, opens, closed, closes, with_session, own_again, signs, tree_with, written_to, makes, sets, removal, listens, unlistens, told, news_of, polls, writes_of, with_actions, with_action, keeps, keeps_one, without_actions, departing, run_by, runs_first, wants_presence, unbarred, outcome, Step, Call}
 use Rattle.rtdb_model.specs.Marks.{Taken, is_accepted, is_of_all, is_of_own, judges, grants}
 use Rattle.rtdb_model.specs.Ends.{under, notices_of, told_of, is_anew}
 use Rattle.rtdb_model.proofs.Slots.{listeners-with, identity-with, listeners-without, listeners-again, identity-again}
 use Rattle.rtdb_model.proofs.Histories.{judged_is}
+use Rattle.rtdb_laws.proofs.Present.{opened-with, AreAlike, alike_itself, actions_alike, departing_alike}
 use Rattle.rtdb_laws.proofs.Kept.{turned, the_call}
 
 -- ---- lists
@@ -183,24 +185,31 @@ module _ (old : State) (call : Call) (id : List ℕ) where
       live_is : (l : Listener) → (judged_again old.tree mid call.now who l).live ≡ (l.live && hears (scene_for mid call.now who) l.path l.query)
       live_is l = ap (λ (k : Listener). k.live) (judged_is (hears (scene_for mid call.now who) l.path l.query) (moves old.tree mid.tree l.path l.query) l)
 
-  all_goes : (n : ℕ) (mid : State) → mid.sessions ≡ old.sessions → OutcomeGoes (record { reply = Done; after = all_rejudged old.tree call.now mid }) n
-  all_goes n mid same =
-      let o : Outcome = record { reply = Done; after = all_rejudged old.tree call.now mid } in
+  -- all listeners are judged again, and nothing else that they hang on is another
+  all_goes : (n : ℕ) (reply : Reply) (mid after : State) → mid.sessions ≡ old.sessions → AreAlike after (all_rejudged old.tree call.now mid) → notices_of reply ≡ [] → OutcomeGoes (record { reply = reply; after = after }) n
+  all_goes n reply mid after same alike silent =
+      let o : Outcome = record { reply = reply; after = after } in
       let who = identity_of mid n in
       let as_before : listeners_of mid n ≡ listeners_of old n = ap (λ sessions. listeners_of (record { tree = mid.tree; rules = mid.rules; sessions = sessions }) n) same in
       Stays (judged_again old.tree mid call.now who)
-      (fades n o who mid (identity-again old.tree call.now mid n) refl refl)
-      (either_empty (eqb call.session n))
-      (ap (with_id id) (listeners-again old.tree call.now mid n)
+      (fades n o who mid (alike.identities n ∙ identity-again old.tree call.now mid n) alike.rules alike.tree)
+      (ap (λ (ns : List Notice). cond (eqb call.session n) (about id ns) []) silent ∙ either_empty (eqb call.session n))
+      (ap (with_id id) (alike.listeners n ∙ listeners-again old.tree call.now mid n)
       ∙ with_id-map id (judged_again old.tree mid call.now who) (again-id old.tree mid call.now who) (listeners_of mid n)
       ∙ ap (λ (ls : List Listener). map (judged_again old.tree mid call.now who) (with_id id ls)) as_before)
 
+  only_all_goes : (n : ℕ) (mid : State) → mid.sessions ≡ old.sessions → OutcomeGoes (record { reply = Done; after = all_rejudged old.tree call.now mid }) n
+  only_all_goes n mid same = all_goes n Done mid (all_rejudged old.tree call.now mid) same (alike_itself (all_rejudged old.tree call.now mid)) refl
+
+  -- the step judges nothing and tells nothing, and nothing that listeners hang on is another
+  alike_goes : (n : ℕ) (o : Outcome) → AreAlike o.after old → judges n (taken_by o) ≡ false → notices_of o.reply ≡ [] → OutcomeGoes o n
+  alike_goes n o alike quiet silent = quiet_goes n o quiet (ap (λ (ns : List Notice). cond (eqb call.session n) (about id ns) []) silent ∙ either_empty (eqb call.session n)) (alike.listeners n)
+
   stays_goes : (n : ℕ) (reply : Reply) → is_of_all call.event ≡ false → is_of_own call.event ≡ false → notices_of reply ≡ [] → OutcomeGoes (record { reply = reply; after = old }) n
   stays_goes n reply all own_ silent =
-      quiet_goes n (record { reply = reply; after = old })
+      alike_goes n (record { reply = reply; after = old }) (alike_itself old)
       (and_right (is_accepted reply) _ (ap (λ (b : Bool). b || (is_of_own call.event && eqb call.session n)) all ∙ ap (λ (b : Bool). b && eqb call.session n) own_))
-      (ap (λ (ns : List Notice). cond (eqb call.session n) (about id ns) []) silent ∙ either_empty (eqb call.session n))
-      refl
+      silent
 
 -- ---- each event
 
@@ -285,56 +294,102 @@ module _ (old : State) (now m n : ℕ) (id : List ℕ) where
   open_goes : GoesAt Open (opens old m)
   open_goes =
       let call = the_call now m Open in
-      test_goes old call id n (is_open old m) SessionOpen _ (λ _.
+      test_goes old call id n (is_open old m) SessionOpen _ (λ shut.
       test_goes old call id n (leb MAX_SESSIONS (map_of.len old.sessions)) TooManySessions _ (λ _.
-      own_goes old call id n Done None [] refl
-      (Lessens (λ l. false) refl (either_empty (eqb m m)) (ap (with_id id) (own_list old call id None []) ∙ none_kept (under m id old)))))
+      subst (λ (s : State). GoesAt Open (record { reply = Done; after = s })) (sym (opened-with old m shut))
+      (own_goes old call id n Done None [] refl
+      (Lessens (λ l. false) refl (either_empty (eqb m m)) (ap (with_id id) (own_list old call id None []) ∙ none_kept (under m id old))))))
 
   close_goes : GoesAt Close (closes old m)
   close_goes =
       let call = the_call now m Close in
       test_goes old call id n (not (is_open old m)) NoSession _ (λ _. gone_with (eqb n m) refl)
     where
-      gone_with : (b : Bool) → eqb n m ≡ b → GoesAt Close (record { reply = Done; after = closed old m })
+      gone_with : (b : Bool) → eqb n m ≡ b → GoesAt Close (record { reply = Closed (length (actions_of old m)); after = closed old m })
       gone_with true e =
-          Lessens (λ l. false) (and_right (is_accepted Done) false refl) (either_empty (eqb m n)) (ap (with_id id) (listeners-without old m n ∙ ap (λ (b : Bool). cond b [] (listeners_of old n)) e) ∙ none_kept (under n id old))
+          Lessens (λ l. false) (and_right (is_accepted (Closed (length (actions_of old m)))) false refl) (either_empty (eqb m n)) (ap (with_id id) (listeners-without old m n ∙ ap (λ (b : Bool). cond b [] (listeners_of old n)) e) ∙ none_kept (under n id old))
       gone_with false e =
-          other_goes old (the_call now m Close) id (record { reply = Done; after = closed old m }) n refl (turned n m e) (listeners-without old m n ∙ ap (λ (b : Bool). cond b [] (listeners_of old n)) e)
+          other_goes old (the_call now m Close) id (record { reply = Closed (length (actions_of old m)); after = closed old m }) n refl (turned n m e) (listeners-without old m n ∙ ap (λ (b : Bool). cond b [] (listeners_of old n)) e)
 
   make_goes : (event : Event) (writes : List Write) → GoesAt event (makes old now m writes)
   make_goes event writes =
       unless_goes old (the_call now m event) id n (write_refusal old now m writes) _
-      (all_goes old (the_call now m event) id n (record { tree = tree_with old now writes; rules = old.rules; sessions = old.sessions }) refl)
+      (only_all_goes old (the_call now m event) id n (record { tree = tree_with old now writes; rules = old.rules; sessions = old.sessions }) refl)
 
   set_goes : (event : Event) (write : Write) → GoesAt event (sets old now m write)
   set_goes event write = test_goes old (the_call now m event) id n (not (is_open old m)) NoSession _ (λ _. make_goes event (write ∷ []))
 
-  outcome_goes : (event : Event) → GoesAt event (outcome old now m event)
-  outcome_goes Open = open_goes
-  outcome_goes Close = close_goes
-  outcome_goes (SignIn who) = sign_goes (SignIn who) (Some who) refl
-  outcome_goes SignOut = sign_goes SignOut None refl
-  outcome_goes (Get path query) =
+  keep_goes : (event : Event) (writes : List Write) → is_of_all event ≡ false → is_of_own event ≡ false → GoesAt event (keeps old now m writes)
+  keep_goes event writes all own_ =
+      let call = the_call now m event in
+      test_goes old call id n (leb MAX_ACTIONS (length (actions_of old m))) TooManyActions _ (λ _.
+      unless_goes old call id n (denial (verdict_on old now m writes)) _
+      (alike_goes old call id n (record { reply = Done; after = with_action old m writes }) (actions_alike old m _)
+      (ap (λ (b : Bool). b || (is_of_own event && eqb m n)) all ∙ ap (λ (b : Bool). b && eqb m n) own_)
+      refl))
+
+  keep_one_goes : (event : Event) (write : Write) → is_of_all event ≡ false → is_of_own event ≡ false → GoesAt event (keeps_one old now m write)
+  keep_one_goes event write all own_ = test_goes old (the_call now m event) id n (not (is_open old m)) NoSession _ (λ _. keep_goes event (write ∷ []) all own_)
+
+  run_goes : (writes : List Write) (others : List Action) (r : Option Refusal) → GoesAt RunNext (run_by old now m writes others r)
+  run_goes writes others None =
+      all_goes old (the_call now m RunNext) id n (Ran Applied) (record { tree = tree_with old now writes; rules = old.rules; sessions = old.sessions }) (with_actions (written_to old now writes) m others) refl
+      (actions_alike (written_to old now writes) m others) refl
+  run_goes writes others (Some refusal) =
+      alike_goes old (the_call now m RunNext) id n (record { reply = Ran (Skipped refusal); after = with_actions old m others }) (actions_alike old m others) refl refl
+
+  first_goes : (actions : List Action) → GoesAt RunNext (runs_first old now m actions)
+  first_goes [] = alike_goes old (the_call now m RunNext) id n (record { reply = Ran Empty; after = old }) (alike_itself old) refl refl
+  first_goes (action ∷ others) = run_goes (writes_of action) others (write_refusal old now m (writes_of action))
+
+  unbarred_goes : (event : Event) → GoesAt event (unbarred old now m event)
+  unbarred_goes Open = open_goes
+  unbarred_goes Close = close_goes
+  unbarred_goes (SignIn who) = sign_goes (SignIn who) (Some who) refl
+  unbarred_goes SignOut = sign_goes SignOut None refl
+  unbarred_goes (Get path query) =
       let call = the_call now m (Get path query) in
       test_goes old call id n (not (is_open old m)) NoSession _ (λ _.
       unless_goes old call id n (read_refusal old now m path query) _ (stays_goes old call id n _ refl refl refl))
-  outcome_goes (Set write) = set_goes (Set write) write
-  outcome_goes (Remove path) = set_goes (Remove path) (removal path)
-  outcome_goes (Update writes) =
+  unbarred_goes (Set write) = set_goes (Set write) write
+  unbarred_goes (Remove path) = set_goes (Remove path) (removal path)
+  unbarred_goes (Update writes) =
       let call = the_call now m (Update writes) in
       test_goes old call id n (not (is_open old m)) NoSession _ (λ _.
       test_goes old call id n (length writes == 0) EmptyUpdate _ (λ _.
       test_goes old call id n (overlaps writes) Overlap _ (λ _.
       make_goes (Update writes) writes)))
-  outcome_goes (Listen other path query) = listen_goes other path query
-  outcome_goes (Unlisten other) = unlisten_goes other
-  outcome_goes Poll = poll_goes
-  outcome_goes Tick = all_goes old (the_call now m Tick) id n old refl
-  outcome_goes (Deploy rules) =
+  unbarred_goes (Listen other path query) = listen_goes other path query
+  unbarred_goes (Unlisten other) = unlisten_goes other
+  unbarred_goes Poll = poll_goes
+  unbarred_goes Tick = only_all_goes old (the_call now m Tick) id n old refl
+  unbarred_goes (Deploy rules) =
       let call = the_call now m (Deploy rules) in
       test_goes old call id n (not (is_open old m)) NoSession _ (λ _.
       test_goes old call id n (not (is_admin (identity_of old m))) NotAdmin _ (λ _.
-      all_goes old call id n (record { tree = old.tree; rules = rules; sessions = old.sessions }) refl))
+      only_all_goes old call id n (record { tree = old.tree; rules = rules; sessions = old.sessions }) refl))
+  unbarred_goes (OnSet write) = keep_one_goes (OnSet write) write refl refl
+  unbarred_goes (OnRemove path) = keep_one_goes (OnRemove path) (removal path) refl refl
+  unbarred_goes (OnUpdate writes) =
+      let call = the_call now m (OnUpdate writes) in
+      test_goes old call id n (not (is_open old m)) NoSession _ (λ _.
+      test_goes old call id n (length writes == 0) EmptyUpdate _ (λ _.
+      test_goes old call id n (overlaps writes) Overlap _ (λ _.
+      keep_goes (OnUpdate writes) writes refl refl)))
+  unbarred_goes (OnCancel path) =
+      test_goes old (the_call now m (OnCancel path)) id n (not (is_open old m)) NoSession _ (λ _.
+      alike_goes old (the_call now m (OnCancel path)) id n (record { reply = Done; after = without_actions old m path }) (actions_alike old m _) refl refl)
+  unbarred_goes Leave =
+      test_goes old (the_call now m Leave) id n (not (is_open old m)) NoSession _ (λ _.
+      alike_goes old (the_call now m Leave) id n (record { reply = Done; after = departing old m }) (departing_alike old m) refl refl)
+  unbarred_goes RunNext =
+      let call = the_call now m RunNext in
+      test_goes old call id n (not (is_open old m)) NoSession _ (λ _.
+      test_goes old call id n (not (is_leaving old m)) NotLeaving _ (λ _.
+      first_goes (actions_of old m)))
+
+  outcome_goes : (event : Event) → GoesAt event (outcome old now m event)
+  outcome_goes event = test_goes old (the_call now m event) id n (wants_presence event && is_leaving old m) Leaving _ (λ _. unbarred_goes event)
 
 pub step_goes : (n : ℕ) (id : List ℕ) (old : State) (call : Call) (reply : Reply) (new : State) → Step old call.now call.session call.event reply new → Goes n id (record { old = old; call = call; reply = reply; new = new })
 unfolding Step

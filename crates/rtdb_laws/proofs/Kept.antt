@@ -15,20 +15,22 @@ use Rattle.rules_reader.specs.Book.{Book}
 use Rattle.listeners.specs.declared.limits.TheConstants.{MAX_LISTENERS}
 use Rattle.listeners.specs.Query.{Query}
 use Rattle.listeners.specs.Table.{Listener, begun, has_id, without_id, unmarked, taken}
-use Rattle.rtdb_model.specs.declared.limits.TheConstants.{MAX_SESSIONS}
+use Rattle.rtdb_model.specs.declared.limits.TheConstants.{MAX_SESSIONS, MAX_ACTIONS}
 use Rattle.rtdb_model.specs.declared.event.Event.{Event}
-use Rattle.rtdb_model.specs.declared.event.Event.TheVariants.{Open, Close, SignIn, SignOut, Get, Set, Remove, Update, Listen, Unlisten, Poll, Tick, Deploy}
+use Rattle.rtdb_model.specs.declared.event.Event.TheVariants.{Open, Close, SignIn, SignOut, Get, Set, Remove, Update, Listen, Unlisten, Poll, Tick, Deploy, OnSet, OnRemove, OnUpdate, OnCancel, Leave, RunNext}
 use Rattle.rtdb_model.specs.declared.reply.Refusal.{Refusal}
-use Rattle.rtdb_model.specs.declared.reply.Refusal.TheVariants.{SessionOpen, TooManySessions, NoSession, NotAdmin, EmptyUpdate, Overlap, DuplicateId, TooManyListeners, NoListener, NoMemory}
+use Rattle.rtdb_model.specs.declared.reply.Refusal.TheVariants.{SessionOpen, TooManySessions, NoSession, NotAdmin, EmptyUpdate, Overlap, DuplicateId, TooManyListeners, NoListener, Leaving, TooManyActions, NotLeaving, NoMemory}
 use Rattle.rtdb_model.specs.declared.reply.Reply.{Reply}
-use Rattle.rtdb_model.specs.declared.reply.Reply.TheVariants.{Done, Value, News, Refused}
-use Rattle.rtdb_model.specs.State.{State, opening, is_open, identity_of, listeners_in, listeners_of, is_admin, scene_for}
+use Rattle.rtdb_model.specs.declared.reply.Reply.TheVariants.{Done, Value, News, Refused, Ran, Closed}
+use Rattle.rtdb_model.specs.declared.reply.Ran.TheVariants.{Empty, Applied, Skipped}
+use Rattle.rtdb_model.specs.State.{Action, State, opening, is_open, is_leaving, identity_of, listeners_in, listeners_of, actions_of, is_admin, scene_for}
 use Rattle.rtdb_model.specs.Rejudged.{hears, selected_at, moves, judged_again, all_rejudged}
-use Rattle.rtdb_model.specs.Step.{Outcome, refused, unless_refused, read_refusal, write_refusal, opens, closed, closes, with_session, own_again, signs, gets, tree_with, makes, sets, removal, updates, listening, listens, unlistens, news_of, polls, deploys, outcome, Step, Call, Run}
-use Rattle.rtdb_model.specs.Marks.{Taken, steps_after, is_accepted, is_of_all, is_of_own, is_poll, asked_under, IsHistory}
+use Rattle.rtdb_model.specs.Step.{Outcome, refused, unless_refused, denial, verdict_on, read_refusal, write_refusal, opens, closed, closes, with_session, own_again, signs, gets, tree_with, written_to, makes, sets, removal, updates, listening, listens, unlistens, news_of, polls, deploys, writes_of, with_actions, with_action, keeps, keeps_one, keeps_update, without_actions, cancels, departing, leaves, run_by, runs_first, runs, wants_presence, unbarred, outcome, Step, Call, Run}
+use Rattle.rtdb_model.specs.Marks.{Taken, steps_after, is_accepted, is_of_all, is_of_own, is_poll, asked_under, judges, hands_out, begins, IsHistory}
 use Rattle.rtdb_model.proofs.Slots.{listeners-with, identity-with, listeners-without, listeners-again, identity-again}
 use Rattle.rtdb_model.proofs.Sameness.{unmoved}
 use Rattle.rtdb_model.proofs.Histories.{quiet, judged_once_more, handed_over, begins_here}
+use Rattle.rtdb_laws.proofs.Present.{opened-with, AreAlike, alike_itself, actions_alike, departing_alike}
 
 -- of all listeners of a state
 abbrev pub AreHistory : State → List Taken → Type 0
@@ -105,36 +107,46 @@ module _ (old : State) (call : Call) (steps : List Taken) where
         slot : (b : Bool) → eqb n call.session ≡ b → listeners_of (own reply who mine).after n ≡ cond b mine (listeners_of old n)
         slot b e = listeners-with old call.session who mine n ∙ ap (λ (c : Bool). cond c mine (listeners_of old n)) e
 
-    -- all listeners are judged again
-    all_keeps : (mid : State) → mid.sessions ≡ old.sessions → is_of_all call.event ≡ true → is_poll call.event ≡ false → ((id : List ℕ) → asked_under id call.event ≡ None) → Keeps (record { reply = Done; after = all_rejudged old.tree call.now mid })
-    all_keeps mid same all poll none n =
-        let o : Outcome = record { reply = Done; after = all_rejudged old.tree call.now mid } in
+    -- all listeners are judged again, and nothing else that they hang on is another
+    all_keeps : (reply : Reply) (mid after : State) → mid.sessions ≡ old.sessions → AreAlike after (all_rejudged old.tree call.now mid) → is_accepted reply ≡ true → is_of_all call.event ≡ true → is_poll call.event ≡ false → ((id : List ℕ) → asked_under id call.event ≡ None) → Keeps (record { reply = reply; after = after })
+    all_keeps reply mid after same alike accepted all poll none n =
+        let o : Outcome = record { reply = reply; after = after } in
         let who = identity_of mid n in
-        subst (λ (ls : List Listener). All (λ l. IsHistory n l (step_of o ∷ steps)) ls) (sym (listeners-again old.tree call.now mid n))
+        let signed : identity_of after n ≡ who = alike.identities n ∙ identity-again old.tree call.now mid n in
+        subst (λ (ls : List Listener). All (λ l. IsHistory n l (step_of o ∷ steps)) ls) (sym (alike.listeners n ∙ listeners-again old.tree call.now mid n))
         (All-map (λ l. IsHistory n l (step_of o ∷ steps)) (judged_again old.tree mid call.now who) (listeners_of mid n)
         (All-weaker (λ l. IsHistory n l steps) (λ l. IsHistory n (judged_again old.tree mid call.now who l) (step_of o ∷ steps))
         (λ l past. judged_once_more n (step_of o) steps l (hears (scene_for mid call.now who) l.path l.query) (moves old.tree mid.tree l.path l.query)
-        (ap (λ (a : Asked). cond (eqb call.session n) a None) (none l.id) ∙ either_none (eqb call.session n))
-        (ap (λ (b : Bool). b && eqb call.session n) poll)
-        (ap (λ (b : Bool). b || (is_of_own call.event && eqb call.session n)) all)
-        (ap (λ (w : Option Identity). hears (scene_for mid call.now w) l.path l.query) (identity-again old.tree call.now mid n))
-        refl
+        (ap (λ (a : Asked). cond (is_accepted reply && eqb call.session n) a None) (none l.id) ∙ either_none (is_accepted reply && eqb call.session n))
+        (and_right (is_accepted reply) (is_poll call.event && eqb call.session n) (ap (λ (b : Bool). b && eqb call.session n) poll))
+        (λ i. accepted i && (all i || (is_of_own call.event && eqb call.session n)))
+        (λ i. hears (record { book = alike.rules i; who = signed i; moment = call.now; old = alike.tree i }) l.path l.query)
+        (ap (λ (tree : Tree). moves old.tree tree l.path l.query) alike.tree)
         past)
         (listeners_of mid n)
         (subst (λ sessions. All (λ l. IsHistory n l steps) (listeners_of (record { tree = mid.tree; rules = mid.rules; sessions = sessions }) n)) (sym same) (before n))))
 
+    -- the same, and nothing but the listeners is another
+    only_all_keeps : (mid : State) → mid.sessions ≡ old.sessions → is_of_all call.event ≡ true → is_poll call.event ≡ false → ((id : List ℕ) → asked_under id call.event ≡ None) → Keeps (record { reply = Done; after = all_rejudged old.tree call.now mid })
+    only_all_keeps mid same all poll none = all_keeps Done mid (all_rejudged old.tree call.now mid) same (alike_itself (all_rejudged old.tree call.now mid)) refl all poll none
+
+    -- the step judges nothing, and nothing that listeners hang on is another
+    alike_keeps : (o : Outcome) → AreAlike o.after old → ((n : ℕ) (id : List ℕ) → begins n id (step_of o) ≡ None) → ((n : ℕ) → hands_out n (step_of o) ≡ false) → ((n : ℕ) → judges n (step_of o) ≡ false) → Keeps o
+    alike_keeps o alike starts hands judged n =
+        subst (λ (ls : List Listener). All (λ l. IsHistory n l (step_of o ∷ steps)) ls) (sym (alike.listeners n))
+        (All-weaker (λ l. IsHistory n l steps) (λ l. IsHistory n l (step_of o ∷ steps))
+        (λ l past. quiet n (step_of o) steps l (starts n l.id) (hands n) (judged n)
+        (ap (λ (tree : Tree). moves old.tree tree l.path l.query) alike.tree ∙ unmoved old.tree l.path l.query)
+        past)
+        (listeners_of old n) (before n))
+
     -- the step leaves all as it is, and judges nothing
     stays_keeps : (reply : Reply) → is_of_all call.event ≡ false → is_of_own call.event ≡ false → is_poll call.event ≡ false → ((id : List ℕ) → asked_under id call.event ≡ None) → Keeps (record { reply = reply; after = old })
-    stays_keeps reply all own_ poll none n =
-        let o : Outcome = record { reply = reply; after = old } in
-        All-weaker (λ l. IsHistory n l steps) (λ l. IsHistory n l (step_of o ∷ steps))
-        (λ l past. quiet n (step_of o) steps l
-        (ap (λ (a : Asked). cond (is_accepted reply && eqb call.session n) a None) (none l.id) ∙ either_none (is_accepted reply && eqb call.session n))
-        (and_right (is_accepted reply) (is_poll call.event && eqb call.session n) (ap (λ (b : Bool). b && eqb call.session n) poll))
-        (and_right (is_accepted reply) _ (ap (λ (b : Bool). b || (is_of_own call.event && eqb call.session n)) all ∙ ap (λ (b : Bool). b && eqb call.session n) own_))
-        (unmoved old.tree l.path l.query)
-        past)
-        (listeners_of old n) (before n)
+    stays_keeps reply all own_ poll none =
+        alike_keeps (record { reply = reply; after = old }) (alike_itself old)
+        (λ n id. ap (λ (a : Asked). cond (is_accepted reply && eqb call.session n) a None) (none id) ∙ either_none (is_accepted reply && eqb call.session n))
+        (λ n. and_right (is_accepted reply) (is_poll call.event && eqb call.session n) (ap (λ (b : Bool). b && eqb call.session n) poll))
+        (λ n. and_right (is_accepted reply) _ (ap (λ (b : Bool). b || (is_of_own call.event && eqb call.session n)) all ∙ ap (λ (b : Bool). b && eqb call.session n) own_))
 
 -- ---- each event
 
@@ -154,18 +166,19 @@ module _ (old : State) (now n : ℕ) (steps : List Taken) (before : AreHistory o
   open_keeps : KeepsAt Open (opens old n)
   open_keeps =
       let call = the_call now n Open in
-      test_keeps old call steps before (is_open old n) SessionOpen _ (λ _.
+      test_keeps old call steps before (is_open old n) SessionOpen _ (λ shut.
       test_keeps old call steps before (leb MAX_SESSIONS (map_of.len old.sessions)) TooManySessions _ (λ _.
-      own_keeps old call steps before Done None [] refl (All-nil (λ l. IsHistory n l (stepped Open (own old call steps Done None []) ∷ steps)))))
+      subst (λ (s : State). KeepsAt Open (record { reply = Done; after = s })) (sym (opened-with old n shut))
+      (own_keeps old call steps before Done None [] refl (All-nil (λ l. IsHistory n l (stepped Open (own old call steps Done None []) ∷ steps))))))
 
   close_keeps : KeepsAt Close (closes old n)
   close_keeps =
       let call = the_call now n Close in
       test_keeps old call steps before (not (is_open old n)) NoSession _ (λ _. gone)
     where
-      gone : KeepsAt Close (record { reply = Done; after = closed old n })
+      gone : KeepsAt Close (record { reply = Closed (length (actions_of old n)); after = closed old n })
       gone m =
-          let o : Outcome = record { reply = Done; after = closed old n } in
+          let o : Outcome = record { reply = Closed (length (actions_of old n)); after = closed old n } in
           elim (eqb m n) as (λ b. eqb m n ≡ b → All (λ l. IsHistory m l (stepped Close o ∷ steps)) (listeners_of (closed old n) m)) [
             | true ↦ λ e. subst (λ (ls : List Listener). All (λ l. IsHistory m l (stepped Close o ∷ steps)) ls) (sym (slot m true e)) (All-nil (λ l. IsHistory m l (stepped Close o ∷ steps)))
             | false ↦ λ e. other_keeps old (the_call now n Close) steps before o refl refl m (turned m n e) (slot m false e)
@@ -203,7 +216,7 @@ module _ (old : State) (now n : ℕ) (steps : List Taken) (before : AreHistory o
   make_keeps : (event : Event) (writes : List Write) → is_of_all event ≡ true → is_poll event ≡ false → ((id : List ℕ) → asked_under id event ≡ None) → KeepsAt event (makes old now n writes)
   make_keeps event writes all poll none =
       unless_keeps old (the_call now n event) steps before (write_refusal old now n writes) _
-      (all_keeps old (the_call now n event) steps before (record { tree = tree_with old now writes; rules = old.rules; sessions = old.sessions }) refl all poll none)
+      (only_all_keeps old (the_call now n event) steps before (record { tree = tree_with old now writes; rules = old.rules; sessions = old.sessions }) refl all poll none)
 
   set_keeps : (event : Event) (write : Write) → is_of_all event ≡ true → is_poll event ≡ false → ((id : List ℕ) → asked_under id event ≡ None) → KeepsAt event (sets old now n write)
   set_keeps event write all poll none =
@@ -287,22 +300,90 @@ module _ (old : State) (now n : ℕ) (steps : List Taken) (before : AreHistory o
       let call = the_call now n (Deploy rules) in
       test_keeps old call steps before (not (is_open old n)) NoSession _ (λ _.
       test_keeps old call steps before (not (is_admin (identity_of old n))) NotAdmin _ (λ _.
-      all_keeps old call steps before (record { tree = old.tree; rules = rules; sessions = old.sessions }) refl refl refl (λ id. refl)))
+      only_all_keeps old call steps before (record { tree = old.tree; rules = rules; sessions = old.sessions }) refl refl refl (λ id. refl)))
+
+  -- ---- what is written when a session goes
+
+  -- it is done, and nobody is judged
+  quiet_keeps : (event : Event) (new : State) → AreAlike new old → is_of_all event ≡ false → is_of_own event ≡ false → is_poll event ≡ false → ((id : List ℕ) → asked_under id event ≡ None) → KeepsAt event (record { reply = Done; after = new })
+  quiet_keeps event new alike all own_ poll none =
+      alike_keeps old (the_call now n event) steps before (record { reply = Done; after = new }) alike
+      (λ m id. ap (λ (a : Asked). cond (eqb n m) a None) (none id) ∙ either_none (eqb n m))
+      (λ m. ap (λ (b : Bool). b && eqb n m) poll)
+      (λ m. ap (λ (b : Bool). b || (is_of_own event && eqb n m)) all ∙ ap (λ (b : Bool). b && eqb n m) own_)
+
+  keep_keeps : (event : Event) (writes : List Write) → is_of_all event ≡ false → is_of_own event ≡ false → is_poll event ≡ false → ((id : List ℕ) → asked_under id event ≡ None) → KeepsAt event (keeps old now n writes)
+  keep_keeps event writes all own_ poll none =
+      let call = the_call now n event in
+      test_keeps old call steps before (leb MAX_ACTIONS (length (actions_of old n))) TooManyActions _ (λ _.
+      unless_keeps old call steps before (denial (verdict_on old now n writes)) _
+      (quiet_keeps event (with_action old n writes) (actions_alike old n _) all own_ poll none))
+
+  keep_one_keeps : (event : Event) (write : Write) → is_of_all event ≡ false → is_of_own event ≡ false → is_poll event ≡ false → ((id : List ℕ) → asked_under id event ≡ None) → KeepsAt event (keeps_one old now n write)
+  keep_one_keeps event write all own_ poll none =
+      test_keeps old (the_call now n event) steps before (not (is_open old n)) NoSession _ (λ _. keep_keeps event (write ∷ []) all own_ poll none)
+
+  keep_update_keeps : (writes : List Write) → KeepsAt (OnUpdate writes) (keeps_update old now n writes)
+  keep_update_keeps writes =
+      let call = the_call now n (OnUpdate writes) in
+      test_keeps old call steps before (not (is_open old n)) NoSession _ (λ _.
+      test_keeps old call steps before (length writes == 0) EmptyUpdate _ (λ _.
+      test_keeps old call steps before (overlaps writes) Overlap _ (λ _.
+      keep_keeps (OnUpdate writes) writes refl refl refl (λ id. refl))))
+
+  cancel_keeps : (path : Path) → KeepsAt (OnCancel path) (cancels old n path)
+  cancel_keeps path =
+      test_keeps old (the_call now n (OnCancel path)) steps before (not (is_open old n)) NoSession _ (λ _.
+      quiet_keeps (OnCancel path) (without_actions old n path) (actions_alike old n _) refl refl refl (λ id. refl))
+
+  leave_keeps : KeepsAt Leave (leaves old n)
+  leave_keeps =
+      test_keeps old (the_call now n Leave) steps before (not (is_open old n)) NoSession _ (λ _.
+      quiet_keeps Leave (departing old n) (departing_alike old n) refl refl refl (λ id. refl))
+
+  run_keeps_by : (writes : List Write) (others : List Action) (r : Option Refusal) → KeepsAt RunNext (run_by old now n writes others r)
+  run_keeps_by writes others None =
+      all_keeps old (the_call now n RunNext) steps before (Ran Applied) (record { tree = tree_with old now writes; rules = old.rules; sessions = old.sessions }) (with_actions (written_to old now writes) n others) refl
+      (actions_alike (written_to old now writes) n others) refl refl refl (λ id. refl)
+  run_keeps_by writes others (Some refusal) =
+      alike_keeps old (the_call now n RunNext) steps before (record { reply = Ran (Skipped refusal); after = with_actions old n others }) (actions_alike old n others) (λ m id. refl) (λ m. refl) (λ m. refl)
+
+  first_keeps : (actions : List Action) → KeepsAt RunNext (runs_first old now n actions)
+  first_keeps [] = alike_keeps old (the_call now n RunNext) steps before (record { reply = Ran Empty; after = old }) (alike_itself old) (λ m id. refl) (λ m. refl) (λ m. refl)
+  first_keeps (action ∷ others) = run_keeps_by (writes_of action) others (write_refusal old now n (writes_of action))
+
+  next_keeps : KeepsAt RunNext (runs old now n)
+  next_keeps =
+      let call = the_call now n RunNext in
+      test_keeps old call steps before (not (is_open old n)) NoSession _ (λ _.
+      test_keeps old call steps before (not (is_leaving old n)) NotLeaving _ (λ _.
+      first_keeps (actions_of old n)))
+
+  -- ---- all events
+
+  unbarred_keeps : (event : Event) → KeepsAt event (unbarred old now n event)
+  unbarred_keeps Open = open_keeps
+  unbarred_keeps Close = close_keeps
+  unbarred_keeps (SignIn who) = sign_keeps (SignIn who) (Some who) refl refl refl (λ id. refl)
+  unbarred_keeps SignOut = sign_keeps SignOut None refl refl refl (λ id. refl)
+  unbarred_keeps (Get path query) = get_keeps path query
+  unbarred_keeps (Set write) = set_keeps (Set write) write refl refl (λ id. refl)
+  unbarred_keeps (Remove path) = set_keeps (Remove path) (removal path) refl refl (λ id. refl)
+  unbarred_keeps (Update writes) = update_keeps writes
+  unbarred_keeps (Listen id path query) = listen_keeps id path query
+  unbarred_keeps (Unlisten id) = unlisten_keeps id
+  unbarred_keeps Poll = poll_keeps
+  unbarred_keeps Tick = only_all_keeps old (the_call now n Tick) steps before old refl refl refl (λ id. refl)
+  unbarred_keeps (Deploy rules) = deploy_keeps rules
+  unbarred_keeps (OnSet write) = keep_one_keeps (OnSet write) write refl refl refl (λ id. refl)
+  unbarred_keeps (OnRemove path) = keep_one_keeps (OnRemove path) (removal path) refl refl refl (λ id. refl)
+  unbarred_keeps (OnUpdate writes) = keep_update_keeps writes
+  unbarred_keeps (OnCancel path) = cancel_keeps path
+  unbarred_keeps Leave = leave_keeps
+  unbarred_keeps RunNext = next_keeps
 
   outcome_keeps : (event : Event) → KeepsAt event (outcome old now n event)
-  outcome_keeps Open = open_keeps
-  outcome_keeps Close = close_keeps
-  outcome_keeps (SignIn who) = sign_keeps (SignIn who) (Some who) refl refl refl (λ id. refl)
-  outcome_keeps SignOut = sign_keeps SignOut None refl refl refl (λ id. refl)
-  outcome_keeps (Get path query) = get_keeps path query
-  outcome_keeps (Set write) = set_keeps (Set write) write refl refl (λ id. refl)
-  outcome_keeps (Remove path) = set_keeps (Remove path) (removal path) refl refl (λ id. refl)
-  outcome_keeps (Update writes) = update_keeps writes
-  outcome_keeps (Listen id path query) = listen_keeps id path query
-  outcome_keeps (Unlisten id) = unlisten_keeps id
-  outcome_keeps Poll = poll_keeps
-  outcome_keeps Tick = all_keeps old (the_call now n Tick) steps before old refl refl refl (λ id. refl)
-  outcome_keeps (Deploy rules) = deploy_keeps rules
+  outcome_keeps event = test_keeps old (the_call now n event) steps before (wants_presence event && is_leaving old n) Leaving _ (λ _. unbarred_keeps event)
 
 -- ---- steps and runs
 

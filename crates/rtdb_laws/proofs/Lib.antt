@@ -1,7 +1,10 @@
 pub mod Naming
+pub mod Present
 pub mod ReadJudging
 pub mod ListenJudging
 pub mod WriteJudging
+pub mod Keeping
+pub mod Running
 pub mod Deploying
 pub mod Stopping
 pub mod StepLaws
@@ -13,3 +16,4 @@ pub mod Changes
 pub mod Polls
 pub mod Goings
 pub mod Endings
+pub mod Acted

@@ -1,5 +1,5 @@
 -- Each listen and each poll is judged.
-use Rattle.std.proofs.Common.{◌≡◌, ◌↔◌, ℕ, ◌<◌, ◌≤◌, Bool, true, false, cond, not, ◌&&◌, ◌||◌, List, [], ◌∷◌, map, length, Option, Some, None, inl, inr, refl, sym, ap, subst, ◌∙◌, arith}
+use Rattle.std.proofs.Common.{◌≡◌, ◌≢◌, ◌↔◌, ℕ, ◌<◌, ◌≤◌, Bool, true, false, cond, not, ◌&&◌, ◌||◌, List, [], ◌∷◌, map, length, Option, Some, None, inl, inr, refl, sym, ap, subst, ◌∙◌, arith}
 use Rattle.std.proofs.lemmas.Bool.{false≢true, leb-true, leb-false}
 use Rattle.std.specs.Prelude.{nat_le, filter}
 use Rattle.std.specs.List.{cons_option}
@@ -22,15 +22,16 @@ use Rattle.listeners.specs.Selection.{selection}
 use Rattle.listeners.specs.Table.{Listener, has_id, unmarked, taken}
 use Rattle.rtdb_model.specs.declared.news.Notice.{Notice}
 use Rattle.rtdb_model.specs.declared.reply.Refusal.{Refusal}
-use Rattle.rtdb_model.specs.declared.reply.Refusal.TheVariants.{NoSession, DuplicateId, TooManyListeners, ReadDenied, NoMemory}
+use Rattle.rtdb_model.specs.declared.reply.Refusal.TheVariants.{NoSession, DuplicateId, TooManyListeners, Leaving, ReadDenied, NoMemory}
 use Rattle.rtdb_model.specs.declared.reply.Reply.TheVariants.{Value, News, Refused}
 use Rattle.rtdb_model.specs.News.{gone, selected_now}
-use Rattle.rtdb_model.specs.State.{State, is_open, identity_of, listeners_of, scene_for, scene_at}
+use Rattle.rtdb_model.specs.State.{State, is_open, is_leaving, is_present, identity_of, listeners_of, scene_for, scene_at}
 use Rattle.rtdb_model.specs.Rejudged.{asked_for, hears, moves, judged_again}
 use Rattle.rtdb_model.specs.Step.{Outcome, refused, unless_refused, denial, read_refusal, listening, listens, told, news_of, own_again, with_session, polls}
 use Rattle.rtdb_model.specs.Headline.{AreOwed, GrantsRead, named_for_read, MayListen, IsListenJudged, AreTold, AreLeft, IsPollJudged}
 use Rattle.rtdb_model.proofs.Histories.{judged_parts, judged_is}
 use Rattle.rtdb_laws.proofs.Naming.{names_owed}
+use Rattle.rtdb_laws.proofs.Present.{is_here, closed_is_not_here, leaving_is_not_here, unless_leaving, by_leaving}
 use Rattle.rtdb_model.proofs.Sameness.{unmoved}
 
 -- ---- whether a read is granted, as a test
@@ -110,26 +111,29 @@ module _ (old : State) (now session : ℕ) (id : List ℕ) (path : Path) (query 
   unfolding read_refusal
   listen_ruled one may = listen_by one may (read_verdict (scene_at old now session) (asked_for query) path) ((reads_decided (scene_at old now session) (asked_for query) path (read_verdict (scene_at old now session) (asked_for query) path)).0 refl)
 
-  pub listen_judged : HasOneCapture old.rules → ListenJudged (listens old now session id path query)
-  listen_judged one = by_session (is_open old session) refl
+  pub listen_judged : HasOneCapture old.rules → ListenJudged (unless_leaving old session (listens old now session id path query))
+  listen_judged one =
+      by_leaving ListenJudged old session (listens old now session id path query)
+      (λ leaves. stopped Leaving (λ named f. cc) (λ may. leaving_is_not_here old session leaves may.present))
+      (λ stays. by_session stays (is_open old session) refl)
     where
       ruled : Outcome
       ruled = unless_refused old (read_refusal old now session path query) done
 
-      by_room : is_open old session ≡ true → has_id id (listeners_of old session) ≡ false → (b : Bool) → nat_le MAX_LISTENERS (length (listeners_of old session)) ≡ b → ListenJudged (cond b (refused old TooManyListeners) ruled)
-      by_room opened new true e = stopped TooManyListeners (λ named f. cc) (λ may. full (leb-true MAX_LISTENERS (length (listeners_of old session)) e) may.room)
+      by_room : is_present old session ≡ true → has_id id (listeners_of old session) ≡ false → (b : Bool) → nat_le MAX_LISTENERS (length (listeners_of old session)) ≡ b → ListenJudged (cond b (refused old TooManyListeners) ruled)
+      by_room here new true e = stopped TooManyListeners (λ named f. cc) (λ may. full (leb-true MAX_LISTENERS (length (listeners_of old session)) e) may.room)
         where
           full : MAX_LISTENERS ≤ length (listeners_of old session) → length (listeners_of old session) < MAX_LISTENERS → ⊥
           full a b = omega arith
-      by_room opened new false e = listen_ruled one (record { opened = opened; new = new; room = leb-false MAX_LISTENERS (length (listeners_of old session)) e })
+      by_room here new false e = listen_ruled one (record { present = here; new = new; room = leb-false MAX_LISTENERS (length (listeners_of old session)) e })
 
-      by_id : is_open old session ≡ true → (b : Bool) → has_id id (listeners_of old session) ≡ b → ListenJudged (cond b (refused old DuplicateId) (cond (nat_le MAX_LISTENERS (length (listeners_of old session))) (refused old TooManyListeners) ruled))
-      by_id opened true e = stopped DuplicateId (λ named f. cc) (λ may. false≢true (sym may.new ∙ e))
-      by_id opened false e = by_room opened e (nat_le MAX_LISTENERS (length (listeners_of old session))) refl
+      by_id : is_present old session ≡ true → (b : Bool) → has_id id (listeners_of old session) ≡ b → ListenJudged (cond b (refused old DuplicateId) (cond (nat_le MAX_LISTENERS (length (listeners_of old session))) (refused old TooManyListeners) ruled))
+      by_id here true e = stopped DuplicateId (λ named f. cc) (λ may. false≢true (sym may.new ∙ e))
+      by_id here false e = by_room here e (nat_le MAX_LISTENERS (length (listeners_of old session))) refl
 
-      by_session : (b : Bool) → is_open old session ≡ b → ListenJudged (cond (not b) (refused old NoSession) (cond (has_id id (listeners_of old session)) (refused old DuplicateId) (cond (nat_le MAX_LISTENERS (length (listeners_of old session))) (refused old TooManyListeners) ruled)))
-      by_session true e = by_id e (has_id id (listeners_of old session)) refl
-      by_session false e = stopped NoSession (λ named f. cc) (λ may. false≢true (sym e ∙ may.opened))
+      by_session : is_leaving old session ≡ false → (b : Bool) → is_open old session ≡ b → ListenJudged (cond (not b) (refused old NoSession) (cond (has_id id (listeners_of old session)) (refused old DuplicateId) (cond (nat_le MAX_LISTENERS (length (listeners_of old session))) (refused old TooManyListeners) ruled)))
+      by_session stays true e = by_id (is_here old session e stays) (has_id id (listeners_of old session)) refl
+      by_session stays false e = stopped NoSession (λ named f. cc) (λ may. closed_is_not_here old session e may.present)
 
 -- ---- polls
 
@@ -188,15 +192,21 @@ module _ (old : State) (now session : ℕ) where
   abbrev pub PollJudged : Outcome → Type 0
   PollJudged o = IsPollJudged old now session o.reply o.after
 
-  pub poll_for_memory : PollJudged (refused old NoMemory)
-  poll_for_memory = record {
-    tells = λ n _. absurd (n refl);
+  poll_stopped : (refusal : Refusal) → (Refused refusal ≢ Refused NoMemory → is_present old session ≡ true → ⊥) → PollJudged (refused old refusal)
+  poll_stopped refusal none = record {
+    tells = λ n here. absurd (none n here);
     told = λ notices e. cc;
     leaves = λ notices e. cc;
   }
 
-  pub poll_judged : PollJudged (polls old now session)
-  poll_judged = by_session (is_open old session) refl
+  pub poll_for_memory : PollJudged (refused old NoMemory)
+  poll_for_memory = poll_stopped NoMemory (λ n _. n refl)
+
+  pub poll_judged : PollJudged (unless_leaving old session (polls old now session))
+  poll_judged =
+      by_leaving PollJudged old session (polls old now session)
+      (λ leaves. poll_stopped Leaving (λ _ here. leaving_is_not_here old session leaves here))
+      (λ stays. by_session stays (is_open old session) refl)
     where
       news : List Notice
       news = news_of old.tree (own_again old now session who)
@@ -207,17 +217,13 @@ module _ (old : State) (now session : ℕ) where
       done : Outcome
       done = record { reply = News news; after = with_session old session who left }
 
-      by_session : (b : Bool) → is_open old session ≡ b → PollJudged (cond (not b) (refused old NoSession) done)
-      by_session true e = record {
+      by_session : is_leaving old session ≡ false → (b : Bool) → is_open old session ≡ b → PollJudged (cond (not b) (refused old NoSession) done)
+      by_session stays true e = record {
         tells = λ _ _. (news, refl);
-        told = λ notices f. (e, subst (AreTold old now session (listeners_of old session)) (same notices f) (all_told (listeners_of old session)));
+        told = λ notices f. (is_here old session e stays, subst (AreTold old now session (listeners_of old session)) (same notices f) (all_told (listeners_of old session)));
         leaves = λ notices f. (left, all_left (listeners_of old session), refl);
       }
         where
           same : (notices : List Notice) → News news ≡ News notices → news ≡ notices
           same notices f = cc
-      by_session false e = record {
-        tells = λ _ opened. absurd (false≢true (sym e ∙ opened));
-        told = λ notices f. cc;
-        leaves = λ notices f. cc;
-      }
+      by_session stays false e = poll_stopped NoSession (λ _ here. closed_is_not_here old session e here)

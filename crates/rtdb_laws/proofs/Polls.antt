@@ -13,12 +13,12 @@ use Rattle.listeners.specs.Query.{Query}
 use Rattle.listeners.specs.Table.{Listener, taken}
 use Rattle.rtdb_model.specs.declared.event.Event.TheVariants.{Poll}
 use Rattle.rtdb_model.specs.declared.news.Notice.{Notice}
-use Rattle.rtdb_model.specs.declared.reply.Refusal.TheVariants.{NoSession, NoMemory}
+use Rattle.rtdb_model.specs.declared.reply.Refusal.TheVariants.{NoSession, Leaving, NoMemory}
 use Rattle.rtdb_model.specs.declared.reply.Reply.{Reply}
 use Rattle.rtdb_model.specs.declared.reply.Reply.TheVariants.{News, Refused}
-use Rattle.rtdb_model.specs.State.{State, opening, is_open, identity_of, listeners_of, scene_at}
+use Rattle.rtdb_model.specs.State.{State, opening, is_open, is_leaving, identity_of, listeners_of, scene_at}
 use Rattle.rtdb_model.specs.Rejudged.{hears, selected_at, moves, judged_again}
-use Rattle.rtdb_model.specs.Step.{Outcome, refused, told, news_of, own_again, with_session, polls, Step, Call, Run}
+use Rattle.rtdb_model.specs.Step.{Outcome, refused, told, news_of, own_again, with_session, polls, outcome, Step, Call, Run}
 use Rattle.rtdb_model.specs.Ends.{notices_of, selection_told, handed_out}
 use Rattle.rtdb_model.specs.Marks.{steps_after, recent, moved_by, IsHistory}
 use Rattle.rtdb_model.proofs.Sameness.{unmoved}
@@ -72,9 +72,9 @@ module _ (old : State) (now : ℕ) (who : Option Identity) where
       outside true = refl
       outside false = refl
 
--- news are answered by an open session
-answered : (old : State) (now n : ℕ) (notices : List Notice) → (polls old now n).reply ≡ News notices → notices ≡ news_of old.tree (own_again old now n (identity_of old n))
-answered old now n notices h = by_open (is_open old n) h
+-- news are answered by a session that is open and not leaving
+answered : (old : State) (now n : ℕ) (notices : List Notice) → (outcome old now n Poll).reply ≡ News notices → notices ≡ news_of old.tree (own_again old now n (identity_of old n))
+answered old now n notices h = by_leaving (is_leaving old n) h
   where
     heard : List Notice
     heard = news_of old.tree (own_again old now n (identity_of old n))
@@ -85,6 +85,10 @@ answered old now n notices h = by_open (is_open old n) h
     by_open : (b : Bool) → (cond (not b) (refused old NoSession) done).reply ≡ News notices → notices ≡ heard
     by_open true g = ap notices_of (sym g)
     by_open false g = let f : Refused NoSession ≡ News notices = g in cc
+
+    by_leaving : (b : Bool) → (cond b (refused old Leaving) (polls old now n)).reply ≡ News notices → notices ≡ heard
+    by_leaving true g = let f : Refused Leaving ≡ News notices = g in cc
+    by_leaving false g = by_open (is_open old n) g
 
 pub polled : (rules : Book) (tree : Tree) (calls : List Call) (replies : List Reply) (old : State) → Run (opening rules tree) calls replies old → (now n : ℕ) (notices : List Notice) (new : State) → Step old now n Poll (News notices) new → handed_out notices ≡ map (λ l. (l.id, non_null (selected_at old.tree l.path l.query))) (filter (λ l. l.marked && hears (scene_at old now n) l.path l.query) (listeners_of old n))
 unfolding Step

@@ -4,7 +4,7 @@ use Rattle.evaluator.specs.Identity.{Identity}
 use Rattle.rules_reader.specs.Book.{Book}
 use Rattle.rules_reader.specs.Place.{HasOneCapture}
 use Rattle.rtdb_model.specs.declared.event.Event.{Event}
-use Rattle.rtdb_model.specs.declared.event.Event.TheVariants.{Open, Close, SignIn, SignOut, Get, Set, Remove, Update, Listen, Unlisten, Poll, Tick, Deploy}
+use Rattle.rtdb_model.specs.declared.event.Event.TheVariants.{Open, Close, SignIn, SignOut, Get, Set, Remove, Update, Listen, Unlisten, Poll, Tick, Deploy, OnSet, OnRemove, OnUpdate, OnCancel, Leave, RunNext}
 use Rattle.rtdb_model.specs.declared.reply.Reply.{Reply}
 use Rattle.rtdb_model.specs.State.{State, identity_of}
 use Rattle.rtdb_model.specs.Step.{Step, Call, Run}
@@ -43,6 +43,12 @@ one_by (Unlisten id) rules h one = one
 one_by Poll rules h one = one
 one_by Tick rules h one = one
 one_by (Deploy deployed) rules h one = h
+one_by (OnSet write) rules h one = one
+one_by (OnRemove path) rules h one = one
+one_by (OnUpdate writes) rules h one = one
+one_by (OnCancel path) rules h one = one
+one_by Leave rules h one = one
+one_by RunNext rules h one = one
 
 one_where : (b : Bool) (event : Event) (rules : Book) → DeploysFile event → HasOneCapture rules → HasOneCapture (cond b (rules_by event rules) rules)
 one_where true event rules h one = one_by event rules h one

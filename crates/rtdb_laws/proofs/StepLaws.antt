@@ -1,5 +1,5 @@
 -- What each step gives.
-use Rattle.std.proofs.Common.{Option, true, ◌≡◌, ◌≢◌, ◌==◌, ◌&&◌, ℕ, cond, inl, inr, List, refl, sym, ap, subst, ◌∙◌}
+use Rattle.std.proofs.Common.{Option, true, ◌≡◌, ◌≢◌, ◌==◌, ◌&&◌, ℕ, cond, inl, inr, List, sym, ap, subst, ◌∙◌}
 use Rattle.std.proofs.lemmas.Bool.{false≢true}
 use Rattle.tree_model.specs.Path.{Path}
 use Rattle.tree_model.specs.Write.{Write}
@@ -7,20 +7,22 @@ use Rattle.rules_reader.specs.Book.{Book}
 use Rattle.rules_reader.specs.Place.{HasOneCapture}
 use Rattle.listeners.specs.Query.{Query}
 use Rattle.rtdb_model.specs.declared.event.Event.{Event}
-use Rattle.rtdb_model.specs.declared.event.Event.TheVariants.{Open, Close, SignIn, SignOut, Get, Set, Remove, Update, Listen, Unlisten, Poll, Tick, Deploy}
+use Rattle.rtdb_model.specs.declared.event.Event.TheVariants.{Open, Close, SignIn, SignOut, Get, Set, Remove, Update, Listen, Unlisten, Poll, Tick, Deploy, OnSet, OnRemove, OnUpdate, OnCancel, Leave, RunNext}
 use Rattle.rtdb_model.specs.declared.reply.Refusal.{Refusal}
 use Rattle.rtdb_model.specs.declared.reply.Refusal.TheVariants.{NoMemory}
 use Rattle.rtdb_model.specs.declared.reply.Reply.{Reply}
 use Rattle.rtdb_model.specs.declared.reply.Reply.TheVariants.{Refused}
 use Rattle.rtdb_model.specs.State.{State, identity_of}
 use Rattle.rtdb_model.specs.Step.{Outcome, refused, removal, outcome, takes_no_memory, Step, Call}
-use Rattle.rtdb_model.specs.Headline.{AsksFor, IsStoppedRightly, Leaves, IsDoneRightly, IsReadJudged, IsListenJudged, IsPollJudged, IsWriteJudged, IsDeployJudged, is_done, rules_by, identity_by, IsJudged}
+use Rattle.rtdb_model.specs.Headline.{AsksFor, KeepsFor, IsStoppedRightly, Leaves, IsDoneRightly, IsReadJudged, IsListenJudged, IsPollJudged, IsWriteJudged, IsKeptRightly, IsRunRightly, IsDeployJudged, is_done, rules_by, identity_by, IsJudged}
 use Rattle.rtdb_laws.proofs.Deploying.{DeployJudged, deploy_for_memory, deploy_judged}
 use Rattle.rtdb_laws.proofs.ListenJudging.{ListenJudged, listen_for_memory, listen_judged, PollJudged, poll_for_memory, poll_judged}
 use Rattle.rtdb_model.proofs.Outcomes.{fine}
 use Rattle.rtdb_laws.proofs.ReadJudging.{ReadJudged, read_for_memory, read_judged}
 use Rattle.rtdb_laws.proofs.Stopping.{stopped_rightly, stop_for_memory, done_rightly, done_for_memory}
 use Rattle.rtdb_laws.proofs.WriteJudging.{WriteJudged, write_for_memory, set_judged, update_judged}
+use Rattle.rtdb_laws.proofs.Keeping.{KeptJudged, keep_for_memory, keep_one_judged, keep_update_judged}
+use Rattle.rtdb_laws.proofs.Running.{RunJudged, run_for_memory, run_judged}
 
 -- ---- laws of every step
 
@@ -86,6 +88,17 @@ unfolding Step
 step_judged old new now session event all reply judged (inl h) = subst (WriteJudged old now session all) h judged
 step_judged old new now session event all reply judged (inr h) = subst (WriteJudged old now session all) (for_memory old new reply h.0 h.1) (write_for_memory old now session all)
 
+-- where the outcome of an event is that its writes are kept rightly, so is its step
+step_kept : (old new : State) (now session : ℕ) (event : Event) (all : List Write) (reply : Reply) → KeptJudged old now session all (outcome old now session event) → Step old now session event reply new → IsKeptRightly old now session all reply new
+unfolding Step
+step_kept old new now session event all reply judged (inl h) = subst (KeptJudged old now session all) h judged
+step_kept old new now session event all reply judged (inr h) = subst (KeptJudged old now session all) (for_memory old new reply h.0 h.1) (keep_for_memory old now session all)
+
+ran_by : (old new : State) (now session : ℕ) (reply : Reply) → HasOneCapture old.rules → Step old now session RunNext reply new → IsRunRightly old now session reply new
+unfolding Step
+ran_by old new now session reply one (inl h) = subst (RunJudged old now session) h (run_judged old now session one)
+ran_by old new now session reply one (inr h) = subst (RunJudged old now session) (for_memory old new reply h.0 h.1) (run_for_memory old now session)
+
 deployed_by : (old new : State) (now session : ℕ) (rules : Book) (reply : Reply) → Step old now session (Deploy rules) reply new → IsDeployJudged old now session rules reply new
 unfolding Step
 deployed_by old new now session rules reply (inl h) = subst (DeployJudged old now session rules) h (deploy_judged old now session rules)
@@ -103,9 +116,37 @@ write_judged old now session Poll all one asks = absurd asks
 write_judged old now session Tick all one asks = absurd asks
 write_judged old now session (Deploy rules) all one asks = absurd asks
 write_judged old now session (Get path query) all one asks = absurd asks
+write_judged old now session (OnSet write) all one asks = absurd asks
+write_judged old now session (OnRemove path) all one asks = absurd asks
+write_judged old now session (OnUpdate writes) all one asks = absurd asks
+write_judged old now session (OnCancel path) all one asks = absurd asks
+write_judged old now session Leave all one asks = absurd asks
+write_judged old now session RunNext all one asks = absurd asks
 write_judged old now session (Set write) all one asks = subst (λ (ws : List Write). WriteJudged old now session ws (outcome old now session (Set write))) (sym asks) (set_judged old now session write one)
 write_judged old now session (Remove path) all one asks = subst (λ (ws : List Write). WriteJudged old now session ws (outcome old now session (Remove path))) (sym asks) (set_judged old now session (removal path) one)
 write_judged old now session (Update writes) all one asks = subst (λ (ws : List Write). WriteJudged old now session ws (outcome old now session (Update writes))) (sym asks) (update_judged old now session writes one)
+
+-- the writes that an event establishes are judged together
+kept_judged : (old : State) (now session : ℕ) (event : Event) (all : List Write) → HasOneCapture old.rules → KeepsFor event all → KeptJudged old now session all (outcome old now session event)
+kept_judged old now session Open all one kept = absurd kept
+kept_judged old now session Close all one kept = absurd kept
+kept_judged old now session (SignIn who) all one kept = absurd kept
+kept_judged old now session SignOut all one kept = absurd kept
+kept_judged old now session (Get path query) all one kept = absurd kept
+kept_judged old now session (Set write) all one kept = absurd kept
+kept_judged old now session (Remove path) all one kept = absurd kept
+kept_judged old now session (Update writes) all one kept = absurd kept
+kept_judged old now session (Listen id path query) all one kept = absurd kept
+kept_judged old now session (Unlisten id) all one kept = absurd kept
+kept_judged old now session Poll all one kept = absurd kept
+kept_judged old now session Tick all one kept = absurd kept
+kept_judged old now session (Deploy rules) all one kept = absurd kept
+kept_judged old now session (OnSet write) all one kept = subst (λ (ws : List Write). KeptJudged old now session ws (outcome old now session (OnSet write))) (sym kept) (keep_one_judged old now session write one)
+kept_judged old now session (OnRemove path) all one kept = subst (λ (ws : List Write). KeptJudged old now session ws (outcome old now session (OnRemove path))) (sym kept) (keep_one_judged old now session (removal path) one)
+kept_judged old now session (OnUpdate writes) all one kept = subst (λ (ws : List Write). KeptJudged old now session ws (outcome old now session (OnUpdate writes))) (sym kept) (keep_update_judged old now session writes one)
+kept_judged old now session (OnCancel path) all one kept = absurd kept
+kept_judged old now session Leave all one kept = absurd kept
+kept_judged old now session RunNext all one kept = absurd kept
 
 -- a step at an event that is told by an equation
 at_event : (old new : State) (call : Call) (reply : Reply) → Step old call.now call.session call.event reply new → (event : Event) → call.event ≡ event → Step old call.now call.session event reply new
@@ -120,6 +161,8 @@ judged old new call reply one s = record {
   listen = λ id path query is. listened_by old new call.now call.session id path query reply one (at_event old new call reply s _ is);
   poll = λ is. polled_by old new call.now call.session reply (at_event old new call reply s _ is);
   write = λ all asks. step_judged old new call.now call.session call.event all reply (write_judged old call.now call.session call.event all one asks) s;
+  keep = λ all kept. step_kept old new call.now call.session call.event all reply (kept_judged old call.now call.session call.event all one kept) s;
+  run = λ is. ran_by old new call.now call.session reply one (at_event old new call reply s _ is);
   deploy = λ rules is. deployed_by old new call.now call.session rules reply (at_event old new call reply s _ is);
   refused = λ refusal told. refused_stays old new call.now call.session call.event refusal (subst (λ (r : Reply). Step old call.now call.session call.event r new) told s);
   memory = λ none. answered old new call.now call.session call.event reply none s;

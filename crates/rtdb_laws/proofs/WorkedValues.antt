@@ -43,12 +43,13 @@ use Rattle.rtdb_model.specs.declared.event.Event.TheVariants.{Get, Set}
 use Rattle.rtdb_model.specs.declared.reply.Refusal.TheVariants.{NoSession, ReadDenied, WriteDenied, NoMemory}
 use Rattle.rtdb_model.specs.declared.reply.Reply.{Reply}
 use Rattle.rtdb_model.specs.declared.reply.Reply.TheVariants.{Done, Value, Refused}
-use Rattle.rtdb_model.specs.State.{State, fresh, is_open, scene_at}
+use Rattle.rtdb_model.specs.State.{State, Session, fresh, session_or_fresh, is_open, is_present, scene_at}
 use Rattle.rtdb_model.specs.Rejudged.{asked_for}
 use Rattle.rtdb_model.specs.Step.{Step, tree_with}
 use Rattle.rtdb_model.specs.Headline.{IsJudged, AreJudged, GrantsAll, Validates, IsLeastDenied}
 use Rattle.rtdb_laws.specs.Worked.{at_the_root, one_session, root_alone}
 use Rattle.rtdb_model.proofs.Answers.{some_answer}
+use Rattle.rtdb_laws.proofs.Present.{is_here}
 use Rattle.rtdb_laws.proofs.StepLaws.{judged}
 
 nothing_in : {A : Type 0} (xs : List A) → length xs ≡ 0 → xs ≡ []
@@ -153,8 +154,11 @@ module _ (x y : Expression) where
     abbrev state : State
     state = one_session rules tree
 
-    open_is : is_open state 1 ≡ true
-    open_is = ap is_some (map_of.get-insert nat_cmp_total map_of.empty 1 fresh 1)
+    session_is : map_of.get state.sessions 1 ≡ Some fresh
+    session_is = map_of.get-insert nat_cmp_total map_of.empty 1 fresh 1
+
+    here_is : is_present state 1 ≡ true
+    here_is = is_here state 1 (ap is_some session_is) (ap (λ (o : Option Session). (session_or_fresh o).leaving) session_is)
 
     closed_is : is_open state 2 ≡ false
     closed_is = ap is_some (map_of.get-insert nat_cmp_total map_of.empty 1 fresh 2 ∙ map_of.get-empty nat_cmp 2)
@@ -170,7 +174,7 @@ module _ (x y : Expression) where
     read_denied a why is reason now path = steps_so now 1 (Get path None) _ state (λ other new n j.
         let read = j.read path None refl in
         let q = reading (scene_at state now 1) (asked_for None) in
-        (read.denies n open_is (not_granted q refl Read _ refl a is fails path) ∙ ap (λ (ns : List Named). Refused (ReadDenied ns)) (named_so q refl Read _ refl a why is reason path), read.stays))
+        (read.denies n here_is (not_granted q refl Read _ refl a is fails path) ∙ ap (λ (ns : List Named). Refused (ReadDenied ns)) (named_so q refl Read _ refl a why is reason path), read.stays))
       where
         fails : a ≢ Yes
         fails e = never (sym (ap why_of e) ∙ reason)
@@ -182,13 +186,13 @@ module _ (x y : Expression) where
     unfolding selection
     read_granted is now path = steps_so now 1 (Get path None) _ state (λ other new n j.
         let read = j.read path None refl in
-        (read.grants n open_is (granted_by (reading (scene_at state now 1) (asked_for None)) refl Read _ refl is path), read.stays))
+        (read.grants n here_is (granted_by (reading (scene_at state now 1) (asked_for None)) refl Read _ refl is path), read.stays))
 
     pub read_closed : (now : ℕ) (path : Path) → Step state now 2 (Get path None) (Refused NoSession) state
     read_closed now path = steps_so now 2 (Get path None) _ state (λ other new n j. (j.stopped.stopped NoSession (refl, closed_is), (j.read path None refl).stays))
 
     one_judged : (write : Write) → AreJudged state 1 (write ∷ [])
-    one_judged write = record { opened = open_is; some = λ e. cc; apart = refl }
+    one_judged write = record { present = here_is; some = λ e. cc; apart = refl }
 
     pub write_denied : (a : Outcome) (why : Why) → ((env : Env) → outcome y env ≡ a) → why_of a ≡ Some why → (now : ℕ) (write : Write) → Step state now 1 (Set write) (Refused (WriteDenied (location write) (root_alone why))) state
     write_denied a why is reason now write = steps_so now 1 (Set write) _ state (λ other new n j.

@@ -22,19 +22,22 @@ use Rattle.judge.proofs.Verdicts.{writes_decided, one_verdict, texts_named}
 use Rattle.rtdb_model.specs.declared.limits.TheConstants.{MAX_LOCATIONS}
 use Rattle.rtdb_model.specs.declared.reply.Refusal.{Refusal}
 use Rattle.rtdb_model.specs.declared.reply.Refusal.TheVariants as refusals
-use Rattle.rtdb_model.specs.declared.reply.Refusal.TheVariants.{NoSession, EmptyUpdate, Overlap, WriteDenied, ValidateDenied, TreeFull, NoMemory}
+use Rattle.rtdb_model.specs.declared.reply.Refusal.TheVariants.{NoSession, EmptyUpdate, Overlap, Leaving, WriteDenied, ValidateDenied, TreeFull, NoMemory}
 use Rattle.rtdb_model.specs.declared.reply.Reply.{Reply}
-use Rattle.rtdb_model.specs.declared.reply.Reply.TheVariants.{Done, Value, News, Refused}
-use Rattle.rtdb_model.specs.State.{State, is_open, scene_at}
+use Rattle.rtdb_model.specs.declared.reply.Reply.TheVariants.{Done, Value, News, Refused, Ran, Closed}
+use Rattle.rtdb_model.specs.State.{State, is_open, is_leaving, is_present, scene_at}
 use Rattle.rtdb_model.specs.Step.{Outcome, refused, unless_refused, denial, full, or_full, tree_with, verdict_on, write_refusal, written_to, makes, sets, updates}
 use Rattle.rtdb_model.specs.Headline.{AreOwed, AreJudged, GrantsAll, Validates, IsLeastDenied, named_for_write, FailsFirst, Fits, Overflows, IsWriteJudged}
 use Rattle.rtdb_laws.proofs.Naming.{names_owed}
+use Rattle.rtdb_laws.proofs.Present.{is_here, closed_is_not_here, leaving_is_not_here, unless_leaving, by_leaving}
 
 -- the reply comes of judging writes
-abbrev is_judgement : Reply → Bool
+abbrev pub is_judgement : Reply → Bool
 is_judgement Done = true
 is_judgement (Value tree) = false
 is_judgement (News notices) = false
+is_judgement (Ran ran) = false
+is_judgement (Closed dropped) = false
 is_judgement (Refused refusals.SessionOpen) = false
 is_judgement (Refused refusals.TooManySessions) = false
 is_judgement (Refused refusals.NoSession) = false
@@ -44,6 +47,9 @@ is_judgement (Refused refusals.Overlap) = false
 is_judgement (Refused refusals.DuplicateId) = false
 is_judgement (Refused refusals.TooManyListeners) = false
 is_judgement (Refused refusals.NoListener) = false
+is_judgement (Refused refusals.Leaving) = false
+is_judgement (Refused refusals.TooManyActions) = false
+is_judgement (Refused refusals.NotLeaving) = false
 is_judgement (Refused (refusals.ReadDenied named)) = false
 is_judgement (Refused (refusals.WriteDenied at named)) = true
 is_judgement (Refused (refusals.ValidateDenied at pattern why)) = true
@@ -51,15 +57,24 @@ is_judgement (Refused refusals.TreeFull) = true
 is_judgement (Refused refusals.NoMemory) = false
 is_judgement (Refused refusals.Spent) = false
 
+-- ---- lists of writes
+
+pub some_writes : (all : List Write) → length all == 0 ≡ false → all ≢ []
+some_writes all h e = false≢true (sym h ∙ ap (λ (ws : List Write). length ws == 0) e)
+
+pub no_writes : (all : List Write) → length all == 0 ≡ true → all ≡ []
+no_writes [] h = refl
+no_writes (w ∷ ws) h = let z : length (w ∷ ws) ≡ 0 = eqb-true (length (w ∷ ws)) 0 h in absurd (omega arith)
+
 module _ (old : State) (now session : ℕ) (all : List Write) where
   abbrev pub WriteJudged : Outcome → Type 0
   WriteJudged o = IsWriteJudged old now session all o.reply o.after
 
-  abbrev IsVerdict : Verdict → Type 0
+  abbrev pub IsVerdict : Verdict → Type 0
   IsVerdict v = IsWriteVerdict (scene_at old now session) (tree_with old now all) (map location all) v
 
   -- what is asked of the rules
-  abbrev asked : Question
+  abbrev pub asked : Question
   asked = writing (scene_at old now session) (tree_with old now all)
 
   abbrev done : Outcome
@@ -87,18 +102,28 @@ module _ (old : State) (now session : ℕ) (all : List Write) where
   pub write_for_memory : WriteJudged (refused old NoMemory)
   write_for_memory = write_stopped NoMemory refl (λ n _. n refl)
 
-  pub write_closed : is_open old session ≡ false → WriteJudged (refused old NoSession)
-  write_closed closed = write_stopped NoSession refl (λ _ j. false≢true (sym closed ∙ j.opened))
+  write_closed : is_open old session ≡ false → WriteJudged (refused old NoSession)
+  write_closed closed = write_stopped NoSession refl (λ _ j. closed_is_not_here old session closed j.present)
+
+  write_leaving : is_leaving old session ≡ true → WriteJudged (refused old Leaving)
+  write_leaving leaves = write_stopped Leaving refl (λ _ j. leaving_is_not_here old session leaves j.present)
 
   -- ---- judged
 
-  module _ (j : AreJudged old session all) where
-    no_failure : Validates old now session all → (at : Path) (pattern : Pattern) (why : Why) → FailsFirst old now session all at pattern why → ⊥
-    no_failure valid at pattern why f = never (sym (ap why_of (valid at pattern f.fails.fails.answer f.fails.exists f.fails.touched f.fails.fails.answers)) ∙ f.fails.fails.reason)
-      where
-        never : None ≡ Some why → ⊥
-        never e = cc
+  pub no_failure : Validates old now session all → (at : Path) (pattern : Pattern) (why : Why) → FailsFirst old now session all at pattern why → ⊥
+  no_failure valid at pattern why f = never (sym (ap why_of (valid at pattern f.fails.fails.answer f.fails.exists f.fails.touched f.fails.fails.answers)) ∙ f.fails.fails.reason)
+    where
+      never : None ≡ Some why → ⊥
+      never e = cc
 
+  -- the verdict is one, and there is no other
+  pub is_verdict : IsVerdict (verdict_on old now session all)
+  is_verdict = writes_decided (scene_at old now session) (tree_with old now all) (map location all) (verdict_on old now session all) refl
+
+  pub only_verdict : HasOneCapture old.rules → (w : Verdict) → IsVerdict w → w ≡ verdict_on old now session all
+  only_verdict one w h = one_verdict (scene_at old now session) (tree_with old now all) (map location all) w one h
+
+  module _ (j : AreJudged old session all) where
     write_made : GrantsAll old now session all → Validates old now session all → Fits old now all → WriteJudged done
     write_made granted valid fits = record {
       makes = λ _ _ _ _ _. (refl, refl);
@@ -182,7 +207,7 @@ module _ (old : State) (now session : ℕ) (all : List Write) where
         within true e = write_made granted valid (leb-true (count (tree_with old now all)) MAX_LOCATIONS e)
         within false e = write_full granted valid (leb-false (count (tree_with old now all)) MAX_LOCATIONS e)
 
-    by_verdict : HasOneCapture old.rules → (v : Verdict) → IsVerdict v → ((w : Verdict) → IsVerdict w → w ≡ v) → WriteJudged (unless_refused old (or_full (denial v) (tree_with old now all)) done)
+    pub by_verdict : HasOneCapture old.rules → (v : Verdict) → IsVerdict v → ((w : Verdict) → IsVerdict w → w ≡ v) → WriteJudged (unless_refused old (or_full (denial v) (tree_with old now all)) done)
     by_verdict one verdicts.Granted h only = by_room h.0 h.1
     by_verdict one (verdicts.ReadDenied named) h only = absurd h
     by_verdict one (verdicts.WriteDenied at named) h only = write_denied one at named h only
@@ -190,41 +215,34 @@ module _ (old : State) (now session : ℕ) (all : List Write) where
 
     pub makes_judged : HasOneCapture old.rules → WriteJudged (makes old now session all)
     unfolding write_refusal
-    makes_judged one =
-        by_verdict one (verdict_on old now session all)
-        (writes_decided (scene_at old now session) (tree_with old now all) (map location all) (verdict_on old now session all) refl)
-        (λ w h. one_verdict (scene_at old now session) (tree_with old now all) (map location all) w one h)
+    makes_judged one = by_verdict one (verdict_on old now session all) is_verdict (only_verdict one)
 
 -- ---- the events
 
-pub set_judged : (old : State) (now session : ℕ) (write : Write) → HasOneCapture old.rules → WriteJudged old now session (write ∷ []) (sets old now session write)
-set_judged old now session write one = by_session (is_open old session) refl
+pub set_judged : (old : State) (now session : ℕ) (write : Write) → HasOneCapture old.rules → WriteJudged old now session (write ∷ []) (unless_leaving old session (sets old now session write))
+set_judged old now session write one =
+    by_leaving (WriteJudged old now session (write ∷ [])) old session (sets old now session write)
+    (write_leaving old now session (write ∷ []))
+    (λ stays. by_session stays (is_open old session) refl)
   where
-    by_session : (b : Bool) → is_open old session ≡ b → WriteJudged old now session (write ∷ []) (cond (not b) (refused old NoSession) (makes old now session (write ∷ [])))
-    by_session true e = makes_judged old now session (write ∷ []) record { opened = e; some = λ f. cc; apart = refl } one
-    by_session false e = write_closed old now session (write ∷ []) e
+    by_session : is_leaving old session ≡ false → (b : Bool) → is_open old session ≡ b → WriteJudged old now session (write ∷ []) (cond (not b) (refused old NoSession) (makes old now session (write ∷ [])))
+    by_session stays true e = makes_judged old now session (write ∷ []) record { present = is_here old session e stays; some = λ f. cc; apart = refl } one
+    by_session stays false e = write_closed old now session (write ∷ []) e
 
-pub update_judged : (old : State) (now session : ℕ) (all : List Write) → HasOneCapture old.rules → WriteJudged old now session all (updates old now session all)
-update_judged old now session all one = by_session (is_open old session) refl
+pub update_judged : (old : State) (now session : ℕ) (all : List Write) → HasOneCapture old.rules → WriteJudged old now session all (unless_leaving old session (updates old now session all))
+update_judged old now session all one =
+    by_leaving (WriteJudged old now session all) old session (updates old now session all)
+    (write_leaving old now session all)
+    (λ stays. by_session stays (is_open old session) refl)
   where
-    some : length all == 0 ≡ false → all ≢ []
-    some h e = false≢true (sym h ∙ ap (λ (ws : List Write). length ws == 0) e)
-
-    none : length all == 0 ≡ true → all ≡ []
-    none h = nil all h
-      where
-        nil : (ws : List Write) → length ws == 0 ≡ true → ws ≡ []
-        nil [] g = refl
-        nil (w ∷ ws) g = let z : length (w ∷ ws) ≡ 0 = eqb-true (length (w ∷ ws)) 0 g in absurd (omega arith)
-
-    by_overlap : is_open old session ≡ true → length all == 0 ≡ false → (b : Bool) → overlaps all ≡ b → WriteJudged old now session all (cond b (refused old Overlap) (makes old now session all))
+    by_overlap : is_present old session ≡ true → length all == 0 ≡ false → (b : Bool) → overlaps all ≡ b → WriteJudged old now session all (cond b (refused old Overlap) (makes old now session all))
     by_overlap e f true g = write_stopped old now session all Overlap refl (λ _ j. false≢true (sym j.apart ∙ g))
-    by_overlap e f false g = makes_judged old now session all record { opened = e; some = some f; apart = g } one
+    by_overlap e f false g = makes_judged old now session all record { present = e; some = some_writes all f; apart = g } one
 
-    by_length : is_open old session ≡ true → (b : Bool) → length all == 0 ≡ b → WriteJudged old now session all (cond b (refused old EmptyUpdate) (cond (overlaps all) (refused old Overlap) (makes old now session all)))
-    by_length e true f = write_stopped old now session all EmptyUpdate refl (λ _ j. j.some (none f))
+    by_length : is_present old session ≡ true → (b : Bool) → length all == 0 ≡ b → WriteJudged old now session all (cond b (refused old EmptyUpdate) (cond (overlaps all) (refused old Overlap) (makes old now session all)))
+    by_length e true f = write_stopped old now session all EmptyUpdate refl (λ _ j. j.some (no_writes all f))
     by_length e false f = by_overlap e f (overlaps all) refl
 
-    by_session : (b : Bool) → is_open old session ≡ b → WriteJudged old now session all (cond (not b) (refused old NoSession) (cond (length all == 0) (refused old EmptyUpdate) (cond (overlaps all) (refused old Overlap) (makes old now session all))))
-    by_session true e = by_length e (length all == 0) refl
-    by_session false e = write_closed old now session all e
+    by_session : is_leaving old session ≡ false → (b : Bool) → is_open old session ≡ b → WriteJudged old now session all (cond (not b) (refused old NoSession) (cond (length all == 0) (refused old EmptyUpdate) (cond (overlaps all) (refused old Overlap) (makes old now session all))))
+    by_session stays true e = by_length (is_here old session e stays) (length all == 0) refl
+    by_session stays false e = write_closed old now session all e

@@ -5,11 +5,15 @@
 //! and runs holds of it.
 #![tactic(auto)]
 
+mod action_laws;
 mod listener_laws;
 mod run_laws;
 mod step_laws;
 mod worked;
 
+pub use action_laws::{
+    a_run_makes_the_first_that_waits, an_action_has_one_end, what_waits_is_what_was_established,
+};
 pub use listener_laws::{
     a_failed_grant_is_the_end, a_poll_hands_out_what_was_marked, marks_are_history,
     the_tests_of_listeners_decide, what_a_grant_hangs_on_changes_where_it_is_judged,

@@ -14,7 +14,8 @@ pub fn a_refused_event_changes_nothing()
 {}
 
 /// An event that takes no memory is not answered by want of it: one that is refused before any rule is
-/// asked, one that closes its session, and one that ends a listener.
+/// asked, one that closes its session or lets it leave, one that ends a listener, and one that takes
+/// actions back.
 pub fn what_takes_no_memory_is_answered()
     ensures { (old new : State) (now session : ℕ) (event : Event) (reply : Reply) → takes_no_memory old session event ≡ true → Step old now session event reply new → reply ≢ Reply.Refused Refusal.NoMemory }
 {}
@@ -29,9 +30,11 @@ pub fn no_step_answers_spent()
 /// refuse is done exactly where none of these stops it; a read is answered by what stands there, and
 /// writes are made together, exactly where nothing else stops them, the rules grant and validate them,
 /// and the tree has room; where the rules do not, they are denied with the names that a denial owes; a
-/// poll tells its news and leaves those that are granted; rules are deployed exactly where an
-/// administrator asks for it on an open session; nothing else changes. (Reference, `.read`, `.write` and
-/// `.validate`; the other refusals and deployments are this project's profile.)
+/// poll tells its news and leaves those that are granted; what is to be written when a session goes is
+/// judged where it is established, and again where it is run; rules are deployed exactly where an
+/// administrator asks for it on a session that is open and not leaving; nothing else changes.
+/// (Reference, `.read`, `.write` and `.validate`; the other refusals and deployments are this project's
+/// profile.)
 pub fn every_step_is_judged()
     ensures { (old new : State) (call : Call) (reply : Reply) → HasOneCapture old.rules → Step old call.now call.session call.event reply new → IsJudged old call reply new }
 {}

@@ -1,5 +1,5 @@
 -- An event with the moment of its step filled in is answered as the event is.
-use Rattle.std.proofs.Common.{◌≡◌, ◌==◌, ◌||◌, ◌<◌, ◌≤◌, ◌+◌, ℕ, zero, suc, Bool, true, cond, not, List, [], ◌∷◌, map, length, get_or, inl, inr, All, refl, sym, ap, ◌∙◌, arith}
+use Rattle.std.proofs.Common.{◌≡◌, ◌==◌, ◌&&◌, ◌||◌, ◌<◌, ◌≤◌, ◌+◌, ℕ, zero, suc, Bool, true, cond, not, List, [], ◌∷◌, map, length, get_or, inl, inr, All, refl, sym, ap, ◌∙◌, arith}
 use Rattle.std.specs.Prelude.{pos, int_le}
 use Rattle.std.specs.Ordering.{is_lt}
 use Rattle.std.specs.List.Sorted.{IsSortedBy, IsPermutation}
@@ -17,22 +17,22 @@ use Rattle.tree_model.proofs.Choices.{both_so}
 use Rattle.evaluator.specs.declared.env.TheConstants.{MAX_MOMENT}
 use Rattle.judge.specs.Tests.{write_verdict}
 use Rattle.rtdb_model.specs.declared.event.Event.{Event}
-use Rattle.rtdb_model.specs.declared.event.Event.TheVariants.{Open, Close, SignIn, SignOut, Get, Set, Remove, Update, Listen, Unlisten, Poll, Tick, Deploy}
+use Rattle.rtdb_model.specs.declared.event.Event.TheVariants.{Open, Close, SignIn, SignOut, Get, Set, Remove, Update, Listen, Unlisten, Poll, Tick, Deploy, OnSet, OnRemove, OnUpdate, OnCancel, Leave, RunNext}
 use Rattle.rtdb_model.specs.declared.reply.Reply.{Reply}
 use Rattle.rtdb_model.specs.declared.reply.Reply.TheVariants.{Done}
-use Rattle.rtdb_model.specs.declared.reply.Refusal.TheVariants.{NoSession, EmptyUpdate, Overlap}
-use Rattle.rtdb_model.specs.State.{State, is_open, scene_at}
+use Rattle.rtdb_model.specs.declared.reply.Refusal.TheVariants.{NoSession, EmptyUpdate, Overlap, Leaving}
+use Rattle.rtdb_model.specs.State.{State, is_open, is_leaving, scene_at}
 use Rattle.rtdb_model.specs.Rejudged.{all_rejudged}
 use Rattle.rtdb_model.specs.FilledWrites.{filled_in}
 use Rattle.rtdb_model.specs.Filled.{filled}
-use Rattle.rtdb_model.specs.Step.{Outcome, refused, unless_refused, denial, or_full, tree_with, write_refusal, makes, sets, updates, outcome, takes_no_memory, Step}
+use Rattle.rtdb_model.specs.Step.{Outcome, refused, unless_refused, denial, or_full, tree_with, write_refusal, makes, sets, updates, wants_presence, unbarred, outcome, takes_none, takes_no_memory, Step}
 
 -- ---- writes
 
 made_filled : (now : ℕ) (w : Write) → made now (filled_in now w) ≡ made now w
 made_filled now w = λ i. (location w, at-as_draft now (written (made now w)) i)
 
-all_filled : (now : ℕ) (ws : List Write) → all_made now (map (filled_in now) ws) ≡ all_made now ws
+pub all_filled : (now : ℕ) (ws : List Write) → all_made now (map (filled_in now) ws) ≡ all_made now ws
 all_filled now [] = refl
 all_filled now (w ∷ ws) = λ i. made_filled now w i ∷ all_filled now ws i
 
@@ -40,7 +40,7 @@ locations_filled : (now : ℕ) (ws : List Write) → map location (map (filled_i
 locations_filled now [] = refl
 locations_filled now (w ∷ ws) = ap (λ ls. location w ∷ ls) (locations_filled now ws)
 
-overlaps_filled : (now : ℕ) (ws : List Write) → overlaps (map (filled_in now) ws) ≡ overlaps ws
+pub overlaps_filled : (now : ℕ) (ws : List Write) → overlaps (map (filled_in now) ws) ≡ overlaps ws
 overlaps_filled now ws = sym (overlaps-made now (map (filled_in now) ws)) ∙ ap overlaps (all_filled now ws) ∙ overlaps-made now ws
 
 empty_filled : (now : ℕ) (ws : List Write) → length (map (filled_in now) ws) == 0 ≡ length ws == 0
@@ -83,37 +83,76 @@ module _ (old : State) (now session : ℕ) where
   unfolding write_refusal
   makes_filled ws = λ i. makes_of (merged old.tree (all_filled now ws i)) (locations_filled now ws i)
 
-  pub outcome_filled : (event : Event) → outcome old now session (filled now event) ≡ outcome old now session event
-  outcome_filled Open = refl
-  outcome_filled Close = refl
-  outcome_filled (SignIn who) = refl
-  outcome_filled SignOut = refl
-  outcome_filled (Get path query) = refl
-  outcome_filled (Set write) = ap (cond (not (is_open old session)) (refused old NoSession)) (makes_filled (write ∷ []))
-  outcome_filled (Remove path) = refl
-  outcome_filled (Update ws) = λ i.
+  unbarred_filled : (event : Event) → unbarred old now session (filled now event) ≡ unbarred old now session event
+  unbarred_filled Open = refl
+  unbarred_filled Close = refl
+  unbarred_filled (SignIn who) = refl
+  unbarred_filled SignOut = refl
+  unbarred_filled (Get path query) = refl
+  unbarred_filled (Set write) = ap (cond (not (is_open old session)) (refused old NoSession)) (makes_filled (write ∷ []))
+  unbarred_filled (Remove path) = refl
+  unbarred_filled (Update ws) = λ i.
       cond (not (is_open old session)) (refused old NoSession)
       (cond (empty_filled now ws i) (refused old EmptyUpdate) (cond (overlaps_filled now ws i) (refused old Overlap) (makes_filled ws i)))
-  outcome_filled (Listen id path query) = refl
-  outcome_filled (Unlisten id) = refl
-  outcome_filled Poll = refl
-  outcome_filled Tick = refl
-  outcome_filled (Deploy rules) = refl
+  unbarred_filled (Listen id path query) = refl
+  unbarred_filled (Unlisten id) = refl
+  unbarred_filled Poll = refl
+  unbarred_filled Tick = refl
+  unbarred_filled (Deploy rules) = refl
+  unbarred_filled (OnSet write) = refl
+  unbarred_filled (OnRemove path) = refl
+  unbarred_filled (OnUpdate writes) = refl
+  unbarred_filled (OnCancel path) = refl
+  unbarred_filled Leave = refl
+  unbarred_filled RunNext = refl
+
+  none_filled : (event : Event) → takes_none old session (filled now event) ≡ takes_none old session event
+  none_filled Open = refl
+  none_filled Close = refl
+  none_filled (SignIn who) = refl
+  none_filled SignOut = refl
+  none_filled (Get path query) = refl
+  none_filled (Set write) = refl
+  none_filled (Remove path) = refl
+  none_filled (Update ws) = λ i. not (is_open old session) || empty_filled now ws i || overlaps_filled now ws i
+  none_filled (Listen id path query) = refl
+  none_filled (Unlisten id) = refl
+  none_filled Poll = refl
+  none_filled Tick = refl
+  none_filled (Deploy rules) = refl
+  none_filled (OnSet write) = refl
+  none_filled (OnRemove path) = refl
+  none_filled (OnUpdate writes) = refl
+  none_filled (OnCancel path) = refl
+  none_filled Leave = refl
+  none_filled RunNext = refl
+
+  presence_filled : (event : Event) → wants_presence (filled now event) ≡ wants_presence event
+  presence_filled Open = refl
+  presence_filled Close = refl
+  presence_filled (SignIn who) = refl
+  presence_filled SignOut = refl
+  presence_filled (Get path query) = refl
+  presence_filled (Set write) = refl
+  presence_filled (Remove path) = refl
+  presence_filled (Update writes) = refl
+  presence_filled (Listen id path query) = refl
+  presence_filled (Unlisten id) = refl
+  presence_filled Poll = refl
+  presence_filled Tick = refl
+  presence_filled (Deploy rules) = refl
+  presence_filled (OnSet write) = refl
+  presence_filled (OnRemove path) = refl
+  presence_filled (OnUpdate writes) = refl
+  presence_filled (OnCancel path) = refl
+  presence_filled Leave = refl
+  presence_filled RunNext = refl
+
+  pub outcome_filled : (event : Event) → outcome old now session (filled now event) ≡ outcome old now session event
+  outcome_filled event = λ i. cond (presence_filled event i && is_leaving old session) (refused old Leaving) (unbarred_filled event i)
 
   pub memory_filled : (event : Event) → takes_no_memory old session (filled now event) ≡ takes_no_memory old session event
-  memory_filled Open = refl
-  memory_filled Close = refl
-  memory_filled (SignIn who) = refl
-  memory_filled SignOut = refl
-  memory_filled (Get path query) = refl
-  memory_filled (Set write) = refl
-  memory_filled (Remove path) = refl
-  memory_filled (Update ws) = λ i. not (is_open old session) || empty_filled now ws i || overlaps_filled now ws i
-  memory_filled (Listen id path query) = refl
-  memory_filled (Unlisten id) = refl
-  memory_filled Poll = refl
-  memory_filled Tick = refl
-  memory_filled (Deploy rules) = refl
+  memory_filled event = λ i. (presence_filled event i && is_leaving old session) || none_filled event i
 
   pub step_filled : (event : Event) (reply : Reply) (new : State) → Step old now session (filled now event) reply new → Step old now session event reply new
   unfolding Step

@@ -18,17 +18,18 @@ use Rattle.listeners.specs.declared.limits.TheConstants.{MAX_LISTENERS}
 use Rattle.listeners.specs.Query.{Query}
 use Rattle.listeners.specs.Table.{Listener, has_id, without_id}
 use Rattle.rtdb_model.specs.Headline.{is_done, rules_by, identity_by}
-use Rattle.rtdb_model.specs.declared.limits.TheConstants.{MAX_SESSIONS, MAX_LOCATIONS}
+use Rattle.rtdb_model.specs.declared.limits.TheConstants.{MAX_SESSIONS, MAX_ACTIONS, MAX_LOCATIONS}
 use Rattle.rtdb_model.specs.declared.event.Event.{Event}
-use Rattle.rtdb_model.specs.declared.event.Event.TheVariants.{Open, Close, SignIn, SignOut, Get, Set, Remove, Update, Listen, Unlisten, Poll, Tick, Deploy}
+use Rattle.rtdb_model.specs.declared.event.Event.TheVariants.{Open, Close, SignIn, SignOut, Get, Set, Remove, Update, Listen, Unlisten, Poll, Tick, Deploy, OnSet, OnRemove, OnUpdate, OnCancel, Leave, RunNext}
 use Rattle.rtdb_model.specs.declared.reply.Refusal.{Refusal}
-use Rattle.rtdb_model.specs.declared.reply.Refusal.TheVariants.{SessionOpen, TooManySessions, NoSession, NotAdmin, EmptyUpdate, Overlap, DuplicateId, TooManyListeners, NoListener, TreeFull, NoMemory, Spent}
+use Rattle.rtdb_model.specs.declared.reply.Refusal.TheVariants.{SessionOpen, TooManySessions, NoSession, NotAdmin, EmptyUpdate, Overlap, DuplicateId, TooManyListeners, NoListener, Leaving, TooManyActions, NotLeaving, TreeFull, NoMemory, Spent}
 use Rattle.rtdb_model.specs.declared.reply.Reply.{Reply}
-use Rattle.rtdb_model.specs.declared.reply.Reply.TheVariants.{Done, Value, News, Refused}
-use Rattle.rtdb_model.specs.State.{Session, Sessions, State, fresh, is_open, identity_of, listeners_of, is_admin, scene_at}
+use Rattle.rtdb_model.specs.declared.reply.Reply.TheVariants.{Done, Value, News, Refused, Ran, Closed}
+use Rattle.rtdb_model.specs.declared.reply.Ran.TheVariants.{Empty, Applied, Skipped}
+use Rattle.rtdb_model.specs.State.{Action, Session, Sessions, State, fresh, is_open, is_leaving, actions_of, identity_of, listeners_of, is_admin, scene_at}
 use Rattle.rtdb_model.specs.Rejudged.{asked_for, selected_at, all_rejudged}
-use Rattle.rtdb_model.specs.Step.{Outcome, refused, unless_refused, denial, full, or_full, tree_with, verdict_on, write_refusal, read_refusal, opened, opens, closed, closes, with_session, own_again, signed, signs, deploys, value_at, gets, written_to, makes, sets, removal, updates, listens, unlistens, news_of, polls, outcome}
-use Rattle.rtdb_model.proofs.Slots.{identity-with, identity-again}
+use Rattle.rtdb_model.specs.Step.{Outcome, refused, unless_refused, denial, full, or_full, tree_with, verdict_on, write_refusal, read_refusal, opened, opens, closed, closes, with_session, own_again, signed, signs, deploys, value_at, gets, written_to, makes, sets, removal, updates, listens, unlistens, news_of, polls, with_actions, with_action, keeps, keeps_one, keeps_update, without_actions, cancels, departing, leaves, writes_of, run_by, runs_first, runs, wants_presence, unbarred, outcome}
+use Rattle.rtdb_model.proofs.Slots.{identity-with, identity-again, identity-actions, identity-departing}
 
 -- who is signed in on each session after an event of one that was answered so
 abbrev SignsOnly : State → ℕ → Event → Outcome → Type 0
@@ -135,7 +136,12 @@ module _ (old : State) (session : ℕ) where
   fine_close : IsFine old session Close (closes old session)
   fine_close =
       either old session Close (not (is_open old session)) _ _ (closed_refused Close)
-      (fine_done old session Close (closed old session) refl (λ other. at_session old session other (closed old session).sessions None (map_of.get-remove nat_cmp_total old.sessions session other)))
+      (record {
+        stays = λ refusal e. cc;
+        answers = (λ e. cc, λ e. cc);
+        rules = refl;
+        identities = λ other. at_session old session other (closed old session).sessions None (map_of.get-remove nat_cmp_total old.sessions session other);
+      })
 
   fine_sign : (now : ℕ) (event : Event) (who : Option Identity) → rules_by event old.rules ≡ old.rules → ((before : Option Identity) → identity_by event before ≡ who) → IsFine old session event (signs old now session who)
   fine_sign now event who keeps leaves =
@@ -218,17 +224,78 @@ module _ (old : State) (session : ℕ) where
       either old session Poll (not (is_open old session)) _ _ (closed_refused Poll)
       (fine_own Poll (News (news_of old.tree (own_again old now session (identity_of old session)))) _ (λ refusal e. cc) refl (λ _. refl))
 
+  -- ---- what is written when a session goes
+
+  -- nothing but a session's actions, or its leaving, is another
+  fine_quiet : (event : Event) (new : State) → rules_by event old.rules ≡ old.rules → ((before : Option Identity) → identity_by event before ≡ before) → new.rules ≡ old.rules → ((other : ℕ) → identity_of new other ≡ identity_of old other) → IsFine old session event (record { reply = Done; after = new })
+  fine_quiet event new keeps leaves rules same =
+      fine_done old session event new (rules ∙ sym keeps) (λ other.
+      same other ∙ signs_nobody (other == session) (identity_of old other)
+      ∙ ap (λ (o : Option Identity). cond (other == session) o (identity_of old other)) (sym (leaves (identity_of old other))))
+
+  fine_keeps : (now : ℕ) (event : Event) (writes : List Write) → rules_by event old.rules ≡ old.rules → ((before : Option Identity) → identity_by event before ≡ before) → IsFine old session event (keeps old now session writes)
+  fine_keeps now event writes same leaves =
+      either old session event (nat_le MAX_ACTIONS (length (actions_of old session))) _ _ (fine_refusal old session event TooManyActions (λ e. cc, λ e. cc))
+      (unless old session event (denial (verdict_on old now session writes)) _ (denial_wants_none (verdict_on old now session writes))
+      (fine_quiet event (with_action old session writes) same leaves refl (λ other. identity-actions old session other _)))
+
+  fine_keeps_one : (now : ℕ) (event : Event) (write : Write) → rules_by event old.rules ≡ old.rules → ((before : Option Identity) → identity_by event before ≡ before) → IsFine old session event (keeps_one old now session write)
+  fine_keeps_one now event write same leaves =
+      either old session event (not (is_open old session)) _ _ (closed_refused event) (fine_keeps now event (write ∷ []) same leaves)
+
+  fine_keeps_update : (now : ℕ) (writes : List Write) → IsFine old session (OnUpdate writes) (keeps_update old now session writes)
+  fine_keeps_update now writes =
+      let event = OnUpdate writes in
+      either old session event (not (is_open old session)) _ _ (closed_refused event)
+      (either old session event (length writes == 0) _ _ (fine_refusal old session event EmptyUpdate (λ e. cc, λ e. cc))
+      (either old session event (overlaps writes) _ _ (fine_refusal old session event Overlap (λ e. cc, λ e. cc)) (fine_keeps now event writes refl (λ _. refl))))
+
+  fine_cancels : (path : Path) → IsFine old session (OnCancel path) (cancels old session path)
+  fine_cancels path =
+      either old session (OnCancel path) (not (is_open old session)) _ _ (closed_refused (OnCancel path))
+      (fine_quiet (OnCancel path) (without_actions old session path) refl (λ _. refl) refl (λ other. identity-actions old session other _))
+
+  fine_leaves : IsFine old session Leave (leaves old session)
+  fine_leaves =
+      either old session Leave (not (is_open old session)) _ _ (closed_refused Leave)
+      (fine_quiet Leave (departing old session) refl (λ _. refl) refl (λ other. identity-departing old session other))
+
+  fine_run_by : (now : ℕ) (writes : List Write) (others : List Action) (o : Option Refusal) → IsFine old session RunNext (run_by old now session writes others o)
+  fine_run_by now writes others None =
+      fine_answer old session RunNext (run_by old now session writes others None) (λ refusal e. cc) refl refl (λ other. identity-actions (written_to old now writes) session other others ∙ identity-again old.tree now (record { tree = tree_with old now writes; rules = old.rules; sessions = old.sessions }) other)
+  fine_run_by now writes others (Some refusal) =
+      fine_answer old session RunNext (run_by old now session writes others (Some refusal)) (λ other e. cc) refl refl (λ other. identity-actions old session other others)
+
+  fine_first : (now : ℕ) (actions : List Action) → IsFine old session RunNext (runs_first old now session actions)
+  fine_first now [] = fine_answer old session RunNext (runs_first old now session []) (λ refusal e. cc) refl refl (λ _. refl)
+  fine_first now (action ∷ others) = fine_run_by now (writes_of action) others (write_refusal old now session (writes_of action))
+
+  fine_runs : (now : ℕ) → IsFine old session RunNext (runs old now session)
+  fine_runs now =
+      either old session RunNext (not (is_open old session)) _ _ (closed_refused RunNext)
+      (either old session RunNext (not (is_leaving old session)) _ _ (fine_refusal old session RunNext NotLeaving (λ e. cc, λ e. cc)) (fine_first now (actions_of old session)))
+
+pub fine_unbarred : (old : State) (now session : ℕ) (event : Event) → IsFine old session event (unbarred old now session event)
+fine_unbarred old now session Open = fine_open old session
+fine_unbarred old now session Close = fine_close old session
+fine_unbarred old now session (SignIn who) = fine_sign old session now (SignIn who) (Some who) refl (λ _. refl)
+fine_unbarred old now session SignOut = fine_sign old session now SignOut None refl (λ _. refl)
+fine_unbarred old now session (Get path query) = fine_get old session now path query
+fine_unbarred old now session (Set write) = fine_set old session now (Set write) write refl (λ _. refl)
+fine_unbarred old now session (Remove path) = fine_set old session now (Remove path) (removal path) refl (λ _. refl)
+fine_unbarred old now session (Update writes) = fine_update old session now writes
+fine_unbarred old now session (Listen id path query) = fine_listen old session now id path query
+fine_unbarred old now session (Unlisten id) = fine_unlisten old session id
+fine_unbarred old now session Poll = fine_poll old session now
+fine_unbarred old now session Tick = fine_all old session now Tick old refl refl (λ _. refl)
+fine_unbarred old now session (Deploy rules) = fine_deploy old session now rules
+fine_unbarred old now session (OnSet write) = fine_keeps_one old session now (OnSet write) write refl (λ _. refl)
+fine_unbarred old now session (OnRemove path) = fine_keeps_one old session now (OnRemove path) (removal path) refl (λ _. refl)
+fine_unbarred old now session (OnUpdate writes) = fine_keeps_update old session now writes
+fine_unbarred old now session (OnCancel path) = fine_cancels old session path
+fine_unbarred old now session Leave = fine_leaves old session
+fine_unbarred old now session RunNext = fine_runs old session now
+
 pub fine : (old : State) (now session : ℕ) (event : Event) → IsFine old session event (outcome old now session event)
-fine old now session Open = fine_open old session
-fine old now session Close = fine_close old session
-fine old now session (SignIn who) = fine_sign old session now (SignIn who) (Some who) refl (λ _. refl)
-fine old now session SignOut = fine_sign old session now SignOut None refl (λ _. refl)
-fine old now session (Get path query) = fine_get old session now path query
-fine old now session (Set write) = fine_set old session now (Set write) write refl (λ _. refl)
-fine old now session (Remove path) = fine_set old session now (Remove path) (removal path) refl (λ _. refl)
-fine old now session (Update writes) = fine_update old session now writes
-fine old now session (Listen id path query) = fine_listen old session now id path query
-fine old now session (Unlisten id) = fine_unlisten old session id
-fine old now session Poll = fine_poll old session now
-fine old now session Tick = fine_all old session now Tick old refl refl (λ _. refl)
-fine old now session (Deploy rules) = fine_deploy old session now rules
+fine old now session event =
+    either old session event (wants_presence event && is_leaving old session) _ _ (fine_refusal old session event Leaving (λ e. cc, λ e. cc)) (fine_unbarred old now session event)

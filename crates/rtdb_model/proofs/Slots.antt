@@ -1,5 +1,6 @@
 -- What a changed state has at the number of a session.
 use Rattle.std.proofs.Common.{◌≡◌, ℕ, Bool, true, false, cond, eqb, List, [], ◌∷◌, map, Option, Some, None, is_some, sym, ap, ◌∙◌, refl, arith}
+use Rattle.std.proofs.lemmas.Bool.{eqb-true}
 use Rattle.std.proofs.lemmas.Bool.Decides.{nat_tests}
 use Rattle.std.specs.Prelude.{option_map, option_and_then}
 use Rattle.std.specs.FinMap as map_of
@@ -9,9 +10,9 @@ use Rattle.std.specs.Cmp.{nat_cmp_total}
 use Rattle.tree_model.specs.Tree.{Tree}
 use Rattle.evaluator.specs.Identity.{Identity}
 use Rattle.listeners.specs.Table.{Listener}
-use Rattle.rtdb_model.specs.State.{State, Session, Sessions, is_open, identity_of, listeners_in, listeners_of, each_session}
+use Rattle.rtdb_model.specs.State.{Action, State, Session, Sessions, session_or_fresh, session_in, is_open, identity_of, listeners_in, listeners_of, actions_of, each_session}
 use Rattle.rtdb_model.specs.Rejudged.{judged_again, rejudged, all_rejudged}
-use Rattle.rtdb_model.specs.Step.{closed, with_session}
+use Rattle.rtdb_model.specs.Step.{closed, with_session, with_actions, departing}
 
 pub is_same : (a b : ℕ) → eq_by_cmp nat_cmp a b ≡ eqb a b
 is_same a b = grind (arith, nat_tests)
@@ -23,7 +24,7 @@ who_in o = option_and_then (λ (one : Session). one.identity) o
 
 module _ (s : State) (n : ℕ) (who : Option Identity) (ls : List Listener) (q : ℕ) where
   abbrev put : Session
-  put = record { identity = who; listeners = ls }
+  put = record (session_in s n) { identity = who; listeners = ls }
 
   get-with : map_of.get (with_session s n who ls).sessions q ≡ cond (eqb q n) (Some put) (map_of.get s.sessions q)
   get-with = map_of.get-insert nat_cmp_total s.sessions n put q ∙ ap (λ (b : Bool). cond b (Some put) (map_of.get s.sessions q)) (is_same q n)
@@ -42,6 +43,69 @@ module _ (s : State) (n : ℕ) (who : Option Identity) (ls : List Listener) (q :
       inside true = refl
       inside false = refl
 
+-- ---- a session whose actions, or whose leaving, is another
+
+abbrev pub put_at : State → ℕ → Session → State
+put_at s n one = record s { sessions = map_of.insert s.sessions n one }
+
+-- the actions of a session that may be open
+abbrev actions_in : Option Session → List Action
+actions_in o = (session_or_fresh o).actions
+
+module _ (s : State) (n : ℕ) (one : Session) (q : ℕ) where
+  pub get-put_at : map_of.get (put_at s n one).sessions q ≡ cond (eqb q n) (Some one) (map_of.get s.sessions q)
+  get-put_at = map_of.get-insert nat_cmp_total s.sessions n one q ∙ ap (λ (b : Bool). cond b (Some one) (map_of.get s.sessions q)) (is_same q n)
+
+  pub actions-put_at : actions_of (put_at s n one) q ≡ cond (eqb q n) one.actions (actions_of s q)
+  actions-put_at = ap actions_in get-put_at ∙ inside (eqb q n)
+    where
+      inside : (b : Bool) → actions_in (cond b (Some one) (map_of.get s.sessions q)) ≡ cond b one.actions (actions_of s q)
+      inside true = refl
+      inside false = refl
+
+  -- with the same identity and the same listeners
+  pub identity-put_at : one.identity ≡ identity_of s n → identity_of (put_at s n one) q ≡ identity_of s q
+  identity-put_at same = ap who_in get-put_at ∙ inside (eqb q n) refl
+    where
+      inside : (b : Bool) → eqb q n ≡ b → who_in (cond b (Some one) (map_of.get s.sessions q)) ≡ identity_of s q
+      inside true e = same ∙ ap (identity_of s) (sym (eqb-true q n e))
+      inside false e = refl
+
+  pub listeners-put_at : one.listeners ≡ listeners_of s n → listeners_of (put_at s n one) q ≡ listeners_of s q
+  listeners-put_at same = ap listeners_in get-put_at ∙ inside (eqb q n) refl
+    where
+      inside : (b : Bool) → eqb q n ≡ b → listeners_in (cond b (Some one) (map_of.get s.sessions q)) ≡ listeners_of s q
+      inside true e = same ∙ ap (listeners_of s) (sym (eqb-true q n e))
+      inside false e = refl
+
+-- what the session at a number has
+pub identity-in : (s : State) (n : ℕ) → (session_in s n).identity ≡ identity_of s n
+identity-in s n = inside (map_of.get s.sessions n)
+  where
+    inside : (o : Option Session) → (session_or_fresh o).identity ≡ who_in o
+    inside None = refl
+    inside (Some one) = refl
+
+pub listeners-in : (s : State) (n : ℕ) → (session_in s n).listeners ≡ listeners_of s n
+listeners-in s n = inside (map_of.get s.sessions n)
+  where
+    inside : (o : Option Session) → (session_or_fresh o).listeners ≡ listeners_in o
+    inside None = refl
+    inside (Some one) = refl
+
+module _ (s : State) (n q : ℕ) where
+  pub identity-actions : (actions : List Action) → identity_of (with_actions s n actions) q ≡ identity_of s q
+  identity-actions actions = identity-put_at s n (record (session_in s n) { actions = actions }) q (identity-in s n)
+
+  pub listeners-actions : (actions : List Action) → listeners_of (with_actions s n actions) q ≡ listeners_of s q
+  listeners-actions actions = listeners-put_at s n (record (session_in s n) { actions = actions }) q (listeners-in s n)
+
+  pub identity-departing : identity_of (departing s n) q ≡ identity_of s q
+  identity-departing = identity-put_at s n (record (session_in s n) { leaving = true }) q (identity-in s n)
+
+  pub listeners-departing : listeners_of (departing s n) q ≡ listeners_of s q
+  listeners-departing = listeners-put_at s n (record (session_in s n) { leaving = true }) q (listeners-in s n)
+
 -- ---- a session that is taken out
 
 module _ (s : State) (n q : ℕ) where
@@ -59,6 +123,13 @@ module _ (s : State) (n q : ℕ) where
   identity-without = ap who_in get-without ∙ inside (eqb q n)
     where
       inside : (b : Bool) → who_in (cond b None (map_of.get s.sessions q)) ≡ cond b None (identity_of s q)
+      inside true = refl
+      inside false = refl
+
+  pub actions-without : actions_of (closed s n) q ≡ cond (eqb q n) [] (actions_of s q)
+  actions-without = ap actions_in get-without ∙ inside (eqb q n)
+    where
+      inside : (b : Bool) → actions_in (cond b None (map_of.get s.sessions q)) ≡ cond b [] (actions_of s q)
       inside true = refl
       inside false = refl
 
@@ -97,6 +168,13 @@ module _ (old : Tree) (now : ℕ) (new : State) (q : ℕ) where
   listeners-again = ap listeners_in (get-each (rejudged old new now) new.sessions q) ∙ inside (map_of.get new.sessions q)
     where
       inside : (o : Option Session) → listeners_in (option_map (rejudged old new now) o) ≡ map (judged_again old new now (who_in o)) (listeners_in o)
+      inside None = refl
+      inside (Some one) = refl
+
+  pub actions-again : actions_of (all_rejudged old now new) q ≡ actions_of new q
+  actions-again = ap actions_in (get-each (rejudged old new now) new.sessions q) ∙ inside (map_of.get new.sessions q)
+    where
+      inside : (o : Option Session) → actions_in (option_map (rejudged old new now) o) ≡ actions_in o
       inside None = refl
       inside (Some one) = refl
 

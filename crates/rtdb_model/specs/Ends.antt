@@ -6,7 +6,7 @@ use Rattle.rtdb_model.specs.declared.news.Notice.{Notice}
 use Rattle.rtdb_model.specs.declared.news.What.{What}
 use Rattle.rtdb_model.specs.declared.news.What.TheVariants.{Gone, Now}
 use Rattle.rtdb_model.specs.declared.reply.Reply.{Reply}
-use Rattle.rtdb_model.specs.declared.reply.Reply.TheVariants.{Done, Value, News, Refused}
+use Rattle.rtdb_model.specs.declared.reply.Reply.TheVariants.{Done, Value, News, Refused, Ran, Closed}
 use Rattle.rtdb_model.specs.News.{gone}
 use Rattle.rtdb_model.specs.State.{State, is_open, identity_of, listeners_of}
 use Rattle.rtdb_model.specs.Step.{Call, Step}
@@ -27,6 +27,8 @@ notices_of Done = []
 notices_of (Value tree) = []
 notices_of (News notices) = notices
 notices_of (Refused refusal) = []
+notices_of (Ran ran) = []
+notices_of (Closed dropped) = []
 
 -- what the reply to this call tells the session of the id
 abbrev pub told_of : ℕ → List ℕ → Call → Reply → List Notice

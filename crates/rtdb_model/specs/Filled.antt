@@ -5,9 +5,9 @@ use Rattle.tree_model.specs.Draft.{IsFixed}
 use Rattle.tree_model.specs.Write.{AreFixed}
 use Rattle.rtdb_model.specs.FilledWrites.{filled_in}
 use Rattle.rtdb_model.specs.declared.event.Event.{Event}
-use Rattle.rtdb_model.specs.declared.event.Event.TheVariants.{Open, Close, SignIn, SignOut, Get, Set, Remove, Update, Listen, Unlisten, Poll, Tick, Deploy}
+use Rattle.rtdb_model.specs.declared.event.Event.TheVariants.{Open, Close, SignIn, SignOut, Get, Set, Remove, Update, Listen, Unlisten, Poll, Tick, Deploy, OnSet, OnRemove, OnUpdate, OnCancel, Leave, RunNext}
 
--- the event with this moment in the place of each in what it writes
+-- the event with this moment in the place of each in what it writes at once; what is to be written when the session goes has the moment of its run
 abbrev pub filled : ℕ → Event → Event
 filled now Open = Open
 filled now Close = Close
@@ -22,8 +22,14 @@ filled now (Unlisten id) = Unlisten id
 filled now Poll = Poll
 filled now Tick = Tick
 filled now (Deploy rules) = Deploy rules
+filled now (OnSet write) = OnSet write
+filled now (OnRemove path) = OnRemove path
+filled now (OnUpdate writes) = OnUpdate writes
+filled now (OnCancel path) = OnCancel path
+filled now Leave = Leave
+filled now RunNext = RunNext
 
--- no moment stands in what the event writes
+-- no moment stands in what the event writes at once
 abbrev pub IsFilled : Event → Type 0
 IsFilled Open = ⊤
 IsFilled Close = ⊤
@@ -38,3 +44,9 @@ IsFilled (Unlisten id) = ⊤
 IsFilled Poll = ⊤
 IsFilled Tick = ⊤
 IsFilled (Deploy rules) = ⊤
+IsFilled (OnSet write) = ⊤
+IsFilled (OnRemove path) = ⊤
+IsFilled (OnUpdate writes) = ⊤
+IsFilled (OnCancel path) = ⊤
+IsFilled Leave = ⊤
+IsFilled RunNext = ⊤

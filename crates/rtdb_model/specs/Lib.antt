@@ -9,4 +9,5 @@ pub mod Borrowed
 pub mod Step
 pub mod Headline
 pub mod Marks
+pub mod Actions
 pub mod Ends

@@ -5,9 +5,11 @@ use Rattle.tree_model.specs.Path.{Path}
 use Rattle.listeners.specs.Query.{Query}
 use Rattle.listeners.specs.Table.{Listener}
 use Rattle.rtdb_model.specs.declared.event.Event.{Event}
-use Rattle.rtdb_model.specs.declared.event.Event.TheVariants.{Open, Close, SignIn, SignOut, Get, Set, Remove, Update, Listen, Unlisten, Poll, Tick, Deploy}
+use Rattle.rtdb_model.specs.declared.event.Event.TheVariants.{Open, Close, SignIn, SignOut, Get, Set, Remove, Update, Listen, Unlisten, Poll, Tick, Deploy, OnSet, OnRemove, OnUpdate, OnCancel, Leave, RunNext}
 use Rattle.rtdb_model.specs.declared.reply.Reply.{Reply}
-use Rattle.rtdb_model.specs.declared.reply.Reply.TheVariants.{Done, Value, News, Refused}
+use Rattle.rtdb_model.specs.declared.reply.Reply.TheVariants.{Done, Value, News, Refused, Ran, Closed}
+use Rattle.rtdb_model.specs.declared.reply.Ran.{Ran as Outcome}
+use Rattle.rtdb_model.specs.declared.reply.Ran.TheVariants.{Empty, Applied, Skipped}
 use Rattle.rtdb_model.specs.State.{State, scene_at}
 use Rattle.rtdb_model.specs.Rejudged.{hears, moves}
 use Rattle.rtdb_model.specs.Step.{Call, Run}
@@ -28,12 +30,20 @@ steps_after earlier old (call ∷ calls) [] new run = absurd run
 
 -- ---- what a step is to the listeners of a session
 
--- the event was not refused
+-- what it was to run was made
+abbrev pub is_applied : Outcome → Bool
+is_applied Empty = false
+is_applied Applied = true
+is_applied (Skipped refusal) = false
+
+-- the event was not refused, and what it was to run was made
 abbrev pub is_accepted : Reply → Bool
 is_accepted Done = true
 is_accepted (Value tree) = true
 is_accepted (News notices) = true
 is_accepted (Refused refusal) = false
+is_accepted (Ran ran) = is_applied ran
+is_accepted (Closed dropped) = true
 
 -- where it is accepted, all listeners are judged again
 abbrev pub is_of_all : Event → Bool
@@ -50,6 +60,12 @@ is_of_all (Unlisten id) = false
 is_of_all Poll = false
 is_of_all Tick = true
 is_of_all (Deploy rules) = true
+is_of_all (OnSet write) = false
+is_of_all (OnRemove path) = false
+is_of_all (OnUpdate writes) = false
+is_of_all (OnCancel path) = false
+is_of_all Leave = false
+is_of_all RunNext = true
 
 -- where it is accepted, the listeners of its session are judged again
 abbrev pub is_of_own : Event → Bool
@@ -66,6 +82,12 @@ is_of_own (Unlisten id) = false
 is_of_own Poll = true
 is_of_own Tick = false
 is_of_own (Deploy rules) = false
+is_of_own (OnSet write) = false
+is_of_own (OnRemove path) = false
+is_of_own (OnUpdate writes) = false
+is_of_own (OnCancel path) = false
+is_of_own Leave = false
+is_of_own RunNext = false
 
 -- it asks for news
 abbrev pub is_poll : Event → Bool
@@ -82,6 +104,12 @@ is_poll (Unlisten id) = false
 is_poll Poll = true
 is_poll Tick = false
 is_poll (Deploy rules) = false
+is_poll (OnSet write) = false
+is_poll (OnRemove path) = false
+is_poll (OnUpdate writes) = false
+is_poll (OnCancel path) = false
+is_poll Leave = false
+is_poll RunNext = false
 
 -- what it asks to listen to under this id
 abbrev pub asked_under : List ℕ → Event → Option (Path × Option Query)
@@ -98,6 +126,12 @@ asked_under id (Unlisten other) = None
 asked_under id Poll = None
 asked_under id Tick = None
 asked_under id (Deploy rules) = None
+asked_under id (OnSet write) = None
+asked_under id (OnRemove path) = None
+asked_under id (OnUpdate writes) = None
+asked_under id (OnCancel path) = None
+asked_under id Leave = None
+asked_under id RunNext = None
 
 -- the step judged the listeners of the session again
 abbrev pub judges : ℕ → Taken → Bool

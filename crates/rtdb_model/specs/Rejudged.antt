@@ -56,7 +56,7 @@ judged_again old new now who l = judged (hears (scene_for new now who) l.path l.
 
 -- a session whose listeners are judged again
 abbrev pub rejudged : Tree → State → ℕ → Session → Session
-rejudged old new now session = record { identity = session.identity; listeners = map (judged_again old new now session.identity) session.listeners }
+rejudged old new now session = record session { listeners = map (judged_again old new now session.identity) session.listeners }
 
 -- the new state, with all listeners of all sessions judged again
 abbrev pub all_rejudged : Tree → ℕ → State → State

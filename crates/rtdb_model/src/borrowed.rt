@@ -1,10 +1,10 @@
 //! Replies that are borrowed from the database, from the event and from the arena of its step.
 ghost use Rattle.std.specs.Prelude.{◌≡◌, true, IfOk, OnErr};
-ghost use Rattle.rtdb_model.specs.Borrowed.{reply_of, refusal_of, is_copied, names_rules};
+ghost use Rattle.rtdb_model.specs.Borrowed.{reply_of, ran_of, refusal_of, is_copied, is_named, names_rules};
 ghost use Rattle.rtdb_model.specs.declared.reply.Refusal.TheVariants.{NoMemory as no_memory};
 ghost use Rattle.rtdb_model.specs.declared.borrowed.BorrowedRefusal.TheVariants.{Other as other};
 
-use crate::reply::{Refusal, Reply};
+use crate::reply::{Ran, Refusal, Reply};
 use crate::tidings::{Tidings, copied};
 use arena_snapshot::View;
 use json_tree::NoMemory;
@@ -21,18 +21,51 @@ pub enum BorrowedReply<'a> {
     Value(Option<View<'a>>),
     /// The news of the session's listeners.
     News(Tidings<'a>),
+    /// An action can be run, or none is left.
+    Ran(BorrowedRan<'a>),
+    /// The session can be closed, and so many of its actions are dropped then.
+    Closed(usize),
 }
 
 impl<'a> BorrowedReply<'a> {
     /// The same reply, owned: it copies each tree out of the arena, at the cost of its locations.
-    pub fn copy(&self, alloc: Global) -> Result<Reply, NoMemory>
-        ensures same { IfOk result (λ reply. reply ≡ reply_of self.now) }
-        ensures later { OnErr result (is_copied (reply_of self.now) ≡ true) }
+    pub fn into_owned(self, alloc: Global) -> Result<Reply, NoMemory>
+        ensures same { IfOk result (λ reply. reply ≡ reply_of self.entry) }
+        ensures later { OnErr result (is_copied (reply_of self.entry) ≡ true) }
     {
         match self {
             BorrowedReply::Done => Ok(Reply::Done),
-            BorrowedReply::Value(view) => Ok(Reply::Value(copied(alloc, view)?)),
+            BorrowedReply::Value(view) => Ok(Reply::Value(copied(alloc, &view)?)),
             BorrowedReply::News(tidings) => Ok(Reply::News(tidings.copy(alloc)?)),
+            BorrowedReply::Ran(ran) => Ok(Reply::Ran(ran.into_owned(alloc)?)),
+            BorrowedReply::Closed(dropped) => Ok(Reply::Closed(dropped)),
+        }
+    }
+}
+
+/// What becomes of the first action of a session that is leaving. The names of a denial are borrowed from the rules.
+#[derive(Drop)]
+pub enum BorrowedRan<'a> {
+    /// There is none.
+    Empty,
+    /// It can be made.
+    Applied,
+    /// It is refused, for this reason, which lies in a growth of its own, so that no other reply is as large.
+    Skipped(Box<BorrowedRefusal<'a>>),
+}
+
+impl<'a> BorrowedRan<'a> {
+    /// The same, owned.
+    pub fn into_owned(self, alloc: Global) -> Result<Ran, NoMemory>
+        ensures same { IfOk result (λ ran. ran ≡ ran_of self.entry) }
+        ensures later { OnErr result (is_named (ran_of self.entry) ≡ true) }
+    {
+        match self {
+            BorrowedRan::Empty => Ok(Ran::Empty),
+            BorrowedRan::Applied => Ok(Ran::Applied),
+            BorrowedRan::Skipped(refusal) => {
+                Ok(Ran::Skipped(Box::into_inner(refusal).into_owned(alloc)?))
+            }
         }
     }
 }

@@ -39,6 +39,18 @@ pub enum Event {
     Tick,
     /// Puts rules in force.
     Deploy(Rules),
+    /// Establishes a write that is to be made when the session goes.
+    OnSet(Write),
+    /// Establishes a removal that is to be made when the session goes.
+    OnRemove(Removal),
+    /// Establishes several writes that are to be made when the session goes, all of them or none.
+    OnUpdate(Writes),
+    /// Takes back what was established, where it writes at a path and below it alone.
+    OnCancel(Path),
+    /// Lets the session leave: from then on what it established is run, and nothing else but its closing is done.
+    Leave,
+    /// Runs the first action of a session that is leaving.
+    RunNext,
 }
 
 impl Event {

@@ -14,13 +14,13 @@ mod reply;
 mod tidings;
 mod writes;
 
-pub use borrowed::{BorrowedRefusal, BorrowedReply};
+pub use borrowed::{BorrowedRan, BorrowedRefusal, BorrowedReply};
 pub use evaluator::MAX_MOMENT;
 pub use event::Event;
 pub use judge::{BorrowedName, BorrowedNames, Named, NamedRules, Why};
-pub use limits::{MAX_LOCATIONS, MAX_SESSIONS, the_limits};
+pub use limits::{MAX_ACTIONS, MAX_LOCATIONS, MAX_SESSIONS, the_limits};
 pub use news::{News, Notice, What};
 pub use removal::Removal;
-pub use reply::{Refusal, Reply};
+pub use reply::{Ran, Refusal, Reply};
 pub use tidings::{Sight, Tiding, Tidings, copied};
 pub use writes::Writes;

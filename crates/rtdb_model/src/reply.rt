@@ -18,6 +18,21 @@ pub enum Reply {
     News(News),
     /// It was refused, and nothing has changed.
     Refused(Refusal),
+    /// An action was run, or none was left.
+    Ran(Ran),
+    /// The session was closed, and so many of its actions were dropped.
+    Closed(usize),
+}
+
+/// What became of the first action of a session that is leaving.
+#[derive(Debug, Drop)]
+pub enum Ran {
+    /// There was none.
+    Empty,
+    /// It was made.
+    Applied,
+    /// It was judged again and refused, for this reason, and dropped; nothing else has changed.
+    Skipped(Refusal),
 }
 
 /// Why an event is refused: the first of its event's refusals that applies.
@@ -41,6 +56,12 @@ pub enum Refusal {
     TooManyListeners,
     /// The session doesn't listen under this id.
     NoListener,
+    /// The session is leaving.
+    Leaving,
+    /// The session has as many actions as it may.
+    TooManyActions,
+    /// The session is not leaving.
+    NotLeaving,
     /// No `.read` at the path or above it holds; these are all of them.
     ReadDenied(NamedRules),
     /// No `.write` at the location or above it holds; these are all of them. Of the locations that are

@@ -1,5 +1,5 @@
 //! The writes of an update.
-ghost use Rattle.std.specs.Prelude.{◌≡◌, ◌≤◌, List, map};
+ghost use Rattle.std.specs.Prelude.{◌≡◌, ◌≤◌, List, map, IfOk};
 ghost use Rattle.std.specs.List.Sorted.{IsPermutation, IsSortedBy};
 ghost use Rattle.std.specs.Ordering.{is_lt};
 ghost use Rattle.tree_model.specs.Path.{path_cmp};
@@ -8,7 +8,9 @@ ghost use Rattle.tree_model.specs.Write.{AreFixed};
 ghost use Rattle.evaluator.specs.declared.env.TheConstants.{MAX_MOMENT};
 ghost use Rattle.rtdb_model.specs.FilledWrites.{filled_in};
 
+use json_tree::NoMemory;
 use path_capture::Write;
+use std::alloc::Global;
 use std::fmt::{self, Formatter};
 use std::marker::Model;
 use std::snapshot::Snapshot;
@@ -69,6 +71,13 @@ impl Writes {
         self.sorted.as_slice()
     }
 
+    /// Copies of these writes, by one growth for their list and those of a copy of each.
+    pub fn copied(alloc: Global, writes: &[Write]) -> Result<Writes, NoMemory>
+        ensures { IfOk result (λ copies. copies ≡ writes.now) }
+    {
+        Ok(Writes::of_vec(copies_of(alloc, writes)?))
+    }
+
     /// Puts a number in the place of each moment, in milliseconds. It takes no memory; for each write without a moment it
     /// takes one test.
     pub fn fill(&mut self, now: u64)
@@ -99,6 +108,16 @@ fn sort(writes: &mut Vec<Write>)
     ensures ascending { IsSortedBy (λ a b. is_lt (path_cmp (location a) (location b))) writes.new.items }
 {
     writes.sort_unstable_by(|a, b| a.at().compare(b.at()));
+}
+
+fn copies_of(alloc: Global, writes: &[Write]) -> Result<Vec<Write>, NoMemory>
+    ensures { IfOk result (λ copies. copies.items ≡ writes.now) }
+{
+    let mut copies = Vec::with_capacity(alloc, writes.len())?;
+    for write in writes {
+        copies.push(write.copy(alloc)?)?;
+    }
+    Ok(copies)
 }
 
 // Puts a number in the place of each moment.

@@ -4,8 +4,8 @@ use Rattle.std.proofs.lemmas.List.{map-append}
 use mathlib.Core.List.{IsPrefix}
 use Rattle.rtdb_model.specs.declared.event.Event.{Event}
 use Rattle.rtdb_model.specs.declared.reply.Reply.{Reply}
-use Rattle.rtdb_model.specs.declared.reply.Reply.TheVariants.{Done, Value, News, Refused}
-use Rattle.rtdb_model.specs.declared.reply.Refusal.TheVariants.{SessionOpen, TooManySessions, NoSession, NotAdmin, EmptyUpdate, Overlap, DuplicateId, TooManyListeners, NoListener, ReadDenied, WriteDenied, ValidateDenied, TreeFull, NoMemory, Spent}
+use Rattle.rtdb_model.specs.declared.reply.Reply.TheVariants.{Done, Value, News, Refused, Ran, Closed}
+use Rattle.rtdb_model.specs.declared.reply.Refusal.TheVariants.{SessionOpen, TooManySessions, NoSession, NotAdmin, EmptyUpdate, Overlap, DuplicateId, TooManyListeners, NoListener, Leaving, TooManyActions, NotLeaving, ReadDenied, WriteDenied, ValidateDenied, TreeFull, NoMemory, Spent}
 use Rattle.locked_server.specs.declared.entry.Entry.{Entry}
 use Rattle.locked_server.specs.Known.{Known, IsSameSeat, own, Made, Missed}
 use Rattle.sessions.specs.Calls.{Answered, answered_in, calls, is_spent, entered, Gains}
@@ -19,6 +19,8 @@ spent_or_not : (reply : Reply) → (reply ≡ Refused Spent) ⊎ ((is_spent repl
 spent_or_not Done = inr (refl, λ e. cc)
 spent_or_not (Value tree) = inr (refl, λ e. cc)
 spent_or_not (News notices) = inr (refl, λ e. cc)
+spent_or_not (Ran ran) = inr (refl, λ e. cc)
+spent_or_not (Closed left) = inr (refl, λ e. cc)
 spent_or_not (Refused SessionOpen) = inr (refl, λ e. cc)
 spent_or_not (Refused TooManySessions) = inr (refl, λ e. cc)
 spent_or_not (Refused NoSession) = inr (refl, λ e. cc)
@@ -28,6 +30,9 @@ spent_or_not (Refused Overlap) = inr (refl, λ e. cc)
 spent_or_not (Refused DuplicateId) = inr (refl, λ e. cc)
 spent_or_not (Refused TooManyListeners) = inr (refl, λ e. cc)
 spent_or_not (Refused NoListener) = inr (refl, λ e. cc)
+spent_or_not (Refused Leaving) = inr (refl, λ e. cc)
+spent_or_not (Refused TooManyActions) = inr (refl, λ e. cc)
+spent_or_not (Refused NotLeaving) = inr (refl, λ e. cc)
 spent_or_not (Refused (ReadDenied named)) = inr (refl, λ e. cc)
 spent_or_not (Refused (WriteDenied at named)) = inr (refl, λ e. cc)
 spent_or_not (Refused (ValidateDenied at pattern why)) = inr (refl, λ e. cc)

@@ -75,7 +75,7 @@ left_of place ds (l ∷ ls) = left_of (next_place place) (behind place ds) ls
 -- ---- all sessions
 
 abbrev pub with_listeners : Session → List Listener → Session
-with_listeners one listeners = record { identity = one.identity; listeners = listeners }
+with_listeners one listeners = record one { listeners = listeners }
 
 abbrev pub settled_all : ℕ → List Decision → List (ℕ × Session) → List (ℕ × Session)
 settled_all place ds [] = []

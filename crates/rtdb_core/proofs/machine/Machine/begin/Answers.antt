@@ -20,7 +20,7 @@ returns-clause-ok c =
     let changed = written.3 (subst (λ o. IsSome o) c.in-Some.ensures.value refl) in
     let who = identity_is tree c.self.inside.rules es fs c.args.self.now c.args.session c.in-Some.open.now c.listen.new.self c.self.view_is c.in-Some.ensures.value in
     let heard = listeners_are tree c.self.inside.rules es fs c.args.self.now c.args.session c.in-Some.open.now c.listen.new.self c.self.view_is c.in-Some.ensures.value in
-    on_ok c.listen.result c.listen.ensures.ok (λ ok. put_is tree c.self.inside.rules es fs c.args.self.now c.args.session c.in-Some.open.now c.listen.new.self c.self.view_is changed.0 (identity_of c.args.self.now c.args.session) (listeners_of c.args.self.now c.args.session ++ begun c.args.id c.args.path c.args.query ∷ []) (ok ∙ (λ i. record { identity = who i; listeners = heard i ++ begun c.args.id c.args.path c.args.query ∷ [] })))
+    on_ok c.listen.result c.listen.ensures.ok (λ ok. put_is tree c.self.inside.rules es fs c.args.self.now c.args.session c.in-Some.open.now c.listen.new.self c.self.view_is c.in-Some.ensures.value changed.0 (identity_of c.args.self.now c.args.session) (listeners_of c.args.self.now c.args.session ++ begun c.args.id c.args.path c.args.query ∷ []) (ok ∙ (λ i. record c.in-Some.open.now { identity = who i; listeners = heard i ++ begun c.args.id c.args.path c.args.query ∷ [] })))
 
 pub returns-clause-err : goal.returns-clause-err
 returns-clause-err c =

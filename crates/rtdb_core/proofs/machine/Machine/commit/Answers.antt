@@ -9,8 +9,8 @@ use Rattle.rtdb_core.proofs.machine.Machine.commit.Goals as goal
 
 pub make-requires-clause-fixed : goal.make-requires-clause-fixed
 make-requires-clause-fixed c =
-    let may = subst (λ (e : Event). MayBeDone c.args.self.now c.args.session e) c.in-Set.is c.requires in
-    may.fixed 0 c.in-Set.write (omega arith)
+    let may = subst (λ (e : Event). MayBeDone c.args.self.now c.args.session e c.args.run) c.in-Set.is c.requires in
+    may.0.fixed 0 c.in-Set.write (omega arith)
 
 pub make-requires-in-Remove-clause-fixed : goal.make-requires-in-Remove-clause-fixed
 make-requires-in-Remove-clause-fixed c = subst (λ (w : Write). IsFixed (written w)) (sym c.into_write.ensures) IsFixed-null_draft

@@ -30,4 +30,4 @@ returns-clause-gone c =
     let changed = written.3 (subst (λ o. IsSome o) c.in-Some.ensures.value refl) in
     let who = identity_is tree c.self.inside.rules es fs c.args.self.now c.args.session c.in-Some.open.now c.unlisten.new.self c.self.view_is c.in-Some.ensures.value in
     let heard = listeners_are tree c.self.inside.rules es fs c.args.self.now c.args.session c.in-Some.open.now c.unlisten.new.self c.self.view_is c.in-Some.ensures.value in
-    put_is tree c.self.inside.rules es fs c.args.self.now c.args.session c.in-Some.open.now c.unlisten.new.self c.self.view_is changed.0 (identity_of c.args.self.now c.args.session) (without_id c.args.id.now (listeners_of c.args.self.now c.args.session)) (c.unlisten.ensures.gone ∙ (λ i. record { identity = who i; listeners = without_id c.args.id.now (heard i) }))
+    put_is tree c.self.inside.rules es fs c.args.self.now c.args.session c.in-Some.open.now c.unlisten.new.self c.self.view_is c.in-Some.ensures.value changed.0 (identity_of c.args.self.now c.args.session) (without_id c.args.id.now (listeners_of c.args.self.now c.args.session)) (c.unlisten.ensures.gone ∙ (λ i. record c.in-Some.open.now { identity = who i; listeners = without_id c.args.id.now (heard i) }))

@@ -21,4 +21,4 @@ returns c =
     let who = identity_is tree c.self.inside.rules es fs c.args.self.now c.args.session c.in-Some.open.now c.take_marked.new.self c.self.view_is c.in-Some.ensures.value in
     let heard = listeners_are tree c.self.inside.rules es fs c.args.self.now c.args.session c.in-Some.open.now c.take_marked.new.self c.self.view_is c.in-Some.ensures.value in
     let made = c.settle.ensures.made ∙ (λ i. with_listeners c.in-Some.open.now (settled (c.new.ensures.place i) (c.new.ensures.decisions i) c.in-Some.open.now.listeners)) in
-    put_is tree c.self.inside.rules es fs c.args.self.now c.args.session c.in-Some.open.now c.take_marked.new.self c.self.view_is changed.0 (identity_of c.args.self.now c.args.session) (taken (settled 0 c.args.decisions.now (listeners_of c.args.self.now c.args.session))) (c.take_marked.ensures ∙ ap (λ (one : Session). with_listeners one (taken one.listeners)) made ∙ (λ i. record { identity = who i; listeners = taken (settled 0 c.args.decisions.now (heard i)) }))
+    put_is tree c.self.inside.rules es fs c.args.self.now c.args.session c.in-Some.open.now c.take_marked.new.self c.self.view_is c.in-Some.ensures.value changed.0 (identity_of c.args.self.now c.args.session) (taken (settled 0 c.args.decisions.now (listeners_of c.args.self.now c.args.session))) (c.take_marked.ensures ∙ ap (λ (one : Session). with_listeners one (taken one.listeners)) made ∙ (λ i. record c.in-Some.open.now { identity = who i; listeners = taken (settled 0 c.args.decisions.now (heard i)) }))

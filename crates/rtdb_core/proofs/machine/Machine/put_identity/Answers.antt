@@ -19,4 +19,4 @@ returns c =
     let changed = written.3 (subst (λ o. IsSome o) c.in-Some.ensures.value refl) in
     let who = identity_is tree c.self.inside.rules es fs c.args.self.now c.args.session c.in-Some.open.now c.settle.new.self c.self.view_is c.in-Some.ensures.value in
     let heard = listeners_are tree c.self.inside.rules es fs c.args.self.now c.args.session c.in-Some.open.now c.settle.new.self c.self.view_is c.in-Some.ensures.value in
-    put_is tree c.self.inside.rules es fs c.args.self.now c.args.session c.in-Some.open.now c.settle.new.self c.self.view_is changed.0 (c.args.who) (settled 0 c.args.decisions.now (listeners_of c.args.self.now c.args.session)) (c.settle.ensures.made ∙ (λ i. with_listeners (c.sign.ensures i) (settled (c.new.ensures.place i) (c.new.ensures.decisions i) (c.sign.ensures i).listeners)) ∙ (λ i. record { identity = c.args.who; listeners = settled 0 c.args.decisions.now (heard i) }))
+    put_is tree c.self.inside.rules es fs c.args.self.now c.args.session c.in-Some.open.now c.settle.new.self c.self.view_is c.in-Some.ensures.value changed.0 (c.args.who) (settled 0 c.args.decisions.now (listeners_of c.args.self.now c.args.session)) (c.settle.ensures.made ∙ (λ i. with_listeners (c.sign.ensures i) (settled (c.new.ensures.place i) (c.new.ensures.decisions i) (c.sign.ensures i).listeners)) ∙ (λ i. record c.in-Some.open.now { identity = c.args.who; listeners = settled 0 c.args.decisions.now (heard i) }))

@@ -1,0 +1,20 @@
+use Rattle.std.proofs.Common.{◌∙◌, ◌++◌, ◌∷◌, [], drop, filter, not, true, IsSome, is_some, refl, ap, subst}
+use Rattle.std.proofs.lemmas.Bool.{false≢true}
+use Rattle.path_capture.specs.Write.{tree_or_null}
+use Rattle.rtdb_model.specs.State.{State, Session, is_open}
+use Rattle.rtdb_model.specs.Step.{is_below}
+use Rattle.rtdb_core.proofs.Sessions.{has, changed_is, stays_is, on_ok, on_err}
+use Rattle.rtdb_core.proofs.machine.Machine.cancel.Goals as goal
+
+pub unreachable-requires : goal.unreachable-requires
+unreachable-requires c =
+    false≢true (ap is_some c.in_default.ensures.value ∙ has c.self.inside.sessions.entries c.args.session ∙ ap (λ (state : State). is_open state c.args.session) c.self.view_is ∙ c.requires)
+
+pub returns : goal.returns
+returns c =
+    let es = c.self.inside.sessions.entries in
+    let fs = (c.get_mut.follows.lender c.cancel_below.new.self).entries in
+    let tree = tree_or_null c.self.inside.tree in
+    let written = c.get_mut.follows.holds c.cancel_below.new.self in
+    let changed = written.3 (subst (λ o. IsSome o) c.in-Some.ensures.value refl) in
+    changed_is tree c.self.inside.rules es fs c.args.self.now c.args.session c.in-Some.open.now c.cancel_below.new.self c.self.view_is c.in-Some.ensures.value changed.0 (λ one. record one { actions = filter (λ action. not (is_below c.args.path.now action)) one.actions }) c.cancel_below.ensures
