@@ -34,6 +34,12 @@ verb_members_named verbs.Unlisten = (Id ∷ [], refl)
 verb_members_named verbs.Poll = ([], refl)
 verb_members_named verbs.Tick = ([], refl)
 verb_members_named verbs.Deploy = (Rules ∷ [], refl)
+verb_members_named verbs.OnSet = (Path ∷ Value ∷ [], refl)
+verb_members_named verbs.OnRemove = (Path ∷ [], refl)
+verb_members_named verbs.OnUpdate = (Path ∷ Values ∷ [], refl)
+verb_members_named verbs.OnCancel = (Path ∷ [], refl)
+verb_members_named verbs.Leave = ([], refl)
+verb_members_named verbs.RunNext = ([], refl)
 
 -- no name has this text
 abbrev pub IsNoName : List ℕ → Type 0

@@ -1,8 +1,7 @@
 -- What a message wants as an event deploys nothing.
 use Rattle.std.proofs.Common.{ℕ, ◌++◌, Bool, true, false, cond, List, Result, Ok, Err, subst, sym}
-use Rattle.std.specs.Prelude.{codes, option_and_then, ⊤}
+use Rattle.std.specs.Prelude.{codes, ⊤}
 use Rattle.serde_json.specs.Data.{Data}
-use Rattle.serde_json.specs.Find.{get, as_object}
 use Rattle.rtdb_model.specs.declared.event.Event.{Event}
 use Rattle.rtdb_model.specs.Headline.{DeploysFile}
 use Rattle.tokens.specs.Tokens.{Tokens, has_only, text_at}
@@ -15,8 +14,8 @@ use Rattle.requests.specs.declared.message.Verb.TheVariants as verbs
 use Rattle.requests.specs.declared.message.Wanted.{Wanted}
 use Rattle.requests.specs.declared.message.Wanted.TheVariants.{Step, SignIn, Deploy}
 use Rattle.requests.specs.declared.ask.Asked.{Asked}
-use Rattle.json_lines.specs.Lines.{or_fault, unless_fault, value_of, path_of, draft_of_value, write_at, writes_below}
-use Rattle.requests.specs.Message.{form_members, verb_members, stamp_of, query_at, query_said, id_at, path_in, wanted_by, verb_in, request_of, asks}
+use Rattle.json_lines.specs.Lines.{or_fault, unless_fault, value_of, path_of}
+use Rattle.requests.specs.Message.{form_members, verb_members, stamp_of, query_at, query_said, id_at, path_in, write_in, writes_in, wanted_by, verb_in, request_of, asks}
 use Rattle.requests.specs.Ask.{ComesTo, IsAsked}
 
 -- an event that is wanted deploys rules files alone
@@ -47,18 +46,9 @@ wanted_plain verbs.Get d =
     in_turn IsPlain (or_fault BadRequest (query_at d)) _ (λ said.
     in_turn IsPlain (path_of text) _ (λ path.
     in_turn IsPlain (query_said said) _ (λ query. tt))))
-wanted_plain verbs.Set d =
-    in_turn IsPlain (or_fault BadRequest (text_at (codes "path") d)) _ (λ text.
-    in_turn IsPlain (or_fault BadRequest (get (codes "value") d)) _ (λ value.
-    in_turn IsPlain (path_of text) _ (λ path.
-    in_turn IsPlain (draft_of_value value) _ (λ draft.
-    in_turn IsPlain (write_at path draft) _ (λ write. tt)))))
+wanted_plain verbs.Set d = in_turn IsPlain (write_in d) _ (λ write. tt)
 wanted_plain verbs.Remove d = in_turn IsPlain (path_in d) _ (λ path. tt)
-wanted_plain verbs.Update d =
-    in_turn IsPlain (or_fault BadRequest (text_at (codes "path") d)) _ (λ text.
-    in_turn IsPlain (or_fault BadRequest (option_and_then as_object (get (codes "values") d))) _ (λ members.
-    in_turn IsPlain (path_of text) _ (λ path.
-    in_turn IsPlain (writes_below path members) _ (λ writes. tt))))
+wanted_plain verbs.Update d = in_turn IsPlain (writes_in d) _ (λ writes. tt)
 wanted_plain verbs.Listen d =
     in_turn IsPlain (or_fault BadRequest (id_at d)) _ (λ id.
     in_turn IsPlain (or_fault BadRequest (text_at (codes "path") d)) _ (λ text.
@@ -69,6 +59,12 @@ wanted_plain verbs.Unlisten d = in_turn IsPlain (or_fault BadRequest (id_at d)) 
 wanted_plain verbs.Poll d = tt
 wanted_plain verbs.Tick d = tt
 wanted_plain verbs.Deploy d = in_turn IsPlain (or_fault BadRequest (text_at (codes "rules") d)) _ (λ rules. tt)
+wanted_plain verbs.OnSet d = in_turn IsPlain (write_in d) _ (λ write. tt)
+wanted_plain verbs.OnRemove d = in_turn IsPlain (path_in d) _ (λ path. tt)
+wanted_plain verbs.OnUpdate d = in_turn IsPlain (writes_in d) _ (λ writes. tt)
+wanted_plain verbs.OnCancel d = in_turn IsPlain (path_in d) _ (λ path. tt)
+wanted_plain verbs.Leave d = tt
+wanted_plain verbs.RunNext d = tt
 
 kept : (f : Wanted → Request) → ((w : Wanted) → IsPlain w → IsPlain (f w).wanted) → (said : Result Wanted MessageFault) → Gives IsPlain said → Gives (λ (r : Request). IsPlain r.wanted) (unless_fault said (λ w. Ok (f w)))
 kept f g (Ok w) h = g w h

@@ -19,7 +19,7 @@ use Rattle.listeners.specs.Table.{is_id}
 use Rattle.evaluator.specs.declared.env.TheConstants.{MAX_MOMENT}
 use Rattle.json_lines.specs.declared.limits.TheConstants.{MAX_MESSAGE_BYTES}
 use Rattle.tokens.specs.Tokens.{has_only, text_at, Tokens, tokens_of}
-use Rattle.rtdb_model.specs.declared.event.Event.TheVariants.{Open, Close, SignOut, Get, Set, Remove, Update, Listen, Unlisten, Poll, Tick}
+use Rattle.rtdb_model.specs.declared.event.Event.TheVariants.{Open, Close, SignOut, Get, Set, Remove, Update, Listen, Unlisten, Poll, Tick, OnSet, OnRemove, OnUpdate, OnCancel, Leave, RunNext}
 use Rattle.requests.specs.declared.message.Form.{Form}
 use Rattle.requests.specs.declared.message.Form.TheVariants.{Script, Socket}
 use Rattle.requests.specs.declared.message.Stamp.{Stamp}
@@ -51,14 +51,20 @@ verb_named name =
     else if bytes_eq name (codes "unlisten") then Some verbs.Unlisten
     else if bytes_eq name (codes "poll") then Some verbs.Poll
     else if bytes_eq name (codes "deploy") then Some verbs.Deploy
+    else if bytes_eq name (codes "onset") then Some verbs.OnSet
+    else if bytes_eq name (codes "onremove") then Some verbs.OnRemove
+    else if bytes_eq name (codes "onupdate") then Some verbs.OnUpdate
+    else if bytes_eq name (codes "oncancel") then Some verbs.OnCancel
     else None
 
--- the verb of a name; a socket opens and closes no session, and lets no time pass
+-- the verb of a name; a socket opens and closes no session, lets no time pass, and leaves by its end alone
 abbrev pub verb_of : Form → List ℕ → Option Verb
 verb_of Script name =
     if bytes_eq name (codes "open") then Some verbs.Open
     else if bytes_eq name (codes "close") then Some verbs.Close
     else if bytes_eq name (codes "tick") then Some verbs.Tick
+    else if bytes_eq name (codes "leave") then Some verbs.Leave
+    else if bytes_eq name (codes "runnext") then Some verbs.RunNext
     else verb_named name
 verb_of (Socket stamp) name = verb_named name
 
@@ -82,6 +88,12 @@ verb_members verbs.Unlisten = codes "id" ∷ []
 verb_members verbs.Poll = []
 verb_members verbs.Tick = []
 verb_members verbs.Deploy = codes "rules" ∷ []
+verb_members verbs.OnSet = codes "path" ∷ codes "value" ∷ []
+verb_members verbs.OnRemove = codes "path" ∷ []
+verb_members verbs.OnUpdate = codes "path" ∷ codes "values" ∷ []
+verb_members verbs.OnCancel = codes "path" ∷ []
+verb_members verbs.Leave = []
+verb_members verbs.RunNext = []
 
 -- the moment and the session: a line of a script says both, and of a socket both are known
 abbrev pub stamp_of : Form → Data → Option Stamp
@@ -110,7 +122,22 @@ query_said (Some said) = or_fault BadQuery (option_map (λ query. Some query) (q
 abbrev pub id_at : Data → Option (List ℕ)
 id_at d = option_and_then (λ text. if is_id text then Some text else None) (text_at (codes "id") d)
 
--- what is wanted by a verb: first the members, then the path, the value, the write, and the query; of an update these of each member in turn
+-- the write of the members `path` and `value`: first the members, then the path, the value, and both together
+abbrev pub write_in : Data → Result Write MessageFault
+write_in d =
+    unless_fault (or_fault BadRequest (text_at (codes "path") d)) (λ text.
+    unless_fault (or_fault BadRequest (get (codes "value") d)) (λ value.
+    unless_fault (path_of text) (λ path.
+    unless_fault (draft_of_value value) (λ draft. write_at path draft))))
+
+-- the writes of the members `path` and `values`: first the members, then the path, and what each member of `values` says in turn
+abbrev pub writes_in : Data → Result (List Write) MessageFault
+writes_in d =
+    unless_fault (or_fault BadRequest (text_at (codes "path") d)) (λ text.
+    unless_fault (or_fault BadRequest (option_and_then as_object (get (codes "values") d))) (λ members.
+    unless_fault (path_of text) (λ path. writes_below path members)))
+
+-- what is wanted by a verb: of a read first the members, then the path, and the query
 abbrev pub wanted_by : Verb → Data → Result Wanted MessageFault
 wanted_by verbs.Open d = Ok (Step Open)
 wanted_by verbs.Close d = Ok (Step Close)
@@ -121,18 +148,9 @@ wanted_by verbs.Get d =
     unless_fault (or_fault BadRequest (query_at d)) (λ said.
     unless_fault (path_of text) (λ path.
     unless_fault (query_said said) (λ query. Ok (Step (Get path query))))))
-wanted_by verbs.Set d =
-    unless_fault (or_fault BadRequest (text_at (codes "path") d)) (λ text.
-    unless_fault (or_fault BadRequest (get (codes "value") d)) (λ value.
-    unless_fault (path_of text) (λ path.
-    unless_fault (draft_of_value value) (λ draft.
-    unless_fault (write_at path draft) (λ write. Ok (Step (Set write)))))))
+wanted_by verbs.Set d = unless_fault (write_in d) (λ write. Ok (Step (Set write)))
 wanted_by verbs.Remove d = unless_fault (path_in d) (λ path. Ok (Step (Remove path)))
-wanted_by verbs.Update d =
-    unless_fault (or_fault BadRequest (text_at (codes "path") d)) (λ text.
-    unless_fault (or_fault BadRequest (option_and_then as_object (get (codes "values") d))) (λ members.
-    unless_fault (path_of text) (λ path.
-    unless_fault (writes_below path members) (λ writes. Ok (Step (Update writes))))))
+wanted_by verbs.Update d = unless_fault (writes_in d) (λ writes. Ok (Step (Update writes)))
 wanted_by verbs.Listen d =
     unless_fault (or_fault BadRequest (id_at d)) (λ id.
     unless_fault (or_fault BadRequest (text_at (codes "path") d)) (λ text.
@@ -143,6 +161,12 @@ wanted_by verbs.Unlisten d = unless_fault (or_fault BadRequest (id_at d)) (λ id
 wanted_by verbs.Poll d = Ok (Step Poll)
 wanted_by verbs.Tick d = Ok (Step Tick)
 wanted_by verbs.Deploy d = unless_fault (or_fault BadRequest (text_at (codes "rules") d)) (λ rules. Ok (Deploy rules))
+wanted_by verbs.OnSet d = unless_fault (write_in d) (λ write. Ok (Step (OnSet write)))
+wanted_by verbs.OnRemove d = unless_fault (path_in d) (λ path. Ok (Step (OnRemove path)))
+wanted_by verbs.OnUpdate d = unless_fault (writes_in d) (λ writes. Ok (Step (OnUpdate writes)))
+wanted_by verbs.OnCancel d = unless_fault (path_in d) (λ path. Ok (Step (OnCancel path)))
+wanted_by verbs.Leave d = Ok (Step Leave)
+wanted_by verbs.RunNext d = Ok (Step RunNext)
 
 -- the verb that `do` names
 abbrev pub verb_in : Form → Data → Option Verb

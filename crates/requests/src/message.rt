@@ -45,6 +45,12 @@ pub enum Verb {
     Poll,
     Tick,
     Deploy,
+    OnSet,
+    OnRemove,
+    OnUpdate,
+    OnCancel,
+    Leave,
+    RunNext,
 }
 
 /// A text that a message has. Contracts see its bytes.

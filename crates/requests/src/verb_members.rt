@@ -30,6 +30,10 @@ fn verb_of(form: Form, name: &str) -> Option<Verb>
             return Some(Verb::Close);
         } else if name == "tick" {
             return Some(Verb::Tick);
+        } else if name == "leave" {
+            return Some(Verb::Leave);
+        } else if name == "runnext" {
+            return Some(Verb::RunNext);
         },
         Form::Socket(_) => {}
     }
@@ -59,6 +63,14 @@ fn verb_named(name: &str) -> Option<Verb>
         Some(Verb::Poll)
     } else if name == "deploy" {
         Some(Verb::Deploy)
+    } else if name == "onset" {
+        Some(Verb::OnSet)
+    } else if name == "onremove" {
+        Some(Verb::OnRemove)
+    } else if name == "onupdate" {
+        Some(Verb::OnUpdate)
+    } else if name == "oncancel" {
+        Some(Verb::OnCancel)
     } else {
         None
     }
@@ -109,11 +121,12 @@ fn is_member(form: Form, verb: Verb, name: MemberName) -> bool
     of_form
         || match verb {
             Verb::Open | Verb::Close | Verb::SignOut | Verb::Poll | Verb::Tick => false,
+            Verb::Leave | Verb::RunNext => false,
             Verb::SignIn => name == MemberName::Token,
             Verb::Get => name == MemberName::Path || name == MemberName::Query,
-            Verb::Remove => name == MemberName::Path,
-            Verb::Set => name == MemberName::Path || name == MemberName::Value,
-            Verb::Update => name == MemberName::Path || name == MemberName::Values,
+            Verb::Remove | Verb::OnRemove | Verb::OnCancel => name == MemberName::Path,
+            Verb::Set | Verb::OnSet => name == MemberName::Path || name == MemberName::Value,
+            Verb::Update | Verb::OnUpdate => name == MemberName::Path || name == MemberName::Values,
             Verb::Listen => name == MemberName::Id
                 || name == MemberName::Path
                 || name == MemberName::Query,

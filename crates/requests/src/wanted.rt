@@ -3,7 +3,7 @@ ghost use Rattle.std.specs.Prelude.{◌≡◌, Some, option_map};
 ghost use Rattle.serde_json.specs.View.{view};
 ghost use Rattle.tokens.specs.Tokens.{text_at};
 ghost use Rattle.json_lines.specs.Lines.{Tells, or_fault};
-ghost use Rattle.requests.specs.Message.{path_in, query_at, query_said, id_at, wanted_by};
+ghost use Rattle.requests.specs.Message.{path_in, write_in, writes_in, query_at, query_said, id_at, wanted_by};
 ghost use Rattle.json_lines.specs.declared.fault.MessageFault.TheVariants.{BadRequest};
 ghost use Rattle.json_lines.specs.MemberName.{name_text};
 ghost use Rattle.json_lines.specs.Outline.{object_data, source_data, message_data};
@@ -13,7 +13,7 @@ use json_lines::{
     MemberName, MemberValue, Message, MessageFault, Object, Source, path_of, write_at,
 };
 use listeners::{ListenerId, Query, QueryFault};
-use path_capture::Path;
+use path_capture::{Path, Write};
 use rtdb_model::{Event, Removal, Writes};
 use serde_json::Value;
 use std::alloc::Global;
@@ -30,31 +30,23 @@ pub(crate) fn wanted_by(
     match verb {
         Verb::Open => Ok(Wanted::Step(Event::Open)),
         Verb::Close => Ok(Wanted::Step(Event::Close)),
-        Verb::SignIn => {
-            let secret = text_in(alloc, source, MemberName::Token)?;
-            Ok(Wanted::SignIn(secret))
-        }
+        Verb::SignIn => Ok(Wanted::SignIn(text_in(alloc, source, MemberName::Token)?)),
         Verb::SignOut => Ok(Wanted::Step(Event::SignOut)),
         Verb::Get => get_of(alloc, source),
-        Verb::Set => set_of(alloc, message),
-        Verb::Remove => {
-            let path = path_in(alloc, source)?;
-            Ok(Wanted::Step(Event::Remove(Removal::of(path))))
-        }
-        Verb::Update => update_of(alloc, message),
+        Verb::Set => Ok(Wanted::Step(Event::Set(write_in(alloc, message)?))),
+        Verb::Remove => Ok(Wanted::Step(Event::Remove(removal_in(alloc, source)?))),
+        Verb::Update => Ok(Wanted::Step(Event::Update(writes_in(alloc, message)?))),
         Verb::Listen => listen_of(alloc, source),
-        Verb::Unlisten => {
-            let Some(id) = id_at(source) else {
-                return Err(MessageFault::BadRequest);
-            };
-            Ok(Wanted::Step(Event::Unlisten(id)))
-        }
+        Verb::Unlisten => Ok(Wanted::Step(Event::Unlisten(id_in(source)?))),
         Verb::Poll => Ok(Wanted::Step(Event::Poll)),
         Verb::Tick => Ok(Wanted::Step(Event::Tick)),
-        Verb::Deploy => {
-            let rules = text_in(alloc, source, MemberName::Rules)?;
-            Ok(Wanted::Deploy(rules))
-        }
+        Verb::Deploy => Ok(Wanted::Deploy(text_in(alloc, source, MemberName::Rules)?)),
+        Verb::OnSet => Ok(Wanted::Step(Event::OnSet(write_in(alloc, message)?))),
+        Verb::OnRemove => Ok(Wanted::Step(Event::OnRemove(removal_in(alloc, source)?))),
+        Verb::OnUpdate => Ok(Wanted::Step(Event::OnUpdate(writes_in(alloc, message)?))),
+        Verb::OnCancel => Ok(Wanted::Step(Event::OnCancel(path_in(alloc, source)?))),
+        Verb::Leave => Ok(Wanted::Step(Event::Leave)),
+        Verb::RunNext => Ok(Wanted::Step(Event::RunNext)),
     }
 }
 
@@ -77,6 +69,12 @@ fn path_in(alloc: Global, source: Source<'_>) -> Result<Path, MessageFault>
     path_of(alloc, text)
 }
 
+fn removal_in(alloc: Global, source: Source<'_>) -> Result<Removal, MessageFault>
+    ensures { Tells (λ removal. removal) result (path_in (source_data source.entry)) }
+{
+    Ok(Removal::of(path_in(alloc, source)?))
+}
+
 fn get_of(alloc: Global, source: Source<'_>) -> Result<Wanted, MessageFault>
     ensures { Tells (λ wanted. wanted) result (wanted_by Verb.Get (source_data source.entry)) }
 {
@@ -94,9 +92,7 @@ fn get_of(alloc: Global, source: Source<'_>) -> Result<Wanted, MessageFault>
 fn listen_of(alloc: Global, source: Source<'_>) -> Result<Wanted, MessageFault>
     ensures { Tells (λ wanted. wanted) result (wanted_by Verb.Listen (source_data source.entry)) }
 {
-    let Some(id) = id_at(source) else {
-        return Err(MessageFault::BadRequest);
-    };
+    let id = id_in(source)?;
     let Some(text) = source.text_at(MemberName::Path) else {
         return Err(MessageFault::BadRequest);
     };
@@ -109,6 +105,16 @@ fn listen_of(alloc: Global, source: Source<'_>) -> Result<Wanted, MessageFault>
 }
 
 // The id of a listener that the member `id` is.
+fn id_in(source: Source<'_>) -> Result<ListenerId, MessageFault>
+    ensures { Tells (λ id. id) result (or_fault BadRequest (id_at (source_data source.entry))) }
+{
+    let Some(id) = id_at(source) else {
+        return Err(MessageFault::BadRequest);
+    };
+    Ok(id)
+}
+
+// The same, None where it is none.
 fn id_at(source: Source<'_>) -> Option<ListenerId>
     ensures { result ≡ id_at (source_data source.entry) }
 {
@@ -148,8 +154,9 @@ fn query_of(alloc: Global, value: &Value) -> Result<Option<Query>, MessageFault>
     }
 }
 
-fn set_of(alloc: Global, message: &mut Message<'_>) -> Result<Wanted, MessageFault>
-    ensures { Tells (λ wanted. wanted) result (wanted_by Verb.Set (message_data message.old)) }
+// The write that the members `path` and `value` say.
+fn write_in(alloc: Global, message: &mut Message<'_>) -> Result<Write, MessageFault>
+    ensures { Tells (λ write. write) result (write_in (message_data message.old)) }
 {
     let source = message.source();
     let Some(text) = source.text_at(MemberName::Path) else {
@@ -160,12 +167,12 @@ fn set_of(alloc: Global, message: &mut Message<'_>) -> Result<Wanted, MessageFau
     }
     let path = path_of(alloc, text)?;
     let draft = message.take_draft(alloc, MemberName::Value)?;
-    let write = write_at(path, draft)?;
-    Ok(Wanted::Step(Event::Set(write)))
+    write_at(path, draft)
 }
 
-fn update_of(alloc: Global, message: &mut Message<'_>) -> Result<Wanted, MessageFault>
-    ensures { Tells (λ wanted. wanted) result (wanted_by Verb.Update (message_data message.old)) }
+// The writes that the members `path` and `values` say.
+fn writes_in(alloc: Global, message: &mut Message<'_>) -> Result<Writes, MessageFault>
+    ensures { Tells (λ writes. writes) result (writes_in (message_data message.old)) }
 {
     let source = message.source();
     let Some(text) = source.text_at(MemberName::Path) else {
@@ -180,5 +187,5 @@ fn update_of(alloc: Global, message: &mut Message<'_>) -> Result<Wanted, Message
     }
     let path = path_of(alloc, text)?;
     let writes = message.take_writes(alloc, MemberName::Values, &path)?;
-    Ok(Wanted::Step(Event::Update(Writes::of_vec(writes))))
+    Ok(Writes::of_vec(writes))
 }

@@ -26,7 +26,7 @@ use Rattle.rules_reader.proofs.OneCapture.{stated_one}
 use Rattle.tokens.specs.Tokens.{Tokens, has_only, text_at, identity_named}
 use Rattle.rtdb_model.specs.declared.event.Event.{Event}
 use Rattle.rtdb_model.specs.declared.event.Event.TheVariants as events
-use Rattle.rtdb_model.specs.declared.event.Event.TheVariants.{Get, Set, Remove, Update, Listen, Unlisten}
+use Rattle.rtdb_model.specs.declared.event.Event.TheVariants.{Get, Set, Remove, Update, Listen, Unlisten, OnSet, OnRemove, OnUpdate, OnCancel}
 use Rattle.rtdb_model.specs.State.{State}
 use Rattle.rtdb_model.proofs.Answers.{some_answer, one_answer}
 use Rattle.json_lines.specs.declared.limits.TheConstants.{MAX_MESSAGE_BYTES}
@@ -46,7 +46,7 @@ use Rattle.answers.proofs.Texts.{one_rules_text}
 use Rattle.requests.specs.declared.message.Verb.{Verb}
 use Rattle.requests.specs.declared.message.Verb.TheVariants as verbs
 use Rattle.json_lines.specs.Lines.{or_fault, unless_fault, value_of, path_of, path_below, draft_of_value, write_at, write_below, writes_below}
-use Rattle.requests.specs.Message.{form_members, verb_members, stamp_of, query_at, query_said, id_at, path_in, wanted_by, verb_in, request_of, asks}
+use Rattle.requests.specs.Message.{form_members, verb_members, stamp_of, query_at, query_said, id_at, path_in, write_in, writes_in, wanted_by, verb_in, request_of, asks}
 use Rattle.scripts.specs.Said.{IsAnsweredBy, IsAnsweredInFullBy, IsAnsweredInFull, IsAnswered}
 use Rattle.answers.specs.AnswerText as answer
 
@@ -115,6 +115,19 @@ members_never path (member name d ms) =
 path_in_never : (d : Data) → NeverWants (path_in d)
 path_in_never d = in_turn _ _ (of_option BadRequest (text_at (codes "path") d) (λ e. cc)) (λ text. path_never text)
 
+write_in_never : (d : Data) → NeverWants (write_in d)
+write_in_never d =
+    in_turn _ _ (of_option BadRequest (text_at (codes "path") d) (λ e. cc)) (λ text.
+    in_turn _ _ (of_option BadRequest (get (codes "value") d) (λ e. cc)) (λ value.
+    in_turn _ _ (path_never text) (λ path.
+    in_turn _ _ (draft_never value) (λ draft. write_never path draft))))
+
+writes_in_never : (d : Data) → NeverWants (writes_in d)
+writes_in_never d =
+    in_turn _ _ (of_option BadRequest (text_at (codes "path") d) (λ e. cc)) (λ text.
+    in_turn _ _ (of_option BadRequest (option_and_then as_object (get (codes "values") d)) (λ e. cc)) (λ members.
+    in_turn _ _ (path_never text) (λ path. members_never path members)))
+
 query_never : (said : Option Data) → NeverWants (query_said said)
 query_never None = of_ok _
 query_never (Some said) = of_option BadQuery (option_map (λ query. Some query) (query_of said)) (λ e. cc)
@@ -129,18 +142,9 @@ wanted_never verbs.Get d =
     in_turn _ _ (of_option BadRequest (query_at d) (λ e. cc)) (λ said.
     in_turn _ _ (path_never text) (λ path.
     in_turn _ _ (query_never said) (λ query. of_ok (wanted.Step (Get path query))))))
-wanted_never verbs.Set d =
-    in_turn _ _ (of_option BadRequest (text_at (codes "path") d) (λ e. cc)) (λ text.
-    in_turn _ _ (of_option BadRequest (get (codes "value") d) (λ e. cc)) (λ value.
-    in_turn _ _ (path_never text) (λ path.
-    in_turn _ _ (draft_never value) (λ draft.
-    in_turn _ _ (write_never path draft) (λ write. of_ok (wanted.Step (Set write)))))))
+wanted_never verbs.Set d = in_turn _ _ (write_in_never d) (λ write. of_ok (wanted.Step (Set write)))
 wanted_never verbs.Remove d = in_turn _ _ (path_in_never d) (λ path. of_ok (wanted.Step (Remove path)))
-wanted_never verbs.Update d =
-    in_turn _ _ (of_option BadRequest (text_at (codes "path") d) (λ e. cc)) (λ text.
-    in_turn _ _ (of_option BadRequest (option_and_then as_object (get (codes "values") d)) (λ e. cc)) (λ members.
-    in_turn _ _ (path_never text) (λ path.
-    in_turn _ _ (members_never path members) (λ writes. of_ok (wanted.Step (Update writes))))))
+wanted_never verbs.Update d = in_turn _ _ (writes_in_never d) (λ writes. of_ok (wanted.Step (Update writes)))
 wanted_never verbs.Listen d =
     in_turn _ _ (of_option BadRequest (id_at d) (λ e. cc)) (λ id.
     in_turn _ _ (of_option BadRequest (text_at (codes "path") d) (λ e. cc)) (λ text.
@@ -151,6 +155,12 @@ wanted_never verbs.Unlisten d = in_turn _ _ (of_option BadRequest (id_at d) (λ 
 wanted_never verbs.Poll d = of_ok _
 wanted_never verbs.Tick d = of_ok _
 wanted_never verbs.Deploy d = in_turn _ _ (of_option BadRequest (text_at (codes "rules") d) (λ e. cc)) (λ rules. of_ok (Deploy rules))
+wanted_never verbs.OnSet d = in_turn _ _ (write_in_never d) (λ write. of_ok (wanted.Step (OnSet write)))
+wanted_never verbs.OnRemove d = in_turn _ _ (path_in_never d) (λ path. of_ok (wanted.Step (OnRemove path)))
+wanted_never verbs.OnUpdate d = in_turn _ _ (writes_in_never d) (λ writes. of_ok (wanted.Step (OnUpdate writes)))
+wanted_never verbs.OnCancel d = in_turn _ _ (path_in_never d) (λ path. of_ok (wanted.Step (OnCancel path)))
+wanted_never verbs.Leave d = of_ok _
+wanted_never verbs.RunNext d = of_ok _
 
 request_never : (form : Form) (d : Data) → NeverWants (request_of form d)
 request_never form d =
