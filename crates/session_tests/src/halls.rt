@@ -38,6 +38,30 @@ impl Clock for Still {
     }
 }
 
+/// A clock that gives 1, 2 and so on, up to 1,000.
+#[derive(Drop)]
+pub(crate) struct Counting {
+    last: u64,
+}
+
+impl Counting {
+    /// A clock that has given no moment.
+    pub(crate) fn new() -> Counting {
+        Counting { last: 0 }
+    }
+}
+
+impl Clock for Counting {
+    ghost use Rattle.std.specs.Prelude.{None};
+
+    ghost moments = { λ _. None };
+
+    fn now(&mut self) -> u64 {
+        self.last = self.last.saturating_add(1).min(1_000);
+        self.last
+    }
+}
+
 /// A gate that holds nobody.
 #[derive(Drop)]
 pub(crate) struct OpenGate;

@@ -38,8 +38,8 @@ fn a_cut_stream_leaves_no_session(rt: HostRuntime) -> Result<(), Fail> {
     Ok(())
 }
 
-// Serves a client of whom only so many bytes come.
-fn serve_front<R: Wait>(
+/// Serves a client of whom only so many bytes come.
+pub(crate) fn serve_front<R: Wait>(
     rt: &R,
     alloc: Global,
     bytes: &[u8],

@@ -17,6 +17,8 @@ mod script_peer;
 #[cfg(test)]
 mod two_at_once;
 #[cfg(test)]
+mod vanishing;
+#[cfg(test)]
 mod verbs;
 #[cfg(test)]
 mod wire;

@@ -36,6 +36,11 @@ impl ScriptPeer {
     pub(crate) fn sent(&self) -> &[Vec<u8>] {
         &self.sent
     }
+
+    /// The same, owned.
+    pub(crate) fn into_sent(self) -> Vec<Vec<u8>> {
+        self.sent
+    }
 }
 
 impl Peer for ScriptPeer {

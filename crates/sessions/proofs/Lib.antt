@@ -1,3 +1,4 @@
 pub mod Gaining
 pub mod Going
 pub mod Turning
+pub mod Departing

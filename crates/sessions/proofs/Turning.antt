@@ -1,4 +1,4 @@
--- The turns of a session, and its opening and its close.
+-- The turns of a session, and its opening and its end.
 use Rattle.std.proofs.Common.{◌≡◌, ◌≢◌, ℕ, zero, suc, true, ◌+◌, ◌<◌, List, [], ◌∷◌, ◌++◌, length, refl, ap, sym, subst, ◌∙◌, ◌⊎◌, inl, inr, append-nil, arith, length-append}
 use Rattle.std.specs.Prelude.{Option, Some, None, All, flat_map, MatchOption}
 use Rattle.std.proofs.lemmas.Grind.{flat_map-append}
@@ -10,7 +10,7 @@ use Rattle.requests.specs.declared.ask.Asked.{Asked}
 use Rattle.requests.specs.declared.ask.LineFault.{LineFault}
 use Rattle.requests.specs.Ask.{IsAsked}
 use Rattle.std.specs.Prelude.{Ok, Err}
-use Rattle.rtdb_model.specs.declared.event.Event.TheVariants.{Open, Close, Poll}
+use Rattle.rtdb_model.specs.declared.event.Event.TheVariants.{Open, Poll}
 use Rattle.rtdb_model.specs.declared.reply.Reply.{Reply}
 use Rattle.rtdb_model.specs.declared.reply.Reply.TheVariants.{Done}
 use Rattle.answers.specs.AnswerText.{text, line_fault_text}
@@ -18,7 +18,7 @@ use Rattle.sessions.specs.Traffic.{Traffic, Adds, Moves, IsOpen}
 use Rattle.sessions.specs.Calls.{Answered, Gains, entered}
 use Rattle.sessions.specs.Turns.{Deeds, nothing, both, unsent, calling, IsAnswered, Answers, Pushes, push_of, Turn, IsWhole, IsCut, got_in, deeds_in}
 use Rattle.sessions.specs.Serving.{World, world, Goes, Fits, EndsAs, Visits, Serves}
-use Rattle.sessions.specs.Working.{RepliesOr, AnswersOr, PushesOr, TurnsOr, HasTurns, replying}
+use Rattle.sessions.specs.Working.{RepliesOr, AnswersOr, PushesOr, TurnsOr, HasTurns, DepartsBy, replying}
 use Rattle.sessions.specs.declared.serve.SessionEnd.{SessionEnd}
 use Rattle.sessions.specs.declared.serve.SessionEnd.TheVariants as ends
 use Rattle.sessions.proofs.Going.{goes_nothing, goes_both, goes_on, goes_by, goes_calling, both-nothing, both-both, moves_none}
@@ -118,7 +118,7 @@ turns_end tokens session n most a b c end less s (t, cut, goes, fits) =
 pub turns_over : (tokens : Tokens) (session most : ℕ) (a b : World) → SoFar tokens session most a b → HasTurns tokens session most a ends.Turns b
 turns_over tokens session most a b s = (s.turns, s.goes, inl (s.whole, s.count, refl))
 
--- ---- the opening and the close
+-- ---- the opening and the end
 
 fits_finished : (end : SessionEnd) (q : Traffic) → Fits end q → Fits end (record q { finished = true })
 fits_finished ends.PeerClosed q h = h
@@ -128,17 +128,17 @@ fits_finished ends.NoMemory q h = h
 fits_finished ends.NotOpened q h = h
 
 -- the session was attended
-pub attends : (tokens : Tokens) (session most now then : ℕ) (a b c d : World) (reply : Reply) (end : SessionEnd) → Goes a [] (calling now session Open Done) b → HasTurns tokens session most b end c
-    → Goes c [] (calling then session Close reply) d → c.traffic ≡ d.traffic → Visits tokens session most a end d
-attends tokens session most now then a b c d reply end opens (turns, goes, ends_so) closes same =
+pub attends : (tokens : Tokens) (session most now : ℕ) (a b c : World) (l : Known) (n : Option (List ℕ)) (end : SessionEnd) → Goes a [] (calling now session Open Done) b → HasTurns tokens session most b end c
+    → DepartsBy session c.seat c.moments l n → Visits tokens session most a end (world l n c.traffic)
+attends tokens session most now a b c l n end opens (turns, goes, ends_so) (departure, departs, quietly) =
     inr (
       now,
-      then,
       turns,
-      reply,
-      goes_both a b d [] (got_in turns) (calling now session Open Done) (both (deeds_in turns) (calling then session Close reply)) opens
-          (goes_on b c d (got_in turns) (deeds_in turns) (calling then session Close reply) goes closes),
-      subst (λ (q : Traffic). EndsAs tokens session most turns q end) same ends_so,
+      departure,
+      departs,
+      goes_both a b (world l n c.traffic) [] (got_in turns) (calling now session Open Done) (both (deeds_in turns) departure) opens
+          (goes_on b c (world l n c.traffic) (got_in turns) (deeds_in turns) departure goes (quietly c.traffic)),
+      ends_so,
     )
 
 -- the session was turned away
@@ -162,7 +162,7 @@ ends_finished tokens session most turns q end (inr (earlier, last, is, whole, cu
 visits_finished : (tokens : Tokens) (session most : ℕ) (a b : World) (end : SessionEnd) → Visits tokens session most a end b → Visits tokens session most a end (finished b)
 unfolding finished
 visits_finished tokens session most a b end (inl (now, reply, texts, refused, said, goes, is)) = inl (now, reply, texts, refused, said, goes_finished a b [] _ goes, is)
-visits_finished tokens session most a b end (inr (now, then, turns, reply, goes, ends_so)) = inr (now, then, turns, reply, goes_finished a b (got_in turns) _ goes, ends_finished tokens session most turns b.traffic end ends_so)
+visits_finished tokens session most a b end (inr (now, turns, departure, departs, goes, ends_so)) = inr (now, turns, departure, departs, goes_finished a b (got_in turns) _ goes, ends_finished tokens session most turns b.traffic end ends_so)
 
 pub serves : (tokens : Tokens) (session most : ℕ) (a b : World) (end : SessionEnd) (q : Traffic) → Visits tokens session most a end b → q ≡ record (b.traffic) { finished = true } → Serves tokens session most a end (world b.seat b.moments q)
 unfolding finished

@@ -2,5 +2,6 @@ pub mod Traffic
 pub mod Peers
 pub mod Calls
 pub mod Turns
+pub mod Departure
 pub mod Serving
 pub mod Working

@@ -1,7 +1,7 @@
 -- A session from its opening to its end. (This project's profile.)
 use Rattle.std.specs.Prelude.{◌≡◌, ◌≢◌, ℕ, ◌<◌, true, ◌⊎◌, List, [], ◌∷◌, ◌++◌, All, length, Option, None, Some}
 use Rattle.tokens.specs.Tokens.{Tokens}
-use Rattle.rtdb_model.specs.declared.event.Event.TheVariants.{Open, Close}
+use Rattle.rtdb_model.specs.declared.event.Event.TheVariants.{Open}
 use Rattle.rtdb_model.specs.declared.reply.Reply.{Reply}
 use Rattle.rtdb_model.specs.declared.reply.Reply.TheVariants.{Done}
 use Rattle.answers.specs.AnswerText.{text}
@@ -9,6 +9,7 @@ use Rattle.locked_server.specs.Known.{Known}
 use Rattle.sessions.specs.Traffic.{Traffic, Adds, Takes, IsOpen}
 use Rattle.sessions.specs.Calls.{Gains}
 use Rattle.sessions.specs.Turns.{Deeds, both, calling, Turn, IsWhole, IsCut, got_in, deeds_in}
+use Rattle.sessions.specs.Departure.{Departs}
 use Rattle.sessions.specs.declared.serve.SessionEnd.{SessionEnd}
 use Rattle.sessions.specs.declared.serve.SessionEnd.TheVariants.{PeerClosed, PeerFault, Turns, NoMemory, NotOpened}
 
@@ -49,11 +50,11 @@ IsTurnedAway session before end after =
     (now : ℕ) × (reply : Reply) × (texts : List (List ℕ)) × (reply ≢ Done) × ((texts ≡ []) ⊎ (texts ≡ text reply ∷ []))
     × Goes before [] (record (calling now session Open reply) { texts = texts }) after × (end ≡ NotOpened)
 
--- the session was opened, had its turns, and was closed
+-- the session was opened, had its turns, and went: it left, its actions were run, and it was closed
 abbrev pub IsAttended : Tokens → ℕ → ℕ → World → SessionEnd → World → Type 0
 IsAttended tokens session most before end after =
-    (now then : ℕ) × (turns : List Turn) × (reply : Reply)
-    × Goes before (got_in turns) (both (calling now session Open Done) (both (deeds_in turns) (calling then session Close reply))) after
+    (now : ℕ) × (turns : List Turn) × (departure : Deeds) × Departs session departure
+    × Goes before (got_in turns) (both (calling now session Open Done) (both (deeds_in turns) departure)) after
     × EndsAs tokens session most turns after.traffic end
 
 -- the session was turned away, or attended

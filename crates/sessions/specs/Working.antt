@@ -1,10 +1,12 @@
 -- Words of private contracts. No public clause names one.
 use Rattle.std.specs.Prelude.{◌≡◌, ℕ, List, [], ◌∷◌, Option, None, Some}
 use Rattle.tokens.specs.Tokens.{Tokens}
-use Rattle.sessions.specs.Traffic.{IsOpen}
+use Rattle.locked_server.specs.Known.{Known}
+use Rattle.sessions.specs.Traffic.{Traffic, IsOpen}
 use Rattle.sessions.specs.Calls.{Answered}
 use Rattle.sessions.specs.Turns.{Deeds, unsent, IsAnswered, Answers, Pushes, Turn, IsWhole, IsCut, got_in, deeds_in}
-use Rattle.sessions.specs.Serving.{World, Goes, Fits, EndsAs}
+use Rattle.sessions.specs.Departure.{Run, runs_in, AreRun, Departs}
+use Rattle.sessions.specs.Serving.{World, world, Goes, Fits, EndsAs}
 use Rattle.sessions.specs.declared.serve.SessionEnd.{SessionEnd}
 
 -- what is done for a message: one moment is read, the call is made that the message asks for, and this is its answer
@@ -36,3 +38,15 @@ TurnsOr tokens session before after (Some end) = (t : Turn) × IsCut tokens sess
 -- the turns of a session that is open
 abbrev pub HasTurns : Tokens → ℕ → ℕ → World → SessionEnd → World → Type 0
 HasTurns tokens session most before end after = (turns : List Turn) × Goes before (got_in turns) (deeds_in turns) after × EndsAs tokens session most turns after.traffic end
+
+-- this was done by a seat, at moments that the clock gave, and nothing went between the server and its peer
+abbrev pub Quietly : Known → Option (List ℕ) → Deeds → Known → Option (List ℕ) → Type 0
+Quietly k m d l n = (p : Traffic) → Goes (world k m p) [] d (world l n p)
+
+-- the session's actions were run
+abbrev pub RunsActions : ℕ → Known → Option (List ℕ) → Known → Option (List ℕ) → Type 0
+RunsActions session k m l n = (runs : List Run) × AreRun runs × Quietly k m (runs_in session runs) l n
+
+-- the session went
+abbrev pub DepartsBy : ℕ → Known → Option (List ℕ) → Known → Option (List ℕ) → Type 0
+DepartsBy session k m l n = (d : Deeds) × Departs session d × Quietly k m d l n

@@ -99,9 +99,9 @@ pub(crate) fn attend<R: Wait>(
 }
 
 /// Answers one message of a client, at a moment in milliseconds since 1970. The message is what a line of a script is,
-/// but for `now` and `s`, which it has not, and `open`, `close` and `tick`, which it can't ask. It costs what reading
-/// it, one call of the hall, and writing the answer do; the latter two are apart, so that no other client waits for
-/// this one's text. An error is want of memory for the text, and the call may have been made.
+/// but for `now` and `s`, which it has not, and `open`, `close`, `tick`, `leave` and `runnext`, which it can't ask. It
+/// costs what reading it, one call of the hall, and writing the answer do; the latter two are apart, so that no other
+/// client waits for this one's text. An error is want of memory for the text, and the call may have been made.
 pub fn answer<R: Wait>(
     rt: &R,
     alloc: Global,

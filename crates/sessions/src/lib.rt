@@ -6,11 +6,13 @@
 #![tactic(auto)]
 
 mod attending;
+mod departure;
 mod peer;
 mod serve;
 mod socket_peer;
 
 pub use attending::answer;
+pub use departure::MAX_RUNS;
 pub use peer::{Clock, Gate, Peer, Received, Sent};
 pub use serve::{SessionEnd, serve_session};
 pub use socket_peer::SocketPeer;

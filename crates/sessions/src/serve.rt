@@ -7,6 +7,7 @@ ghost use Rattle.sessions.specs.Serving.{Fits, Serves, Visits, world};
 ghost use Rattle.sessions.specs.Working.{AnswersOr, HasTurns, PushesOr, RepliesOr, TurnsOr};
 
 use crate::attending::{Desk, SessionPlace, ask, attend};
+use crate::departure::depart;
 use crate::peer::{Clock, Gate, Peer, Received, Sent};
 use answers::AnswerWriter;
 use bumpalo::Bump;
@@ -206,11 +207,11 @@ fn take_turns<R: Wait, G: Gate, C: Clock, P: Peer>(
     SessionEnd::Turns
 }
 
-/// Serves one client: opens the session, takes at most so many turns, and closes the session, however they end. In a
-/// turn it receives once, answers the message that has come, if one has, polls, and pushes the news, if there are any.
-/// A session whose opening is refused gets that refusal. It waits where [`Hall::call`] does, and where the peer does.
-/// A turn without a message and without news costs one call of the hall, and takes no memory; the memory of texts is
-/// kept from turn to turn.
+/// Serves one client: opens the session, takes at most so many turns, and however they end lets the session leave, runs
+/// its actions, 32 times at most, and closes it. In a turn it receives once, answers the message that has come, if one
+/// has, polls, and pushes the news, if there are any. A session whose opening is refused gets that refusal. It waits
+/// where [`Hall::call`] does, and where the peer does. A turn without a message and without news costs one call of the
+/// hall, and takes no memory; the memory of texts is kept from turn to turn.
 pub fn serve_session<R: Wait, G: Gate, C: Clock, P: Peer>(
     rt: &R,
     alloc: Global,
@@ -241,7 +242,7 @@ pub fn serve_session<R: Wait, G: Gate, C: Clock, P: Peer>(
     end
 }
 
-// The session, from its opening to its close.
+// The session, from its opening to its end.
 fn visit<R: Wait, G: Gate, C: Clock, P: Peer>(
     place: &SessionPlace<'_, R>,
     seat: &mut Seat,
@@ -262,8 +263,7 @@ fn visit<R: Wait, G: Gate, C: Clock, P: Peer>(
     match ask(place, seat, arena, now, Event::Open) {
         Reply::Done => {
             let end = take_turns(place, seat, arena, desk, gate, clock, peer, turns);
-            let then = clock.now();
-            drop(ask(place, seat, arena, then, Event::Close));
+            depart(place, seat, arena, clock);
             end
         }
         refused => {

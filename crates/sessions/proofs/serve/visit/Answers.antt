@@ -1,5 +1,5 @@
 use Rattle.std.proofs.Common.{[], refl}
-use Rattle.rtdb_model.specs.declared.event.Event.TheVariants.{Open, Close}
+use Rattle.rtdb_model.specs.declared.event.Event.TheVariants.{Open}
 use Rattle.rtdb_model.specs.declared.reply.Reply.TheVariants.{Done}
 use Rattle.sessions.specs.Calls.{entered}
 use Rattle.sessions.specs.Serving.{world}
@@ -10,14 +10,9 @@ use Rattle.sessions.proofs.serve.visit.Goals as goal
 pub returns-in-Done-clause-visits : goal.returns-in-Done-clause-visits
 returns-in-Done-clause-visits g c =
     let p = g.P.Peer.traffic c.args.peer.now in
-    let q = g.P.Peer.traffic c.take_turns-end.new.peer in
-    attends c.args.place.now.tokens.now c.args.place.now.session c.args.turns c.now-now.result c.now-then.result (world c.args.seat.now (g.C.Clock.moments c.args.clock.now) (g.P.Peer.traffic c.args.peer.now))
+    attends c.args.place.now.tokens.now c.args.place.now.session c.args.turns c.now-now.result (world c.args.seat.now (g.C.Clock.moments c.args.clock.now) (g.P.Peer.traffic c.args.peer.now))
     (world c.ask.new.seat (g.C.Clock.moments c.now-now.new.self) (g.P.Peer.traffic c.args.peer.now))
-    (world c.take_turns-end.new.seat (g.C.Clock.moments c.take_turns-end.new.clock) (g.P.Peer.traffic c.take_turns-end.new.peer))
-    (world c.ask-in-Done.new.seat (g.C.Clock.moments c.now-then.new.self) (g.P.Peer.traffic c.take_turns-end.new.peer)) c.ask-in-Done.result c.take_turns-end.result
+    (world c.take_turns-end.new.seat (g.C.Clock.moments c.take_turns-end.new.clock) (g.P.Peer.traffic c.take_turns-end.new.peer)) c.depart.new.seat (g.C.Clock.moments c.depart.new.clock) c.take_turns-end.result
     (goes_calling c.args.seat.now c.ask.new.seat (g.C.Clock.moments c.args.clock.now) (g.C.Clock.moments c.now-now.new.self) p p c.now-now.result (entered c.now-now.result c.args.place.now.session Open Done) []
     c.now-now.ensures.given c.in-Done.ensures.gains (moves_none p p refl refl))
-    c.take_turns-end.ensures.turns
-    (goes_calling c.take_turns-end.new.seat c.ask-in-Done.new.seat (g.C.Clock.moments c.take_turns-end.new.clock) (g.C.Clock.moments c.now-then.new.self) q q c.now-then.result
-    (entered c.now-then.result c.args.place.now.session Close c.ask-in-Done.result) [] c.now-then.ensures.given c.ask-in-Done.ensures.gains (moves_none q q refl refl))
-    refl
+    c.take_turns-end.ensures.turns c.depart.ensures.departs

@@ -1,0 +1,60 @@
+//! What is done when a session goes.
+ghost use Rattle.std.specs.Prelude.{◌≡◌};
+ghost use Rattle.sessions.specs.Departure.{found_none};
+ghost use Rattle.sessions.specs.Working.{RunsActions, DepartsBy};
+
+use crate::attending::{SessionPlace, ask};
+use crate::peer::Clock;
+use bumpalo::Bump;
+use locked_server::Seat;
+use rtdb_core::{Event, Ran, Reply};
+use std::sync::Wait;
+
+/// How often actions are run when a session goes, at most: once for each that it may have, and as often again where
+/// memory was wanting.
+pub const MAX_RUNS: u64 = 32;
+
+/// Lets the session leave, runs its actions, and closes it.
+pub(crate) fn depart<R: Wait, C: Clock>(
+    place: &SessionPlace<'_, R>,
+    seat: &mut Seat,
+    arena: &mut Bump,
+    clock: &mut C,
+)
+    requires hall { seat.old.hall ≡ place.now.hall.now }
+    ensures hall { seat.new.hall ≡ place.now.hall.now }
+    ensures departs { DepartsBy place.now.session seat.old (C.moments clock.old) seat.new (C.moments clock.new) }
+{
+    let now = clock.now();
+    drop(ask(place, seat, arena, now, Event::Leave));
+    run_actions(place, seat, arena, clock);
+    let then = clock.now();
+    drop(ask(place, seat, arena, then, Event::Close));
+}
+
+// Runs the actions of a session that leaves, until none is left or as often as may be.
+fn run_actions<R: Wait, C: Clock>(
+    place: &SessionPlace<'_, R>,
+    seat: &mut Seat,
+    arena: &mut Bump,
+    clock: &mut C,
+)
+    requires hall { seat.old.hall ≡ place.now.hall.now }
+    ensures hall { seat.new.hall ≡ place.now.hall.now }
+    ensures runs { RunsActions place.now.session seat.old (C.moments clock.old) seat.new (C.moments clock.new) }
+{
+    for _ in 0..MAX_RUNS {
+        let now = clock.now();
+        let reply = ask(place, seat, arena, now, Event::RunNext);
+        if found_none(&reply) {
+            return;
+        }
+    }
+}
+
+// Whether no action was left to be run.
+fn found_none(reply: &Reply) -> bool
+    ensures { result ≡ found_none reply.now }
+{
+    matches!(reply, Reply::Ran(Ran::Empty))
+}
