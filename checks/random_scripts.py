@@ -44,18 +44,22 @@ def some(make, least, most):
     return [make() for _ in range(dice.randint(least, most))]
 
 
-# How often each verb comes: in scripts of everything, of many rules, and of listeners.
+# How often each verb comes: in scripts of everything, of many rules, of listeners, and of sessions that leave.
 MIXED = {
     "open": 2, "close": 1, "signin": 6, "signout": 1, "get": 22, "set": 22, "remove": 4, "update": 9, "listen": 9, "unlisten": 2,
-    "poll": 9, "tick": 2, "deploy": 12,
+    "poll": 9, "tick": 2, "deploy": 12, "onset": 4, "onremove": 1, "onupdate": 2, "oncancel": 1, "leave": 1, "runnext": 0.5,
 }
 JUDGING = {
     "open": 0.5, "close": 0.2, "signin": 5, "signout": 1, "get": 45, "set": 25, "remove": 3, "update": 8, "listen": 3, "unlisten": 1,
-    "poll": 2, "tick": 1, "deploy": 8,
+    "poll": 2, "tick": 1, "deploy": 8, "onset": 3, "onremove": 1, "onupdate": 1, "oncancel": 0.5, "leave": 1, "runnext": 0.2,
 }
 LISTENING = {
     "open": 1, "close": 1, "signin": 4, "signout": 3, "get": 3, "set": 22, "remove": 4, "update": 9, "listen": 20, "unlisten": 2,
-    "poll": 20, "tick": 4, "deploy": 4,
+    "poll": 20, "tick": 4, "deploy": 4, "onset": 5, "onremove": 1, "onupdate": 2, "oncancel": 1, "leave": 2, "runnext": 0.5,
+}
+LEAVING = {
+    "open": 1, "close": 1, "signin": 4, "signout": 4, "get": 8, "set": 10, "remove": 2, "update": 3, "listen": 8, "unlisten": 1,
+    "poll": 10, "tick": 1, "deploy": 5, "onset": 20, "onremove": 4, "onupdate": 8, "oncancel": 4, "leave": 5, "runnext": 2,
 }
 
 
@@ -460,6 +464,10 @@ def odd_file(top):
     return dice.choice([top, [], None, "rules", *map(Pairs, objects)])
 
 
+# Grants that a session may have while it is there, and no longer when its actions are run.
+PASSING = ["auth != null", "auth.uid == 'ann'", "now < 45", "now < 60", "auth != null && now < 75", "!data.child('a').exists()"]
+
+
 def rules_text(style):
     """The text of a rules file."""
     Mood.patterns = [[]] if style is SOUND else Mood.patterns
@@ -467,7 +475,10 @@ def rules_text(style):
     if chance(Mood.grants):
         # (a file under which most is granted, so that other things are tried)
         reads = dice.choice([True, True, boolean(1, Place(".read", [])), small_test(Place(".read", []))])
-        top.pairs = [*[it for it in top.pairs if it[0] not in (".read", ".write")], (".read", reads), (".write", True)]
+        writes = True
+        if Mood.verbs is LEAVING:
+            reads, writes = dice.choice([reads, *PASSING]), dice.choice([writes, *PASSING])
+        top.pairs = [*[it for it in top.pairs if it[0] not in (".read", ".write")], (".read", reads), (".write", writes)]
     if chance(style.shapes / 4):
         top = chain(dice.choice([31, 32, 33]))
     file = Pairs([("rules", top)])
@@ -633,16 +644,21 @@ def members_of(it):
     if it in ("get", "listen"):
         named = [("id", name())] if it == "listen" else []
         return named + [("path", path(2 if named else 4))] + ([("query", query())] if chance(0.45) else [])
-    if it == "set":
-        return [("path", path()), ("value", tree(dice.randint(0, 3)))]
-    if it == "remove":
+    if it in ("set", "onset"):
+        presence = it == "onset" and chance(0.2)
+        return [("path", path()), ("value", MOMENT if presence else tree(dice.randint(0, 3)))]
+    if it in ("remove", "onremove"):
         return [("path", path())]
-    if it == "update":
+    if it == "oncancel":
+        return [("path", path(2))]
+    if it in ("update", "onupdate"):
         return [("path", path()), ("values", Pairs([(it, tree(dice.randint(0, 2))) for it in places_below()]))]
     if it == "unlisten":
         return [("id", name())]
     if it == "deploy":
-        return [("rules", rules_text(dice.choice([SOUND, SOUND, WRONG, WRONG, ODD])))]
+        # (where sessions leave, other rules shall come into force before their actions are run)
+        sound = Mood.verbs is LEAVING and chance(0.7)
+        return [("rules", rules_text(SOUND if sound else dice.choice([SOUND, SOUND, WRONG, WRONG, ODD])))]
     return []
 
 
@@ -733,10 +749,34 @@ def requests():
         lines += [request(now, "listen") for _ in range(4)]
     for _ in range(dice.randint(30, 55)):
         now = max(0, now + dice.choice([0, 0, 1, 1, 2, 5, -3])) if chance(0.99) else dice.choice([0, MOST, 10**12])
-        lines.append(request(now))
-    if chance(0.02):
-        dice.choice([crowd_of_sessions, crowd_of_listeners, full_tree, large_line])(lines, now)
+        it = verb()
+        if it == "leave":
+            departure(lines, now, any_session())
+        else:
+            lines.append(request(now, it))
+    if chance(0.03):
+        dice.choice([crowd_of_sessions, crowd_of_listeners, crowd_of_actions, full_tree, large_line])(lines, now)
     return lines
+
+
+def departure(lines, now, session):
+    """A session establishes actions and leaves, and they are run while others ask. What comes in between may be why some are
+    skipped: another is signed in or nobody is, other rules are in force, the tree is another, or time has passed. Then the
+    session is mostly closed, and opened again."""
+    if chance(0.8):
+        lines.append(request(now, "signin", session))
+    actions = dice.choices(["onset", "onupdate", "onremove", "oncancel"], [8, 4, 2, 1], k=dice.randint(0, 8))
+    lines += [request(now, it, session) for it in actions]
+    # (what comes behind the departure may have an earlier moment, and so shows what was judged at a later one)
+    now = min(MOST, now + dice.choice([0, 0, 30]))
+    changes = dice.choice([[], ["signout"], ["signout"], ["signin"], ["deploy"], ["deploy"], ["set", "set"]])
+    lines += [request(now, it, session) for it in [*changes, "leave"]]
+    for _ in range(dice.randint(0, len(actions) + 1)):
+        now = min(MOST, now + dice.choice([0, 0, 1, 5, 30]))
+        lines.append(request(now, "runnext", session) if chance(0.7) else request(now))
+    again = dice.choice([[], *[["open"], ["open", "signin"]] * 3])
+    if chance(0.9):
+        lines += [request(now, it, session) for it in ["close", *again]]
 
 
 def crowd_of_sessions(lines, now):
@@ -745,8 +785,28 @@ def crowd_of_sessions(lines, now):
 
 def crowd_of_listeners(lines, now):
     for number in range(66):
-        lines.append(spelled({"do": "listen", "now": now, "s": 1, "id": f"i{number}", "path": "/"}).encode())
+        lines.append(sound_request(now, "listen", id=f"i{number}", path="/"))
     lines += [request(now) for _ in range(10)]
+
+
+def sound_request(now, it, **members):
+    return spelled({"do": it, "now": now, "s": 1, **members}).encode()
+
+
+def most_granted(lines, now):
+    """A new session is signed in, and most is granted."""
+    lines += [sound_request(now, "close"), sound_request(now, "open"), sound_request(now, "signin", token=SECRETS[0])]
+    rules = '{"rules":{".read":true,".write":true,"n":{".validate":"newData.isNumber()"}}}'
+    lines.append(sound_request(now, "deploy", rules=rules))
+
+
+def crowd_of_actions(lines, now):
+    if chance(0.8):
+        most_granted(lines, now)
+    lines += [request(now, dice.choice(["onset", "onset", "onremove", "onupdate"]), 1) for _ in range(dice.randint(20, 40))]
+    lines.append(request(now, "leave", 1))
+    lines += [request(now, "runnext", 1) if chance(0.8) else request(now, "set") for _ in range(25)]
+    lines.append(request(now, "close", 1))
 
 
 def array_of(many):
@@ -754,9 +814,14 @@ def array_of(many):
 
 
 def full_tree(lines, now):
+    if chance(0.8):
+        most_granted(lines, now)
     many = array_of(dice.choice([65_530, 65_534, 65_535, 65_536]))
-    lines.append(spelled({"do": "set", "now": now, "s": 1, "path": dice.choice(["/", "/a"]), "value": many}).encode())
+    lines.append(sound_request(now, "set", path=dice.choice(["/", "/a"]), value=many))
     lines += [request(now, "set") for _ in range(3)]
+    if chance(0.5):
+        lines.append(sound_request(now, "onset", path="/b", value=array_of(8)))
+    departure(lines, now, 1)
 
 
 def large_line(lines, now):
@@ -769,7 +834,7 @@ def large_line(lines, now):
 def script(seed, number):
     """The bytes of a script."""
     dice.seed(f"{seed}/{number}")
-    moods = [(MIXED, 0.25, 0.3), (JUDGING, 0.05, 0.1), (JUDGING, 0.05, 0.1), (LISTENING, 0.8, 0.3)]
+    moods = [(MIXED, 0.25, 0.3), (JUDGING, 0.05, 0.1), (JUDGING, 0.05, 0.1), (LISTENING, 0.8, 0.3), (LEAVING, 0.6, 0.3)]
     Mood.verbs, Mood.grants, Mood.plain = dice.choice(moods)
     Mood.patterns = [[]]
     ends = dice.choice([b"\n", b"\n", b"\n", b"\r\n"])

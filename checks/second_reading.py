@@ -19,10 +19,10 @@ MOST_LINE = 1_048_576
 CODES = {
     "BadJson": 101, "BadRequest": 102, "BadPath": 103, "BadValue": 104, "TooDeep": 105, "BadQuery": 106,
     "EmptyUpdate": 107, "Overlap": 108, "TooLarge": 109, "UnknownToken": 201, "NoSession": 202, "SessionOpen": 203,
-    "TooManySessions": 204, "NotAdmin": 205, "BadTokens": 208, "DuplicateId": 301, "NoListener": 302,
-    "TooManyListeners": 303, "BadRulesJson": 401, "BadRulesShape": 402, "BadExpression": 403, "NotInProfile": 404,
-    "TypeError": 405, "UnknownName": 406, "TooManyRules": 407, "ReadDenied": 501, "WriteDenied": 502,
-    "ValidateDenied": 503, "TreeFull": 504,
+    "TooManySessions": 204, "NotAdmin": 205, "Leaving": 206, "TooManyActions": 207, "BadTokens": 208, "NotLeaving": 209,
+    "DuplicateId": 301, "NoListener": 302, "TooManyListeners": 303, "BadRulesJson": 401, "BadRulesShape": 402,
+    "BadExpression": 403, "NotInProfile": 404, "TypeError": 405, "UnknownName": 406, "TooManyRules": 407,
+    "ReadDenied": 501, "WriteDenied": 502, "ValidateDenied": 503, "TreeFull": 504,
 }
 
 # (a chain of one operator is as deep as a text of 4,096 bytes has operators)
@@ -1125,7 +1125,15 @@ VERBS = {
     "poll": {},
     "tick": {},
     "deploy": {"rules": is_string},
+    "onset": {"path": is_string, "value": is_anything},
+    "onremove": {"path": is_string},
+    "onupdate": {"path": is_string, "values": is_object},
+    "oncancel": {"path": is_string},
+    "leave": {},
+    "runnext": {},
 }
+# The verbs that say what is written, at once or when the session goes.
+WRITING = {"set", "remove", "update", "onset", "onremove", "onupdate"}
 
 
 def has_members(said, members, left_out=()):
@@ -1154,15 +1162,19 @@ def read_request(line):
         raise Refused("BadRequest")
     if "path" in said:
         said["path"] = read_path(said["path"])
-    if verb == "set":
-        said["writes"] = [read_write(said["path"], said["value"], said["now"])]
-    if verb == "remove":
-        said["writes"] = [(said["path"], None)]
-    if verb == "update":
-        said["writes"] = [read_write_below(said["path"], *it, said["now"]) for it in sorted(said["values"].items())]
+    if verb in WRITING:
+        said["writes"] = writes_of(said, said["now"])
     if "query" in said:
         said["query"] = read_query(said["query"])
     return said
+
+
+def writes_of(said, now):
+    """The writes that a request says, with this moment in the place of each form that stands for one."""
+    if "values" in said:
+        return [read_write_below(said["path"], *it, now) for it in sorted(said["values"].items())]
+    # (a removal has no value, and null removes)
+    return [read_write(said["path"], said.get("value"), now)]
 
 
 def read_write(path, value, now):
@@ -1176,15 +1188,34 @@ def read_write_below(path, name, value, now):
     return read_write(within_depth(path + read_path(name)), value, now)
 
 
+def locations_of(writes):
+    return [path for path, _ in writes]
+
+
+def is_below(location, path):
+    """Whether a location is at a path or below it."""
+    return location[: len(path)] == path
+
+
+def need_apart(locations):
+    """The locations of an update: there is one, and none is at or above another."""
+    if not locations:
+        raise Refused("EmptyUpdate")
+    for at, path in enumerate(locations):
+        if any(is_below(other, path) for other in locations[:at] + locations[at + 1 :]):
+            raise Refused("Overlap")
+
+
 # ---- the database
 
 MOST_SESSIONS = 64
 MOST_LISTENERS = 64
+MOST_ACTIONS = 16
 
 
 class Session:
     def __init__(self):
-        self.identity, self.listeners, self.actions = None, {}, []
+        self.identity, self.listeners, self.actions, self.leaving = None, {}, [], False
 
 
 class Listener:
@@ -1205,9 +1236,17 @@ class Database:
             return refusal.answer()
 
     def session(self, it):
+        """The session of a request, which has to be open."""
         if it["s"] not in self.sessions:
             raise Refused("NoSession")
         return self.sessions[it["s"]]
+
+    def present(self, it):
+        """The session of a request, which has to be open and may not be leaving."""
+        session = self.session(it)
+        if session.leaving:
+            raise Refused("Leaving")
+        return session
 
     def scene(self, session, now, new=None, query=None):
         return Scene(session.identity, now, self.tree, (), new, query or {}, {})
@@ -1229,41 +1268,83 @@ class Database:
     def signin(self, it):
         if it["token"] not in self.tokens:
             raise Refused("UnknownToken")
-        self.session(it).identity = self.tokens[it["token"]]
+        self.present(it).identity = self.tokens[it["token"]]
         self.judge_again([self.session(it)], it["now"], self.tree)
 
     def signout(self, it):
-        self.session(it).identity = None
+        self.present(it).identity = None
         self.judge_again([self.session(it)], it["now"], self.tree)
 
     # -- reads and writes
 
     def get(self, it):
-        session, query = self.session(it), it.get("query")
+        session, query = self.present(it), it.get("query")
         judge_read(self.rules, it["path"], self.scene(session, it["now"], query=query))
         return {"value": selected(sub(self.tree, it["path"]), query)}
 
     def set(self, it):
-        self.write(self.session(it), it)
+        self.write(self.present(it), it["writes"], it["now"])
 
     remove = set
 
     def update(self, it):
-        session, locations = self.session(it), [path for path, _ in it["writes"]]
-        if not locations:
-            raise Refused("EmptyUpdate")
-        for at, path in enumerate(locations):
-            if any(path == other[: len(path)] for other in locations[:at] + locations[at + 1 :]):
-                raise Refused("Overlap")
-        self.write(session, it)
+        session = self.present(it)
+        need_apart(locations_of(it["writes"]))
+        self.write(session, it["writes"], it["now"])
 
-    def write(self, session, it):
-        new = proposed(self.tree, it["writes"])
-        judge_writes(self.rules, [path for path, _ in it["writes"]], self.scene(session, it["now"], new))
+    def write(self, session, writes, now):
+        new = self.judged(session, writes, now)
         if count(new) > MOST_LOCATIONS:
             raise Refused("TreeFull")
         before, self.tree = self.tree, new
-        self.judge_again(self.sessions.values(), it["now"], before)
+        self.judge_again(self.sessions.values(), now, before)
+
+    def judged(self, session, writes, now):
+        """The tree that writes propose, where the rules grant it."""
+        new = proposed(self.tree, writes)
+        judge_writes(self.rules, locations_of(writes), self.scene(session, now, new))
+        return new
+
+    # -- disconnect actions: each is the request that established it, since its writes have the moment of its run
+
+    def onset(self, it):
+        self.establish(self.present(it), it)
+
+    onremove = onset
+
+    def onupdate(self, it):
+        session = self.present(it)
+        need_apart(locations_of(it["writes"]))
+        self.establish(session, it)
+
+    def establish(self, session, it):
+        if len(session.actions) == MOST_ACTIONS:
+            raise Refused("TooManyActions")
+        self.judged(session, it["writes"], it["now"])
+        session.actions.append(it)
+
+    def oncancel(self, it):
+        session, path = self.present(it), it["path"]
+
+        def goes(action):
+            return all(is_below(each, path) for each in locations_of(action["writes"]))
+
+        session.actions = [action for action in session.actions if not goes(action)]
+
+    def leave(self, it):
+        self.present(it).leaving = True
+
+    def runnext(self, it):
+        session, now = self.session(it), it["now"]
+        if not session.leaving:
+            raise Refused("NotLeaving")
+        if not session.actions:
+            return {"ran": "empty"}
+        try:
+            self.write(session, writes_of(session.actions.pop(0), now), now)
+        except Refused as refusal:
+            return {"ran": "skipped", "why": refusal.answer()}
+        return {"ran": "applied"}
 
     # -- listeners
 
@@ -1285,7 +1366,7 @@ class Database:
             listener.marked = True
 
     def listen(self, it):
-        session = self.session(it)
+        session = self.present(it)
         if it["id"] in session.listeners:
             raise Refused("DuplicateId")
         if len(session.listeners) == MOST_LISTENERS:
@@ -1295,13 +1376,13 @@ class Database:
         return answer
 
     def unlisten(self, it):
-        session = self.session(it)
+        session = self.present(it)
         if it["id"] not in session.listeners:
             raise Refused("NoListener")
         del session.listeners[it["id"]]
 
     def poll(self, it):
-        session = self.session(it)
+        session = self.present(it)
         self.judge_again([session], it["now"], self.tree)
         news = []
         for name, listener in list(session.listeners.items()):
@@ -1318,7 +1399,7 @@ class Database:
 
     def deploy(self, it):
         rules, _ = read_rules(it["rules"].encode("utf-8"))
-        session = self.session(it)
+        session = self.present(it)
         if session.identity is None or not session.identity.admin:
             raise Refused("NotAdmin")
         self.rules = rules
