@@ -36,8 +36,8 @@ const TOO_MANY_SESSIONS = 204; // comes by itself where the server can't open a 
 const ASKED_AGAIN = ["signin", "signout", "get", "listen", "unlisten"];
 const RULE_OF_DENIAL = new Map([[501, ".read"], [502, ".write"], [503, ".validate"]]);
 
-/** Connects to the server at the address of a WebSocket. `onState` is told each change of the connection, and that a session
- *  or signing in again was refused.
+/** Connects to the server at the address of a WebSocket. `onState` is called at each change of the connection, and where a
+ *  session or signing in again was refused.
  *  @type {(url: string, onState?: OnState) => Database} */
 export function connect(url, onState = () => {}) {
   return new Database(url, onState);
@@ -153,7 +153,7 @@ export class Database {
   }
 
   /** Tells what stands at a path, or what a query selects of it, now and whenever that changes. The function that is given
-   *  back ends it; where the server does, `onCancelled` is told.
+   *  back ends it; where the server does, `onCancelled` is called.
    *  @type {(path: string, query: Query | null, onValue: OnValue, onCancelled?: OnCancelled) => () => void} */
   listen(path, query, onValue, onCancelled = () => {}) {
     this.#ids += 1;
