@@ -20,12 +20,18 @@ module _ (p : Place) (ns : List (List ℕ)) (x : SyntaxTree) where
   never_refused TypeError r h = let c = complete h.1 in cc
   never_refused (UnknownName f) r h = let c = complete h.1 in cc
 
-  wanted : (r : Result Sort TypeFault) → sort_of p ns x ≡ r → FindsName r → (e : TypeFault) × IsRefused p ns x e × HasName e
+  wanted : (r : Result Sort TypeFault) → sort_of p ns x ≡ r → FindsName r → (e : TypeFault) × FirstFault p ns x e × HasName e
   wanted (Ok s) d n = absurd n
-  wanted (Err e) d n = (e, inl (fault_sound p ns x e d), n)
+  wanted (Err e) d n = (e, fault_sound p ns x e d, n)
+
+  pub found_first : (e : TypeFault) → Refuses {A = Sort} e (sort_of p ns x) → FirstFault p ns x e ⊎ ((e ≡ NoMemory) × (d : TypeFault) × FirstFault p ns x d × HasName d)
+  found_first NoMemory r = let w = wanted (sort_of p ns x) refl r in inr (refl, w.0, w.1, w.2)
+  found_first (NotInProfile f) r = inl (fault_sound p ns x (NotInProfile f) r)
+  found_first TypeError r = inl (fault_sound p ns x TypeError r)
+  found_first (UnknownName f) r = inl (fault_sound p ns x (UnknownName f) r)
 
   pub first_fault : (e : TypeFault) → Refuses {A = Sort} e (sort_of p ns x) → IsRefused p ns x e ⊎ ((e ≡ NoMemory) × (d : TypeFault) × IsRefused p ns x d × HasName d)
-  first_fault NoMemory r = let w = wanted (sort_of p ns x) refl r in inr (refl, w.0, w.1, w.2)
+  first_fault NoMemory r = let w = wanted (sort_of p ns x) refl r in inr (refl, w.0, inl w.1, w.2)
   first_fault (NotInProfile f) r = inl (inl (fault_sound p ns x (NotInProfile f) r))
   first_fault TypeError r = inl (inl (fault_sound p ns x TypeError r))
   first_fault (UnknownName f) r = inl (inl (fault_sound p ns x (UnknownName f) r))

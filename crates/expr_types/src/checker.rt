@@ -6,8 +6,8 @@ ghost use Rattle.std.specs.Prelude.{◌≡◌, ◌⊎◌, true, is_ok, IfOk, IfE
 ghost use Rattle.expr_parser.specs.Tree as tree;
 ghost use Rattle.expr_parser.specs.View.{view, view_argument, views, arguments as arguments_of};
 ghost use Rattle.path_capture.specs.Captures.{names};
-ghost use Rattle.expr_types.specs.HasSort.{HasValue};
-ghost use Rattle.expr_types.specs.Faults.{IsRefused, HasName};
+ghost use Rattle.expr_types.specs.HasSort.{HasSort, HasValue};
+ghost use Rattle.expr_types.specs.Faults.{FirstFault, IsRefused, HasName};
 ghost use Rattle.expr_types.specs.declared.fault.TypeFault.{TypeFault};
 ghost use Rattle.expr_types.specs.Working.SortOf.{sort_of, given_of, with_argument, are_values, with_value, with_list, value_if};
 ghost use Rattle.expr_types.specs.Working.Gives.{Gives};
@@ -53,6 +53,30 @@ pub fn check(
         } else {
             Err(TypeFault::TypeError)
         },
+        None => Err(fault),
+    }
+}
+
+/// The sort of an expression in a rule for this place, below captures of these names, or its first fault, also where
+/// no value is wanted: so whoever asks it of parts finds where a fault is. It costs what [`check`] does.
+pub fn sort_of(
+    alloc: Global,
+    expr: &Expr,
+    place: Place,
+    captures: &Captures,
+) -> Result<Sort, TypeFault>
+    ensures sorted { IfOk result (HasSort place (names captures.now) (view expr.now)) }
+    // A fault is the first one; or that has a name, and memory for it is refused.
+    ensures refused { IfErr result (λ fault. FirstFault place (names captures.now) (view expr.now) fault ⊎ ((fault ≡ no_memory) × (e : TypeFault) × FirstFault place (names captures.now) (view expr.now) e × HasName e)) }
+{
+    let checker = Checker {
+        alloc,
+        place,
+        captures,
+    };
+    let mut fault = TypeFault::TypeError;
+    match checker.sort(expr, &mut fault) {
+        Some(sort) => Ok(sort),
         None => Err(fault),
     }
 }

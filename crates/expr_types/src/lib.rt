@@ -17,7 +17,7 @@ mod scope;
 mod sort;
 
 pub use checked::Checked;
-pub use checker::check;
+pub use checker::{check, sort_of};
 pub use fault::{FaultyName, TypeFault};
 pub use laws::{
     a_named_fault_stands_in_the_expression, a_value_stands_where_one_is_wanted,

@@ -19,8 +19,8 @@ pub enum Sort {
 }
 
 impl Sort {
-    // Whether it may stand where a value is wanted, as `auth` and `auth.token` may.
-    pub(crate) fn is_value(self) -> bool
+    /// Whether it may stand where a value is wanted, as `auth` and `auth.token` may.
+    pub fn is_value(self) -> bool
         ensures { result ≡ is_value self }
     {
         match self {

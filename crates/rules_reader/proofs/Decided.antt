@@ -37,7 +37,7 @@ use Rattle.rules_reader.specs.declared.fault.LeftOut.TheVariants.{Sign, Name}
 use Rattle.rules_reader.specs.declared.fault.RulesFault.{RulesFault}
 use Rattle.rules_reader.specs.declared.fault.RulesFault.TheVariants.{BadRulesJson, BadRulesShape, TooManyRules, BadRule, NoMemory}
 use Rattle.rules_reader.specs.declared.rule_text.Unread.TheVariants as unread
-use Rattle.rules_reader.specs.Working.Unread.{of_expr_fault, of_type_fault}
+use Rattle.rules_reader.specs.Unread.{of_expr_fault, of_type_fault}
 use Rattle.rules_reader.specs.Spelled.{place_of, capture_names, SpellsRule, IsMisplaced, IsNoRule, SpellsOptional, SpellsObject, IsSpelled, IsRule, IsFirstBad}
 use Rattle.rules_reader.specs.File.{ReadsAs, top, faulty, faults, texts_of, IsLeast, IsShaped, States, IsBadShape, HasTooManyRules, json_of}
 use Rattle.rules_reader.specs.Refusal.{Refuses, bad_shape, bad_rule, reason}

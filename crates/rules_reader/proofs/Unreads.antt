@@ -9,7 +9,7 @@ use Rattle.expr_types.specs.Faults.{IsRefused, HasName}
 use Rattle.rules_reader.specs.Part.{Pattern}
 use Rattle.rules_reader.specs.declared.kind.Kind.{Kind}
 use Rattle.rules_reader.specs.Spelled.{place_of, capture_names, IsMisplaced}
-use Rattle.rules_reader.specs.Working.Unread.{Stops, of_type_fault}
+use Rattle.rules_reader.specs.Unread.{Stops, of_type_fault}
 
 module _ (at : Pattern) (kind : Kind) (text : List ℕ) (x : SyntaxTree) where
   misplaced : (fault : TypeFault) (place : Place) (names : List (List ℕ)) → SpellsExpression text x → names ≡ capture_names at → place ≡ place_of kind → IsRefused place names x fault → IsMisplaced at kind text fault

@@ -1,6 +1,7 @@
 pub mod Part
 pub mod Book
 pub mod Spelled
+pub mod Unread
 pub mod Plain
 pub mod File
 pub mod Place

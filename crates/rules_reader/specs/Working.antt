@@ -4,6 +4,5 @@ pub mod NodeFalls
 pub mod Stepped
 pub mod Rules
 pub mod Front
-pub mod Unread
 pub mod Read
 pub mod Kept

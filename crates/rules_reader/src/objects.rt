@@ -102,8 +102,8 @@ fn own_rules(alloc: Global, value: &Value, pattern: &Pattern) -> Result<RuleSet,
     Ok(RuleSet::new(read, write, validate))
 }
 
-// The captures of a pattern, all with this key.
-fn captures_of<'a>(
+/// The captures of a pattern, all with this key.
+pub(crate) fn captures_of<'a>(
     alloc: Global,
     pattern: &'a Pattern,
     key: &'a Key,
@@ -135,8 +135,8 @@ fn captured(part: &Part) -> Option<&CaptureName>
     }
 }
 
-// A key that stands for those that a capture will have.
-fn stand_in(alloc: Global) -> Result<Key, NoMemory> {
+/// A key that stands for those that a capture will have.
+pub(crate) fn stand_in(alloc: Global) -> Result<Key, NoMemory> {
     match Key::new(alloc, "key") {
         Ok(key) => Ok(key),
         Err(_) => Err(NoMemory),

@@ -8,13 +8,16 @@ ghost use Rattle.rules_reader.specs.Book.{stated, kind_name};
 ghost use Rattle.rules_reader.specs.Spelled.{capture_names, SpellsRule, SpellsOptional};
 ghost use Rattle.rules_reader.specs.File.{rule_text};
 ghost use Rattle.rules_reader.specs.Refusal.{Blames};
-ghost use Rattle.rules_reader.specs.Working.Unread.{Stops, of_expr_fault, of_type_fault};
+ghost use Rattle.rules_reader.specs.Unread.{Stops, of_expr_fault, of_type_fault};
+ghost use Rattle.rules_reader.specs.declared.rule_text.Unread.TheVariants.{NoMemory as no_memory};
 
 use crate::fault::{LeftOut, RuleFault, RuleName, RulesFault};
 use crate::kind::Kind;
+use crate::objects::{captures_of, stand_in};
 use crate::shape::rule_text;
 use expr_parser::{ExprFault, parse};
 use expr_types::{Checked, TypeFault, check};
+use json_tree::NoMemory;
 use path_capture::{Captures, Pattern};
 use serde_json::Value;
 use std::alloc::Global;
@@ -45,11 +48,20 @@ pub(crate) fn rule(
     }
 }
 
-// Why a text was not read as a rule.
-#[derive(Drop)]
-pub(crate) enum Unread {
+/// Why a text was not read as a rule.
+#[derive(Debug, Drop)]
+pub enum Unread {
+    /// It is none where it stands.
     NoRule(RuleFault),
     NoMemory,
+}
+
+impl From<NoMemory> for Unread {
+    ghost from_gives = { λ _ unread. unread ≡ no_memory };
+
+    fn from(_refused: NoMemory) -> Unread {
+        Unread::NoMemory
+    }
 }
 
 impl From<ExprFault> for Unread {
@@ -79,6 +91,22 @@ impl From<TypeFault> for Unread {
             TypeFault::NoMemory => Unread::NoMemory,
         }
     }
+}
+
+/// The rule of a kind that a text is at a pattern, or why it is none: what [`compile`](crate::compile) makes of each
+/// rule of a file. Time and memory for the tokens of the text and its expression.
+pub fn read_rule(
+    alloc: Global,
+    text: &str,
+    kind: Kind,
+    pattern: &Pattern,
+) -> Result<Checked, Unread>
+    ensures spelled { IfOk result (SpellsRule (texts pattern.now) kind text.now) }
+    ensures fault { IfErr result (Stops (texts pattern.now) kind text.now) }
+{
+    let key = stand_in(alloc)?;
+    let captures = captures_of(alloc, pattern, &key)?;
+    checked(alloc, text, kind, &captures)
 }
 
 // The expression that a text spells, which may stand in a rule of this kind below these captures.

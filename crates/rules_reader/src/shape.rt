@@ -155,7 +155,9 @@ fn has_one_capture(members: &Map<String, Value>) -> bool
     true
 }
 
-fn is_sound_member(pattern: &Pattern, name: &str, member: &Value) -> bool
+/// Whether a member of this name and value may stand in an object at this pattern, but for captures beside it. It makes
+/// one pass over the name, and one over the pattern or over a list of `.indexOn`.
+pub fn is_sound_member(pattern: &Pattern, name: &str, member: &Value) -> bool
     ensures { result ≡ is_sound_member (texts pattern.now) name.now (view member.now) }
 {
     if is_rule_name(name) {
@@ -239,7 +241,7 @@ fn has_text(part: &Part, text: &str) -> bool
 }
 
 /// The part that a member's name is, if it is one. It takes one growth at most.
-pub(crate) fn part(alloc: Global, name: &str) -> Result<Option<Part>, NoMemory>
+pub fn part(alloc: Global, name: &str) -> Result<Option<Part>, NoMemory>
     ensures { IfOk result (λ part. option_map text_of part ≡ (if is_part name.now then Some name.now else None)) }
 {
     match name.strip_prefix('$') {

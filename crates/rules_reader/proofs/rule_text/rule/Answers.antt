@@ -2,7 +2,7 @@ use Rattle.std.proofs.Common.{[], ap, subst}
 use Rattle.rules_reader.specs.Part.{texts}
 use Rattle.rules_reader.specs.Book.{stated}
 use Rattle.rules_reader.specs.Spelled.{IsFirstBad}
-use Rattle.rules_reader.specs.Working.Unread.{Stops}
+use Rattle.rules_reader.specs.Unread.{Stops}
 use Rattle.rules_reader.proofs.RulesBelow.{only_bad}
 use Rattle.rules_reader.proofs.rule_text.rule.Goals as goal
 
