@@ -22,8 +22,7 @@
 /** @typedef {Refusal & { ok?: boolean, value: Value, news: News[], push?: News[] }} Answer */
 /** @typedef {{ do: string, [member: string]: unknown }} Message */
 /** @typedef {{ verb: string, text: string, resolve: (answer: Answer) => void, reject: (error: unknown) => void }} Request */
-/** @typedef {(value: Value) => void} OnValue */
-/** @typedef {(error: RtdbError) => void} OnCancelled */
+/** @typedef {(value: Value) => void} OnValue @typedef {(error: RtdbError) => void} OnCancelled */
 /** @typedef {{ id: string, path: string, query: Query | null, onValue: OnValue, onCancelled: OnCancelled, hasEnded: boolean }} Listener */
 /** @typedef {"connecting" | "connected" | "lost" | "closed"} State */
 /** @typedef {(state: State, error: RtdbError | null) => void} OnState */
@@ -35,6 +34,11 @@ const LONGEST_PAUSE_MS = 10_000;
 const TOO_MANY_SESSIONS = 204; // comes by itself where the server can't open a session, and answers no request
 const ASKED_AGAIN = ["signin", "signout", "get", "listen", "unlisten"];
 const RULE_OF_DENIAL = new Map([[501, ".read"], [502, ".write"], [503, ".validate"]]);
+/** @type {(key: string, value: unknown) => unknown} refuses what JSON would make null, which removes: NaN and infinity */
+const finite = (_key, value) => {
+  if (typeof value === "number" && !Number.isFinite(value)) throw new RangeError(`${value} can't be written`);
+  return value;
+};
 
 /** Connects to the server at the address of a WebSocket. `onState` is called at each change of the connection, and where a
  *  session or signing in again was refused.
@@ -44,9 +48,7 @@ export function connect(url, onState = () => {}) {
 }
 
 /** Stands in a written value for the moment at which the server writes it. */
-export function serverTimestamp() {
-  return { ".sv": "timestamp" };
-}
+export const serverTimestamp = () => ({ ".sv": "timestamp" });
 
 /** A key for a new child. One that is made later sorts behind it, as the keys of Firebase's push do. */
 export function newKey() {
@@ -90,8 +92,7 @@ export class Database {
   #onState;
   /** @type {WebSocket | undefined} */
   #socket;
-  /** @type {State} */
-  #state = "connecting";
+  #state = /** @type {State} */ ("connecting");
   /** @type {Request[]} */
   #waiting = [];
   /** @type {Request[]} */
@@ -238,7 +239,7 @@ export class Database {
   #ask(message) {
     return new Promise((resolve, reject) => {
       if (this.#state === "closed") throw failure("Closed");
-      this.#waiting.push({ verb: message.do, text: JSON.stringify(message), resolve, reject });
+      this.#waiting.push({ verb: message.do, text: JSON.stringify(message, finite), resolve, reject });
       if (this.#state === "connected") this.#send();
     });
   }
