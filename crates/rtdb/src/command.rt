@@ -8,6 +8,7 @@ ghost use Rattle.rtdb.specs.Status.{bad_line, failed, no_memory, status_of};
 ghost use Rattle.rtdb.specs.Command.{IsChecked, HasChecked, HasRun, HasDone};
 ghost use Rattle.rtdb.specs.Working.{IsTooLong};
 
+use crate::explain::explain_rules;
 use crate::files::{Files, ReadFault};
 use crate::line::order;
 use crate::printing::Printing;
@@ -149,7 +150,10 @@ fn check<F: Files, W: Sink, E: io::Write>(
 {
     match files.read(alloc, name, MAX_FILE_BYTES) {
         Ok(bytes) => match answer(alloc, &bytes) {
-            Ok(answer) => print(&answer, output, faults),
+            Ok(answer) => {
+                explain_rules(alloc, answer.status, name, &bytes, faults);
+                print(&answer, output, faults)
+            }
             Err(_) => out_of_memory(faults),
         },
         Err(ReadFault::Unreadable) => {

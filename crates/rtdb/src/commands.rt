@@ -96,7 +96,15 @@ const SCRIPT: &[u8] = br#"{"rules":"{\"rules\":{\".read\":true}}"}
 /// is reported of faults, and the status.
 type Row<'a> = (&'a [&'a str], &'a [u8], usize, &'a str, &'a str, u8);
 
-const ROWS: [Row<'static>; 14] = [
+const ROWS: [Row<'static>; 15] = [
+    (
+        &["check", "torn"],
+        b"",
+        1000,
+        "{\"code\":401,\"name\":\"BadRulesJson\",\"ok\":false}\n",
+        "torn:1:1: this bracket is not closed\n    1 | {\n        ^\n",
+        1,
+    ),
     (
         &["run"],
         SCRIPT,
@@ -178,7 +186,7 @@ const ROWS: [Row<'static>; 14] = [
         b"",
         1000,
         "{\"code\":401,\"name\":\"BadRulesJson\",\"ok\":false}\n",
-        "",
+        "torn:1:1: this bracket is not closed\n    1 | {\n        ^\n",
         1,
     ),
     (
@@ -188,7 +196,7 @@ const ROWS: [Row<'static>; 14] = [
         b"",
         1000,
         "{\"at\":\"/\",\"code\":402,\"name\":\"BadRulesShape\",\"ok\":false}\n",
-        "",
+        "dotted:1:2: `a.b` may not stand here: a rules file has the one member `rules`\n    1 | {\"a.b\":1}\n         ^\n",
         1,
     ),
     (

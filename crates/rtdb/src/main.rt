@@ -11,6 +11,7 @@ mod command;
 #[cfg(test)]
 mod commands;
 mod contents;
+mod explain;
 mod files;
 mod line;
 mod opening;

@@ -8,6 +8,7 @@ ghost use Rattle.rtdb.specs.Working.{IsTold};
 
 use crate::command::{DONE, FAILED, REFUSED, Told, as_line, no_output, out_of_memory, print};
 use crate::contents::read_contents;
+use crate::explain::explain_fault;
 use crate::files::Files;
 use crate::opening::open_contents;
 use crate::printing::Printing;
@@ -46,7 +47,10 @@ pub fn serve<
     match read_contents(alloc, files, options, faults) {
         Ok(contents) => match open_contents(alloc, &contents) {
             Ok(opened) => listen(rt, alloc, opened, options, output, faults),
-            Err(fault) => refuse(alloc, &fault, &mut output.sink, faults),
+            Err(fault) => {
+                explain_fault(alloc, &fault, options, &contents, faults);
+                refuse(alloc, &fault, &mut output.sink, faults)
+            }
         },
         Err(status) => status,
     }
