@@ -7,6 +7,7 @@ pub mod Texts
 pub mod Members
 pub mod Calls
 pub mod Env
+pub mod Parts
 pub mod Mean
 pub mod Holds
 pub mod Sorted

@@ -5,7 +5,8 @@ ghost use Rattle.evaluator.specs.Snapshot.{is_number, is_string, is_boolean};
 ghost use Rattle.evaluator.specs.Calls.{snapshot_test, snapshot_call, child_of, has_child, snapshot_call_with, called_with_nothing, called_with, called_with_two};
 ghost use Rattle.evaluator.specs.Working.Answers.{Finds, Gives};
 ghost use Rattle.evaluator.specs.Working.Known.{test_known, call_known};
-ghost use Rattle.evaluator.specs.Working.Parts.{value_of, part_of, holder, result_of};
+ghost use Rattle.evaluator.specs.Parts.{value_of, part_of};
+ghost use Rattle.evaluator.specs.Working.Parts.{holder, result_of};
 
 use crate::snapshot::{
     Found, Snapshot, at_keys, child_at, exists_at, exists_below, has_children_at, primitive_at,

@@ -15,7 +15,8 @@ ghost use Rattle.evaluator.specs.Env.{env_of, variable, capture, Suits};
 ghost use Rattle.evaluator.specs.Mean.{mean, given as meant, values};
 ghost use Rattle.evaluator.specs.Holds.{outcome};
 ghost use Rattle.evaluator.specs.Working.Answers.{Finds, Gives};
-ghost use Rattle.evaluator.specs.Working.Parts.{value_of, part_of, argument_value, as_place, result_of};
+ghost use Rattle.evaluator.specs.Parts.{value_of, part_of};
+ghost use Rattle.evaluator.specs.Working.Parts.{argument_value, as_place, result_of};
 ghost use Rattle.evaluator.specs.Working.Seams.{IsSeam, led_by};
 
 use crate::calls::{
@@ -864,6 +865,23 @@ pub fn evaluate<'a>(
         Ok(true) => Ok(Outcome::Yes),
         Ok(false) => Ok(Outcome::No),
         Err(Stop::Erred) => Ok(Outcome::Erred),
+        Err(Stop::NoMemory) => Err(NoMemory),
+    }
+}
+
+/// What an expression or a part of one means where a rule is evaluated, and None where that is an error. It takes what
+/// [`evaluate`] takes. (Reference, expressions.)
+pub fn meaning<'a>(
+    arena: &'a Bump,
+    expr: &'a Expr,
+    env: &Env<'a, '_>,
+) -> Result<Option<Meaning<'a>>, NoMemory>
+    ensures { IfOk result (λ found. option_map part_of found ≡ mean (view expr.now) (env_of env.now)) }
+{
+    let mut found = Meaning::Value(Value::Null);
+    match part(arena, expr, env, &mut found) {
+        Ok(()) => Ok(Some(found)),
+        Err(Stop::Erred) => Ok(None),
         Err(Stop::NoMemory) => Err(NoMemory),
     }
 }

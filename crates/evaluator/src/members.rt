@@ -5,7 +5,7 @@ ghost use Rattle.evaluator.specs.Value.{value, as_value, record_if};
 ghost use Rattle.evaluator.specs.Members.{text_or_null, auth_part, claim, query_limit, query_bound, query_field, value_part, member};
 ghost use Rattle.evaluator.specs.Env.{env_of, access_of, variable, capture, asked_in, coming_in};
 ghost use Rattle.evaluator.specs.Working.Known.{variable_known, auth_part_known};
-ghost use Rattle.evaluator.specs.Working.Parts.{value_of, part_of};
+ghost use Rattle.evaluator.specs.Parts.{value_of, part_of};
 
 use crate::asked::Asked;
 use crate::env::{Access, Env};

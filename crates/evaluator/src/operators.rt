@@ -3,7 +3,8 @@ ghost use Rattle.std.specs.Prelude.{◌≡◌, ◌++◌, ◌+ℤ◌, ◌-ℤ◌,
 ghost use Rattle.evaluator.specs.Value.{null, truth, whole, words, in_range};
 ghost use Rattle.evaluator.specs.Operators.{in_truth, is_opaque, same, equal, compared, minus, times, remainder, minus_of, plus, text_within, of_both};
 ghost use Rattle.evaluator.specs.Working.Answers.{Finds};
-ghost use Rattle.evaluator.specs.Working.Parts.{value_of, numbers_in};
+ghost use Rattle.evaluator.specs.Parts.{value_of};
+ghost use Rattle.evaluator.specs.Working.Parts.{numbers_in};
 
 use crate::value::{Stop, Value, put_truth, put_value, wanted};
 use bumpalo::Bump;

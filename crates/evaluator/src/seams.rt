@@ -6,7 +6,8 @@ ghost use Rattle.expr_parser.specs.View.{view};
 ghost use Rattle.path_capture.specs.Path.{segments};
 ghost use Rattle.evaluator.specs.Value.{whole};
 ghost use Rattle.evaluator.specs.Working.Answers.{Gives};
-ghost use Rattle.evaluator.specs.Working.Parts.{value_of, result_of};
+ghost use Rattle.evaluator.specs.Parts.{value_of};
+ghost use Rattle.evaluator.specs.Working.Parts.{result_of};
 ghost use Rattle.evaluator.specs.Working.Seams.{BeginsBelow, IsClosed, EndsBelow, IsSeam, led, led_by};
 
 use crate::snapshot::{Found, Snapshot, child_at};

@@ -1,5 +1,5 @@
 //! A snapshot: a location of a tree.
-ghost use Rattle.std.specs.Prelude.{◌≡◌, ◌<◌, ◌≤◌, [], true, IfOk, IsSome, Some, Err, option_map, length};
+ghost use Rattle.std.specs.Prelude.{◌≡◌, ◌<◌, ◌≤◌, [], true, IfOk, IfSome, IfNone, IsSome, Some, Err, option_map, length};
 ghost use Rattle.std.specs.Bool.{OnTrue};
 ghost use Rattle.tree_model.specs.declared.limits.TheConstants.{MAX_DEPTH};
 ghost use Rattle.tree_model.specs.Key.{is_key};
@@ -8,8 +8,10 @@ ghost use Rattle.tree_model.specs.Tree.{non_null};
 ghost use Rattle.json_tree.specs.Leaf.{primitive_of};
 ghost use Rattle.path_capture.specs.Write.{tree_or_null};
 ghost use Rattle.evaluator.specs.Snapshot.{root_of, below, parent_at, exists_at, primitive_at, val_at, has_children_at, child_at};
+ghost use Rattle.evaluator.specs.Value as meanings;
 ghost use Rattle.evaluator.specs.Working.Answers.{Gives};
-ghost use Rattle.evaluator.specs.Working.Parts.{value_of, result_of};
+ghost use Rattle.evaluator.specs.Parts.{value_of};
+ghost use Rattle.evaluator.specs.Working.Parts.{result_of};
 ghost use Rattle.evaluator.specs.Working.Places.{down, stepped};
 
 use crate::value::{Stop, Value, of_leaf};
@@ -188,6 +190,25 @@ impl<'a> Snapshot<'a> {
             Above::Parent(above, _) => Some(above),
             Above::Passed(above, _) => Some(above),
         }
+    }
+
+    /// The last key of the path, but of the root, in constant time.
+    pub fn key(&self) -> Option<&'a str>
+        ensures some { IfSome result (λ key. (above : meanings.Snapshot) × (self.now ≡ below above key.now)) }
+        ensures none { IfNone result (self.now.1 ≡ []) }
+    {
+        match self.above {
+            Above::Nothing => None,
+            Above::Parent(_, key) => Some(key),
+            Above::Passed(_, key) => Some(key),
+        }
+    }
+
+    /// What `val()` gives there: in constant time, but for a location that was only passed.
+    pub fn val(&self) -> Value<'a>
+        ensures { value_of result ≡ val_at self.now }
+    {
+        val_at(self)
     }
 
     /// The root of the same tree, by a step up for each key.

@@ -7,7 +7,8 @@ ghost use Rattle.evaluator.specs.Value.{words};
 ghost use Rattle.evaluator.specs.Operators.{text_within};
 ghost use Rattle.evaluator.specs.Texts.{length_of, is_inside, text_test, split_at_first, replaced, replace, text_change};
 ghost use Rattle.evaluator.specs.Working.Answers.{Gives};
-ghost use Rattle.evaluator.specs.Working.Parts.{value_of, texts_in};
+ghost use Rattle.evaluator.specs.Parts.{value_of};
+ghost use Rattle.evaluator.specs.Working.Parts.{texts_in};
 
 use crate::value::{Stop, Value};
 use bumpalo::Bump;

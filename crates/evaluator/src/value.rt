@@ -5,7 +5,8 @@ ghost use Rattle.evaluator.specs.declared.value.Stop.TheVariants.{NoMemory as no
 ghost use Rattle.evaluator.specs.Value.{in_value, of_primitive, truth as of_truth};
 ghost use Rattle.evaluator.specs.Members.{text_or_null, primitive_or_null, number_or_null};
 ghost use Rattle.evaluator.specs.Working.Answers.{Finds, Gives};
-ghost use Rattle.evaluator.specs.Working.Parts.{value_of, part_of, in_place};
+ghost use Rattle.evaluator.specs.Parts.{value_of, part_of};
+ghost use Rattle.evaluator.specs.Working.Parts.{in_place};
 
 use crate::asked::Asked;
 use crate::identity::{Claims, Identity};
@@ -13,20 +14,22 @@ use crate::snapshot::Snapshot;
 use json_tree::{Leaf, NoMemory};
 use std::alloc::{AllocError, AllocFailed};
 
-// A value. A text is borrowed, from the tree, the request or the rule, or lies in the arena.
+/// A value. A text is borrowed, from the tree, the request or the rule, or lies in the arena. (Reference, literals.)
 #[derive(Clone, Copy)]
-pub(crate) enum Value<'a> {
+pub enum Value<'a> {
     Null,
     Truth(bool),
     Whole(i64),
     Words(&'a str),
+    /// What `val()` gives of a location with children. (This project's profile.)
     Sentinel,
+    /// `auth` of somebody, or its `token`. (This project's profile.)
     Record,
 }
 
-// What a part of an expression means, by its sort.
+/// What a part of an expression means, by its sort. (The sorts are this project's profile.)
 #[derive(Clone, Copy)]
-pub(crate) enum Meaning<'a> {
+pub enum Meaning<'a> {
     Value(Value<'a>),
     Snapshot(&'a Snapshot<'a>),
     Auth(Option<&'a Identity>),

@@ -25,6 +25,6 @@ pub use limits::{MAX_FILE_BYTES, MAX_RULES, the_limits};
 pub use mentions::TreeVariable;
 pub use node::RuleNode;
 pub use plain_text::{every_file_has_one_plain_text, plain};
-pub use rule_text::{Unread, read_rule};
+pub use rule_text::{Unread, read_rule, sort_in_rule};
 pub use rules::Rules;
 pub use shape::{is_sound_member, part};

@@ -1,11 +1,15 @@
 //! From the text of a rule to its expression.
-ghost use Rattle.std.specs.Prelude.{◌≡◌, [], option_and_then, IfOk, IfErr};
+ghost use Rattle.std.specs.Prelude.{◌≡◌, ◌⊎◌, [], option_and_then, IfOk, IfErr};
 ghost use Rattle.serde_json.specs.View.{view};
 ghost use Rattle.serde_json.specs.Find.{get};
 ghost use Rattle.path_capture.specs.Captures.{names};
+ghost use Rattle.expr_parser.specs.View.{view as tree_of};
+ghost use Rattle.expr_types.specs.HasSort.{HasSort};
+ghost use Rattle.expr_types.specs.Faults.{FirstFault};
+ghost use Rattle.expr_types.specs.declared.fault.TypeFault.TheVariants.{NoMemory as of_memory};
 ghost use Rattle.rules_reader.specs.Part.{Pattern as PatternTexts, texts};
 ghost use Rattle.rules_reader.specs.Book.{stated, kind_name};
-ghost use Rattle.rules_reader.specs.Spelled.{capture_names, SpellsRule, SpellsOptional};
+ghost use Rattle.rules_reader.specs.Spelled.{place_of, capture_names, SpellsRule, SpellsOptional};
 ghost use Rattle.rules_reader.specs.File.{rule_text};
 ghost use Rattle.rules_reader.specs.Refusal.{Blames};
 ghost use Rattle.rules_reader.specs.Unread.{Stops, of_expr_fault, of_type_fault};
@@ -15,8 +19,8 @@ use crate::fault::{LeftOut, RuleFault, RuleName, RulesFault};
 use crate::kind::Kind;
 use crate::objects::{captures_of, stand_in};
 use crate::shape::rule_text;
-use expr_parser::{ExprFault, parse};
-use expr_types::{Checked, TypeFault, check};
+use expr_parser::{Expr, ExprFault, parse};
+use expr_types::{Checked, Sort, TypeFault, check, sort_of};
 use json_tree::NoMemory;
 use path_capture::{Captures, Pattern};
 use serde_json::Value;
@@ -107,6 +111,26 @@ pub fn read_rule(
     let key = stand_in(alloc)?;
     let captures = captures_of(alloc, pattern, &key)?;
     checked(alloc, text, kind, &captures)
+}
+
+/// The sort of an expression in a rule of this kind at this pattern, or its first fault, as of a part of such a rule. It
+/// costs what [`sort_of`] does, and a list of the captures of the pattern.
+pub fn sort_in_rule(
+    alloc: Global,
+    expr: &Expr,
+    kind: Kind,
+    pattern: &Pattern,
+) -> Result<Sort, TypeFault>
+    ensures sorted { IfOk result (HasSort (place_of kind) (capture_names (texts pattern.now)) (tree_of expr.now)) }
+    ensures refused { IfErr result (λ fault. FirstFault (place_of kind) (capture_names (texts pattern.now)) (tree_of expr.now) fault ⊎ (fault ≡ of_memory)) }
+{
+    let Ok(key) = stand_in(alloc) else {
+        return Err(TypeFault::NoMemory);
+    };
+    let Ok(captures) = captures_of(alloc, pattern, &key) else {
+        return Err(TypeFault::NoMemory);
+    };
+    sort_of(alloc, expr, kind.place(), &captures)
 }
 
 // The expression that a text spells, which may stand in a rule of this kind below these captures.

@@ -1,37 +1,17 @@
--- The values and the parts of the code.
-use Rattle.std.specs.Prelude.{ℕ, ℤ, List, Option, Some, None, Result, Ok, Err, option_map, codes, if◌then◌else◌}
+-- What the code looks for in values and parts.
+use Rattle.std.specs.Prelude.{ℕ, ℤ, List, Option, Some, None, Result, Ok, Err, codes, if◌then◌else◌}
 use Rattle.std.specs.Borrow.{Bor}
 use Rattle.std.specs.Option.{option_and_then}
 use Rattle.std.specs.Str.{bytes_eq}
 use Rattle.expr_parser.specs.Tree.{Argument, One, Listed}
-use Rattle.evaluator.specs.declared.value.Value as code
-use Rattle.evaluator.specs.declared.value.Value.TheVariants.{Null, Truth, Whole, Words, Sentinel, Record}
-use Rattle.evaluator.specs.declared.value.Meaning as code_part
-use Rattle.evaluator.specs.declared.value.Meaning.TheVariants as parts
 use Rattle.evaluator.specs.declared.value.Stop.{Stop}
 use Rattle.evaluator.specs.declared.value.Stop.TheVariants as stop
 use Rattle.evaluator.specs.declared.snapshot.Found.{Found}
 use Rattle.evaluator.specs.declared.snapshot.Found.TheVariants as found
 use Rattle.evaluator.specs.declared.snapshot.Found.TheVariants.{At}
-use Rattle.evaluator.specs.Asked.{asked_of}
-use Rattle.evaluator.specs.Value.{Value, null, truth, whole, words, sentinel, a_record, Snapshot, Meaning, value, snapshot, auth, token, query, as_value}
+use Rattle.evaluator.specs.Value.{Value, whole, words, Snapshot, Meaning, snapshot, as_value}
 use Rattle.evaluator.specs.Env.{Env}
 use Rattle.evaluator.specs.Mean.{mean}
-
-abbrev pub value_of : code.Value → Value
-value_of Null = null
-value_of (Truth b) = truth b
-value_of (Whole z) = whole z
-value_of (Words s) = words s.now
-value_of Sentinel = sentinel
-value_of Record = a_record
-
-abbrev pub part_of : code_part.Meaning → Meaning
-part_of (parts.Value v) = value (value_of v)
-part_of (parts.Snapshot s) = snapshot s.now
-part_of (parts.Auth who) = auth (option_map (λ a. a.now) who)
-part_of (parts.Token claims) = token (option_map (λ c. c.now) claims)
-part_of (parts.Query a) = query (asked_of a.now)
 
 -- the numbers, if both are some
 abbrev pub numbers_in : Value → Value → Option (ℤ × ℤ)

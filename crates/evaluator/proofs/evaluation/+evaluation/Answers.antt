@@ -5,7 +5,8 @@ use Rattle.expr_parser.specs.View.{view, views}
 use Rattle.evaluator.specs.Calls.{call_of}
 use Rattle.evaluator.specs.Env.{env_of}
 use Rattle.evaluator.specs.Mean.{values}
-use Rattle.evaluator.specs.Working.Parts.{value_of, part_of, result_of}
+use Rattle.evaluator.specs.Parts.{value_of, part_of}
+use Rattle.evaluator.specs.Working.Parts.{result_of}
 use Rattle.evaluator.proofs.Lists.{call_is, two_are, many_are, one_is, list_is, element_errs, child_errs, all_found, no_holder, some_holder}
 use Rattle.evaluator.proofs.Placed.{value_with_nothing, child_with, has_child_with, have_children_with, given_nothing, given_value, given_list, found_at, part_with_nothing}
 use Rattle.evaluator.proofs.Leading.{made_gives, by_right, no_left}
