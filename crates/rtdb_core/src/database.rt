@@ -4,7 +4,8 @@ ghost use Rattle.std.specs.FinMap as map_of;
 ghost use Rattle.tree_model.specs.Tree.{non_null, count};
 ghost use Rattle.path_capture.specs.Write.{tree_or_null};
 ghost use Rattle.rules_reader.specs.Place.{HasOneCapture};
-ghost use Rattle.rtdb_model.specs.State.{opening};
+ghost use Rattle.judge.specs.Question.{scene_of};
+ghost use Rattle.rtdb_model.specs.State.{opening, scene_at};
 ghost use Rattle.rtdb_model.specs.Borrowed.{reply_of, refusal_of, is_copied};
 ghost use Rattle.rtdb_model.specs.Filled.{IsFilled};
 ghost use Rattle.rtdb_model.specs.Step.{outcome, Step};
@@ -16,6 +17,7 @@ use crate::plan::{Granted, Plan};
 use bumpalo::Bump;
 use evaluator::MAX_MOMENT;
 use json_tree::{NoMemory, Node};
+use judge::Scene;
 use rtdb_model::{BorrowedRefusal, Event, MAX_LOCATIONS, Refusal, Reply};
 use rules_reader::Rules;
 use std::alloc::Global;
@@ -99,6 +101,15 @@ impl Core {
             reply: found.reply,
             plan,
         })
+    }
+
+    /// By what an event of a session is judged at a moment in milliseconds since 1970: the rules in force, who is signed
+    /// in on the session, if it is open, and the tree, all borrowed. It costs a look-up among the sessions.
+    pub fn scene(&self, now: u64, session: u64) -> Scene<'_>
+        requires { now ≤ MAX_MOMENT }
+        ensures { scene_of result ≡ scene_at self.now now session }
+    {
+        self.machine.scene_at(now, session)
     }
 
     /// Does an event by the plan that [`Core::judge`] made for it in this state: the two are the step of the event.

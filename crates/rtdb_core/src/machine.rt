@@ -14,7 +14,7 @@ ghost use Rattle.judge.specs.Tests.{write_verdict};
 ghost use Rattle.judge.specs.Question.{scene_of};
 ghost use Rattle.evaluator.specs.Identity.{Identity};
 ghost use Rattle.listeners.specs.Table.{has_id, without_id, taken};
-ghost use Rattle.rtdb_model.specs.State.{State, opening, session_in, is_open, is_leaving, identity_of, listeners_of, actions_of, is_admin, scene_for};
+ghost use Rattle.rtdb_model.specs.State.{State, opening, session_in, is_open, is_leaving, identity_of, listeners_of, actions_of, is_admin, scene_for, scene_at};
 ghost use Rattle.rtdb_model.specs.Rejudged.{selected_at};
 ghost use Rattle.rtdb_model.specs.Borrowed.{refusal_of};
 ghost use Rattle.rtdb_model.specs.Step.{outcome, opened, closed, opens, closes, with_session, signs, gets, sets, updates, listens, unlistens, polls, ticks, deploys, keeps_one, keeps_update, runs, tree_with, listening, news_of, deployed, written_to, with_action, with_actions, without_actions, departing, writes_of, denial, takes_no_memory, Step};
@@ -749,6 +749,18 @@ impl Machine {
     {
         let verdict = judge_granted(self.alloc, arena, scene, coming, write)?;
         Ok(denial(verdict))
+    }
+
+    /// By what an event of a session is judged, as [`Core::scene`](crate::Core::scene) says.
+    pub(crate) fn scene_at(&self, now: u64, session: u64) -> Scene<'_>
+        requires { now ≤ MAX_MOMENT }
+        ensures { scene_of result ≡ scene_at self.now now session }
+    {
+        let who = match self.open_session(session) {
+            Some(open) => open.identity(),
+            None => None,
+        };
+        self.scene(now, who)
     }
 
     // What the rules and the trees are judged by, for whoever is signed in.
