@@ -1,1 +1,3 @@
 pub mod Paths
+pub mod Faulty
+pub mod Stopped

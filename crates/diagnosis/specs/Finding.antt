@@ -63,20 +63,28 @@ pub record IsPlaceOfRule (text : List ℕ) (at : Pattern) (kind : Kind) (fault :
   pub to : ℕ
   pub written : IsWrittenAt text (member_path at (kind_name kind)) rule from to
   pub byte : ℕ
-  pub shown : IsShownAt rule fault byte
+  pub shown : IsShownAt at kind rule fault byte
   pub read : IsReadFrom text from to rule byte place
 
--- the place where the name of a member of the object at the pattern is written
+-- the place where the name of a member of the object at the pattern is written that may not stand there
 pub record IsPlaceOfMember (text : List ℕ) (at : Pattern) (place : ℕ) : Type 0 where
   pub name : List ℕ
+  pub bad : HasBadMember text at name
   pub to : ℕ
   pub named : IsNamedAt text (path_of at) name place to
+
+-- the place where the name of a rule is written
+pub record IsPlaceOfSomeRule (text : List ℕ) (place : ℕ) : Type 0 where
+  pub pattern : Pattern
+  pub kind : Kind
+  pub to : ℕ
+  pub named : IsNamedAt text (path_of pattern) (kind_name kind) place to
 
 -- the place where a fault shows
 abbrev pub IsPlaceOf : List ℕ → RulesFault → ℕ → Type 0
 IsPlaceOf text BadRulesJson place = place ≤ length text
 IsPlaceOf text (BadRulesShape at) place = IsPlaceOfMember text (texts at) place ⊎ ((texts at ≡ []) × (place ≤ length text))
-IsPlaceOf text TooManyRules place = (at : Pattern) × IsPlaceOfMember text at place
+IsPlaceOf text TooManyRules place = IsPlaceOfSomeRule text place
 IsPlaceOf text (BadRule rule fault) place = IsPlaceOfRule text (texts rule.pattern) rule.kind fault place
 IsPlaceOf text NoMemory place = ⊥
 

@@ -2,13 +2,16 @@
 //!
 //! Nothing is promised of them: they are for a person.
 
+mod data;
 mod json_text;
 mod near;
 mod quotes;
 mod rule;
 mod sorts;
+mod tokens;
 
-pub(crate) use json_text::advice_on_json;
+pub(crate) use data::{advice_on_data_key, advice_on_data_value, advice_on_depth};
+pub(crate) use json_text::{FileSort, advice_on_json};
 use json_tree::NoMemory;
 use near::{begins_alike, nearest};
 use path_capture::{Pattern, is_name};
@@ -16,6 +19,7 @@ pub(crate) use rule::advice_on_rule;
 use rules_reader::RulesFault;
 use serde_json::Value;
 use std::alloc::Global;
+pub(crate) use tokens::{advice_on_no_tokens, advice_on_token_name, advice_on_token_value};
 use tree_model::{MAX_DEPTH, MAX_KEY_BYTES};
 
 const RULE_NAMES: [&str; 4] = [".read", ".write", ".validate", ".indexOn"];
@@ -48,7 +52,7 @@ pub(crate) fn advice_on_fault(
     }
 }
 
-// What to do about a file that is no object with the one member `rules`, an object.
+// What to do about a file that is not an object with the one member `rules`, an object.
 fn advice_on_top(alloc: Global, value: &Value) -> Result<String, NoMemory> {
     let Value::Object(members) = value else {
         return Ok(format!(in alloc;
@@ -133,7 +137,7 @@ pub(crate) fn advice_on_member(
     }
 }
 
-// What to do about a rule that is no text and no truth value.
+// What to do about a rule that is neither a text nor a truth value.
 fn advice_on_rule_value(alloc: Global, name: &str, value: &Value) -> Result<String, NoMemory> {
     let sort = sort_of(value);
     match value {
@@ -149,7 +153,7 @@ fn advice_on_rule_value(alloc: Global, name: &str, value: &Value) -> Result<Stri
     }
 }
 
-// What to do about a name with a dot that is none of a rule.
+// What to do about a name with a dot that is not the name of a rule.
 fn advice_on_rule_name(alloc: Global, name: &str) -> Result<String, NoMemory> {
     if let Some(rule) = nearest(name, &RULE_NAMES) {
         return Ok(format!(in alloc; "`{name}` is no rule: did you mean `{rule}`?")?);
@@ -167,16 +171,19 @@ fn advice_on_rule_name(alloc: Global, name: &str) -> Result<String, NoMemory> {
     Ok(format!(in alloc; "`{name}` is no rule: {words}")?)
 }
 
-// What to do about a key or a capture whose value is no object.
+// What to do about a key or a capture whose value is not an object.
 fn advice_on_bare(alloc: Global, name: &str, value: &Value) -> Result<String, NoMemory> {
     if matches!(name, "read" | "write" | "validate" | "indexOn") {
         return Ok(format!(in alloc;
             "`{name}` is no rule without its dot: did you mean `.{name}`?"
         )?);
     }
+    let (sort, rule) = match value {
+        Value::String(_) => ("a text", "\".validate\": \"..\""),
+        _ => (sort_of(value), "\".read\": true"),
+    };
     Ok(format!(in alloc;
-        "`{name}` is {}, and should be an object with the rules below it, as {{ \".read\": true }}",
-        sort_of(value)
+        "`{name}` is {sort}, and should be an object with the rules below it, as {{ {rule} }}"
     )?)
 }
 
@@ -191,7 +198,7 @@ fn advice_on_capture(alloc: Global, name: &str, is_lawful: bool) -> Result<Strin
     )?)
 }
 
-// What to do about a key that is none.
+// What to do about a key that is invalid.
 fn advice_on_key(alloc: Global, name: &str) -> Result<String, NoMemory> {
     if name.is_empty() {
         return Ok(String::from_str(alloc, "a key may not be empty")?);

@@ -9,14 +9,14 @@ ghost use Rattle.rules_reader.specs.Refusal.{Refuses};
 ghost use Rattle.rules_reader.specs.declared.fault.RulesFault.TheVariants.{NoMemory as no_memory};
 ghost use Rattle.diagnosis.specs.Finding.{IsAnswered, AreFindings, IsRight, IsPlaceOf};
 
-use crate::advice::advice_on_json;
+use crate::advice::{FileSort, advice_on_json};
+use crate::end_of_json::end_of_json;
 use crate::finding::{Diagnosis, Finding};
 use crate::search::Search;
 use crate::spots::spots;
 use crate::written::read_text;
 use json_tree::NoMemory;
 use rules_reader::{MAX_FILE_BYTES, RulesFault, compile, plain};
-use serde_json::Value;
 use std::alloc::Global;
 
 /// The most faults that are named.
@@ -98,7 +98,7 @@ fn diagnosis_of_json(
     ensures few { IfOk result (λ diagnosis. length diagnosis.others.items < MAX_FINDINGS) }
 {
     let stopped = fault_in_json(alloc, text)?;
-    let (place, advice) = advice_on_json(alloc, file, text, stopped)?;
+    let (place, advice) = advice_on_json(alloc, FileSort::Rules, file, text, stopped)?;
     let place = place.min(text.len());
     let answered = Finding {
         place: place_in_json(&fault, place),
@@ -129,30 +129,7 @@ fn fault_in_json(alloc: Global, text: &[u8]) -> Result<usize, NoMemory>
     if text.len() > MAX_FILE_BYTES {
         return Ok(MAX_FILE_BYTES);
     }
-    match Value::from_slice(alloc, text) {
-        Ok(_) => Ok(text.len()),
-        Err(error) => if error.is_memory() {
-            Err(NoMemory)
-        } else if error.is_eof() {
-            Ok(text.len())
-        } else {
-            Ok(place_at(text, error.line(), error.column()).min(text.len()))
-        },
-    }
-}
-
-// The place of a column of a line, both from 1.
-fn place_at(text: &[u8], line: usize, column: usize) -> usize {
-    let mut left = line;
-    for (place, byte) in text.iter().enumerate() {
-        if left <= 1 {
-            return place.saturating_add(column.saturating_sub(1));
-        }
-        if *byte == b'\n' {
-            left -= 1;
-        }
-    }
-    text.len()
+    end_of_json(alloc, text)
 }
 
 // How many of these findings are written before a place.

@@ -18,12 +18,12 @@ pub fn report(
     let page = Page { alloc, name, file };
     for (index, finding) in diagnosis.others.iter().enumerate() {
         if index == diagnosis.before {
-            page.append(&diagnosis.answered, &mut text)?;
+            page.append_finding(&diagnosis.answered, &mut text)?;
         }
-        page.append(finding, &mut text)?;
+        page.append_finding(finding, &mut text)?;
     }
     if diagnosis.before >= diagnosis.others.len() {
-        page.append(&diagnosis.answered, &mut text)?;
+        page.append_finding(&diagnosis.answered, &mut text)?;
     }
     if !diagnosis.others.is_empty() {
         page.append_answered(&diagnosis.answered, &mut text)?;
@@ -33,6 +33,19 @@ pub fn report(
             "{name}: no more than {MAX_FINDINGS} faults are named\n"
         )?.as_str())?;
     }
+    Ok(text)
+}
+
+/// The one fault of a file in lines, as [`report`] has them.
+pub(crate) fn report_one(
+    alloc: Global,
+    name: &str,
+    file: &[u8],
+    place: usize,
+    advice: &str,
+) -> Result<String, NoMemory> {
+    let mut text = String::new(alloc);
+    Page { alloc, name, file }.append(Some(place), advice, &mut text)?;
     Ok(text)
 }
 
@@ -63,16 +76,20 @@ impl<'a> Line<'a> {
 const SHOWN: usize = 100;
 
 impl<'a> Page<'a> {
+    fn append_finding(self, finding: &Finding, text: &mut String) -> Result<(), NoMemory> {
+        self.append(finding.place, finding.advice.as_str(), text)
+    }
+
     // Appends a fault, and the line in which it shows.
-    fn append(self, finding: &Finding, text: &mut String) -> Result<(), NoMemory> {
-        let advice = finding.advice.as_str();
-        let Some(line) = finding.place.and_then(|place| self.line(place)) else {
-            text.push_str(format!(in self.alloc; "{}: {advice}\n", self.name)?.as_str())?;
-            return Ok(());
+    fn append(self, place: Option<usize>, advice: &str, text: &mut String) -> Result<(), NoMemory> {
+        let Some(line) = place.and_then(|place| self.line(place)) else {
+            text.push_str(format!(in self.alloc; "{}: ", self.name)?.as_str())?;
+            return append_words(advice, text);
         };
         let (number, column) = (line.number, line.column());
-        let head = format!(in self.alloc; "{}:{number}:{column}: {advice}\n", self.name)?;
+        let head = format!(in self.alloc; "{}:{number}:{column}: ", self.name)?;
         text.push_str(head.as_str())?;
+        append_words(advice, text)?;
         self.append_line(line, text)
     }
 
@@ -91,33 +108,22 @@ impl<'a> Page<'a> {
         Ok(())
     }
 
-    // Appends bytes of a line, a control character as a space.
+    // Appends bytes of a line.
     fn append_shown(self, bytes: &[u8], text: &mut String) -> Result<(), NoMemory> {
         let shown = String::from_utf8_lossy(self.alloc, bytes)?;
-        for c in shown.chars() {
-            text.push(if c.is_control() { ' ' } else { c })?;
-        }
-        Ok(())
+        append_harmless(&shown, text)
     }
 
     // Appends which fault a deployment answers.
     fn append_answered(self, answered: &Finding, text: &mut String) -> Result<(), NoMemory> {
-        let words = match answered.place.and_then(|place| self.line(place)) {
-            Some(line) => {
-                let (number, column) = (line.number, line.column());
-                format!(in self.alloc;
-                    "{}: a deployment is refused for the fault at {number}:{column}\n",
-                    self.name
-                )?
-            }
-            None => {
-                let advice = answered.advice.as_str();
-                format!(in self.alloc;
-                    "{}: a deployment is refused for this fault: {advice}\n",
-                    self.name
-                )?
-            }
+        let head = format!(in self.alloc; "{}: a deployment is refused for ", self.name)?;
+        text.push_str(head.as_str())?;
+        let Some(line) = answered.place.and_then(|place| self.line(place)) else {
+            text.push_str("this fault: ")?;
+            return append_words(answered.advice.as_str(), text);
         };
+        let (number, column) = (line.number, line.column());
+        let words = format!(in self.alloc; "the fault at {number}:{column}\n")?;
         text.push_str(words.as_str())?;
         Ok(())
     }
@@ -143,6 +149,21 @@ impl<'a> Page<'a> {
             behind: rest.split_at_checked(end)?.0,
         })
     }
+}
+
+// Appends the words of an advice, in which names of the file may stand, and ends their line.
+fn append_words(words: &str, text: &mut String) -> Result<(), NoMemory> {
+    append_harmless(words, text)?;
+    text.push('\n')?;
+    Ok(())
+}
+
+// Appends words, a control character as a space.
+fn append_harmless(words: &str, text: &mut String) -> Result<(), NoMemory> {
+    for c in words.chars() {
+        text.push(if c.is_control() { ' ' } else { c })?;
+    }
+    Ok(())
 }
 
 // How many characters these bytes begin, if they are a text.

@@ -1,5 +1,5 @@
 //! The search for the faults of a text that is JSON, and for their places.
-ghost use Rattle.std.specs.Prelude.{◌≡◌, ◌⊎◌, true, false, ◌<◌, length, ◌++◌, ◌∷◌, map, string_bytes, IfOk, IfSome, Some, option_map};
+ghost use Rattle.std.specs.Prelude.{◌≡◌, ◌⊎◌, ℕ, true, false, ◌<◌, length, ◌++◌, ◌∷◌, map, string_bytes, IfOk, IfSome, Some, option_map};
 ghost use Rattle.std.specs.List.{AllByRecursion};
 ghost use Rattle.rules_reader.specs.Part.{texts, is_capture};
 ghost use Rattle.rules_reader.specs.Node.{text_of};
@@ -7,7 +7,7 @@ ghost use Rattle.serde_json.specs.View.{view};
 ghost use Rattle.serde_json.specs.Data.{string};
 ghost use Rattle.rules_reader.specs.File.{json_of, is_sound_member};
 ghost use Rattle.rules_reader.specs.Book.{kind_name};
-ghost use Rattle.diagnosis.specs.Written.{text_at};
+ghost use Rattle.diagnosis.specs.Written.{text_at, IsNamedAt};
 ghost use Rattle.diagnosis.specs.Finding.{path_of, member_path, IsPlaceOf, IsPlaceOfRule, IsPlaceOfMember, HasFault, HasRival, IsRight};
 
 use crate::advice::{advice_on_fault, advice_on_member, advice_on_rival, advice_on_rule};
@@ -139,7 +139,7 @@ impl<'a> Search<'a> {
         let Some(value) = self.value_of(&member.pattern, member.name.as_str())? else {
             return Ok(None);
         };
-        if self.is_bad(member, value)? {
+        if self.is_bad(&member.pattern, member, value)? {
             return Ok(Some(RulesFault::BadRulesShape(member.pattern.copy()?)));
         }
         match (kind_of(member.name.as_str()), value) {
@@ -159,21 +159,21 @@ impl<'a> Search<'a> {
         Ok(value_at(self.value, &path))
     }
 
-    // Whether a member of this value may not stand where it does.
-    fn is_bad(&self, member: &Member, value: &Value) -> Result<bool, NoMemory>
+    // Whether a member of this value may not stand in the object at a pattern.
+    fn is_bad(&self, pattern: &Pattern, member: &Member, value: &Value) -> Result<bool, NoMemory>
         requires { json_of self.now.text.now ≡ Some (view self.now.value.now) }
-        ensures { IfOk result (λ bad. bad ≡ true → (is_sound_member (texts member.now.pattern) (string_bytes member.now.name) (view value.now) ≡ false) ⊎ HasRival self.now.text.now (texts member.now.pattern) (string_bytes member.now.name)) }
+        ensures { IfOk result (λ bad. bad ≡ true → (is_sound_member (texts pattern.now) (string_bytes member.now.name) (view value.now) ≡ false) ⊎ HasRival self.now.text.now (texts pattern.now) (string_bytes member.now.name)) }
     {
-        if !is_sound_member(&member.pattern, member.name.as_str(), value) {
+        if !is_sound_member(pattern, member.name.as_str(), value) {
             return Ok(true);
         }
-        self.has_rival(member)
+        self.has_rival(pattern, member)
     }
 
-    // Whether a member is a capture beside another one.
-    fn has_rival(&self, member: &Member) -> Result<bool, NoMemory>
+    // Whether a member is a capture beside another one of the object at a pattern.
+    fn has_rival(&self, pattern: &Pattern, member: &Member) -> Result<bool, NoMemory>
         requires { json_of self.now.text.now ≡ Some (view self.now.value.now) }
-        ensures { IfOk result (λ has. has ≡ true → HasRival self.now.text.now (texts member.now.pattern) (string_bytes member.now.name)) }
+        ensures { IfOk result (λ has. has ≡ true → HasRival self.now.text.now (texts pattern.now) (string_bytes member.now.name)) }
     {
         let Some(rival) = &member.rival else {
             return Ok(false);
@@ -184,7 +184,7 @@ impl<'a> Search<'a> {
         {
             return Ok(false);
         }
-        Ok(self.value_of(&member.pattern, rival.as_str())?.is_some())
+        Ok(self.value_of(pattern, rival.as_str())?.is_some())
     }
 
     // The fault of the text of a rule, which stands at a pattern.
@@ -207,27 +207,57 @@ impl<'a> Search<'a> {
         }
     }
 
-    /// Where a fault shows in the member that a spot is, if that is found.
-    pub(crate) fn place_of(&self, fault: &RulesFault, spot: Spot) -> Result<Option<usize>, NoMemory>
+    /// Where a fault shows in a member, of which this is the spot, if that is found.
+    pub(crate) fn place_of(
+        &self,
+        fault: &RulesFault,
+        member: &Member,
+        spot: Spot,
+    ) -> Result<Option<usize>, NoMemory>
+        requires { json_of self.now.text.now ≡ Some (view self.now.value.now) }
         ensures { IfOk result (λ place. IfSome place (IsPlaceOf self.now.text.now fault.now)) }
     {
         match fault {
-            RulesFault::BadRulesShape(pattern) => self.place_of_member(pattern, spot),
+            RulesFault::BadRulesShape(pattern) => self.place_of_bad(pattern, member, spot),
             RulesFault::BadRule(rule, fault) => self.place_of_rule(rule, fault, spot),
             _ => Ok(None),
         }
     }
 
-    // Where the name of a member of the object at a pattern is written, if that is the spot.
-    fn place_of_member(&self, pattern: &Pattern, spot: Spot) -> Result<Option<usize>, NoMemory>
+    // Where the name of a member of the object at a pattern is written, if it may not stand there and the spot is its.
+    fn place_of_bad(
+        &self,
+        pattern: &Pattern,
+        member: &Member,
+        spot: Spot,
+    ) -> Result<Option<usize>, NoMemory>
+        requires { json_of self.now.text.now ≡ Some (view self.now.value.now) }
         ensures { IfOk result (λ place. IfSome place (IsPlaceOfMember self.now.text.now (texts pattern.now))) }
     {
-        let Some(name) = self.words(spot.name)? else {
+        let Some(value) = self.value_of(pattern, member.name.as_str())? else {
             return Ok(None);
         };
+        if !self.is_bad(pattern, member, value)? {
+            return Ok(None);
+        }
+        match self.place_of_name(pattern, member.name.as_str(), spot)? {
+            Some(place) => Ok(Some(place)),
+            None => Ok(None),
+        }
+    }
+
+    // Where the name of a member of the object at a pattern is written, if that is the spot.
+    fn place_of_name(
+        &self,
+        pattern: &Pattern,
+        name: &str,
+        spot: Spot,
+    ) -> Result<Option<usize>, NoMemory>
+        ensures { IfOk result (λ place. IfSome place (λ place. (to : ℕ) × IsNamedAt self.now.text.now (path_of (texts pattern.now)) name.now place to)) }
+    {
         let path = path_of(self.alloc, pattern)?;
         let places = (spot.name, end_of_quoted(self.text, spot.name));
-        if is_named_at(self.alloc, self.text, &path, name.as_str(), places)? {
+        if is_named_at(self.alloc, self.text, &path, name, places)? {
             Ok(Some(spot.name))
         } else {
             Ok(None)
@@ -251,7 +281,7 @@ impl<'a> Search<'a> {
         if !is_written_at(self.alloc, self.text, &path, said.as_str(), places)? {
             return Ok(None);
         }
-        match shown_at(self.alloc, said.as_str(), fault)? {
+        match shown_at(self.alloc, said.as_str(), rule, fault)? {
             Some(byte) => place_of_byte(self.alloc, self.text, places, said.as_str(), byte),
             None => Ok(None),
         }
@@ -291,7 +321,7 @@ impl<'a> Search<'a> {
         let Some(fault) = self.fault_of(&member)? else {
             return Ok(None);
         };
-        let place = self.place_of(&fault, *spot)?;
+        let place = self.place_of(&fault, &member, *spot)?;
         let advice = self.advice(&fault, &member)?;
         Ok(Some(Finding {
             fault,
@@ -308,7 +338,7 @@ impl<'a> Search<'a> {
             let (Some(spot), Some(member)) = (self.spots.get(index), self.member(index)?) else {
                 continue;
             };
-            if self.has_fault(&member, fault)? && self.place_of(fault, *spot)?.is_some() {
+            if self.has_fault(&member, fault)? && self.place_of(fault, &member, *spot)?.is_some() {
                 return Ok(Some(index));
             }
         }
@@ -331,6 +361,7 @@ impl<'a> Search<'a> {
         fault: &RulesFault,
         spot: Option<usize>,
     ) -> Result<(Option<usize>, String), NoMemory>
+        requires { json_of self.now.text.now ≡ Some (view self.now.value.now) }
         ensures { IfOk result (λ found. IfSome found.0 (IsPlaceOf self.now.text.now fault.now)) }
     {
         let Some(index) = spot else {
@@ -339,7 +370,7 @@ impl<'a> Search<'a> {
         let (Some(spot), Some(member)) = (self.spots.get(index), self.member(index)?) else {
             return self.answered_whole(fault);
         };
-        let place = self.place_of(fault, *spot)?;
+        let place = self.place_of(fault, &member, *spot)?;
         Ok((place, self.advice(fault, &member)?))
     }
 
@@ -392,12 +423,12 @@ impl<'a> Search<'a> {
             let (Some(spot), Some(member)) = (self.spots.get(index), self.member(index)?) else {
                 continue;
             };
-            if kind_of(member.name.as_str()).is_none() {
+            let Some(kind) = kind_of(member.name.as_str()) else {
                 continue;
-            }
+            };
             count = count.saturating_add(1);
             if count > MAX_RULES {
-                return self.place_of_member(&member.pattern, *spot);
+                return self.place_of_name(&member.pattern, kind.name(), *spot);
             }
         }
         Ok(None)

@@ -55,7 +55,7 @@ pub(super) fn is_of_name(byte: u8) -> bool {
     byte == b'_' || byte.is_ascii_alphanumeric()
 }
 
-/// The last of these bytes that is no space.
+/// The last of these bytes that is not a space.
 pub(super) fn last_word(bytes: &[u8]) -> Option<u8> {
     for byte in bytes.iter().rev() {
         if !is_space(*byte) {
@@ -65,7 +65,7 @@ pub(super) fn last_word(bytes: &[u8]) -> Option<u8> {
     None
 }
 
-/// The bytes up to the last that is no space.
+/// The bytes up to the last that is not a space.
 pub(super) fn trimmed(bytes: &[u8]) -> &[u8] {
     let spaces = bytes
         .iter()

@@ -1,10 +1,11 @@
-//! What to do about a rule that is none.
+//! What to do about a rule that is invalid.
 
 use super::near::nearest;
 use super::quotes::{
     Quotes, around, around_sign, first_name, is_of_name, last_name, last_word, trimmed,
 };
 use super::sorts::advice_on_sorts;
+use crate::outline::append_short;
 use expr_parser::MAX_LEVELS;
 use expr_tokens::MAX_EXPRESSION_BYTES;
 use json_tree::NoMemory;
@@ -20,10 +21,7 @@ pub(crate) fn advice_on_rule(
     text: &str,
 ) -> Result<String, NoMemory> {
     match fault {
-        RuleFault::BadExpression { byte } => Ok(String::from_str(
-            alloc,
-            advice_on_byte(text.as_bytes(), *byte),
-        )?),
+        RuleFault::BadExpression { byte } => advice_on_byte(alloc, text.as_bytes(), *byte),
         RuleFault::NotInProfile(LeftOut::Name(name)) => Ok(format!(in alloc;
             "`{}` is not in this language: {}",
             name.as_str(),
@@ -33,7 +31,7 @@ pub(crate) fn advice_on_rule(
             alloc,
             advice_on_left_out(sign.name(), text.as_bytes()),
         )?),
-        RuleFault::TypeError => advice_on_sorts(alloc, text),
+        RuleFault::TypeError => advice_on_sorts(alloc, rule, text),
         RuleFault::UnknownName(name) => {
             let name = name.as_str();
             if name.starts_with('$') {
@@ -50,7 +48,15 @@ pub(crate) fn advice_on_rule(
 // ---- no expression
 
 // What to do about a text with which no expression goes on from a byte on.
-fn advice_on_byte(text: &[u8], byte: usize) -> &'static str {
+fn advice_on_byte(alloc: Global, text: &[u8], byte: usize) -> Result<String, NoMemory> {
+    let is_short = text.len() <= MAX_EXPRESSION_BYTES;
+    match unclosed_text(text) {
+        Some(unclosed) if byte >= text.len() && is_short => advice_on_unclosed(alloc, unclosed),
+        _ => Ok(String::from_str(alloc, advice_from_byte(text, byte))?),
+    }
+}
+
+fn advice_from_byte(text: &[u8], byte: usize) -> &'static str {
     if byte == MAX_EXPRESSION_BYTES && text.len() > MAX_EXPRESSION_BYTES {
         return "a rule has at most 4,096 bytes, and this one has more";
     }
@@ -69,17 +75,23 @@ fn advice_on_byte(text: &[u8], byte: usize) -> &'static str {
     advice_on_order(front, rest)
 }
 
+// How many characters are shown of a text that is not closed, with its quote.
+const SHOWN_OF_A_TEXT: usize = 20;
+
+// What to do about a text that ends in quotes, which are those of the first of these bytes.
+fn advice_on_unclosed(alloc: Global, unclosed: &[u8]) -> Result<String, NoMemory> {
+    let mut words = String::from_str(alloc, "a text is not closed: the one that begins with ")?;
+    let shown = String::from_utf8_lossy(alloc, unclosed)?;
+    append_short(&shown, SHOWN_OF_A_TEXT, &mut words)?;
+    words.push_str(match unclosed {
+        [b'\'', ..] => " has no second ', or has one inside of it, which is written \\\\'",
+        _ => " has no second \\\"",
+    })?;
+    Ok(words)
+}
+
 // What to do about a text that ends too early.
 fn advice_on_end(text: &[u8]) -> &'static str {
-    if is_split_inside(text) {
-        return "a text is not closed, or has a ' inside of it, which is written \\\\'";
-    }
-    if Quotes::behind(text).open() == Some(b'\'') {
-        return "a text is not closed: a ' is missing";
-    }
-    if Quotes::behind(text).open().is_some() {
-        return "a text is not closed: a \\\" is missing";
-    }
     match last_word(text) {
         None => return "a rule may not be empty: write an expression, true or false",
         Some(b'.') => return "a name is missing after the dot",
@@ -152,13 +164,16 @@ impl Open {
     }
 }
 
-// What to do about a sign that no token begins with, or a quote that is none.
+// What to do about a sign that no token begins with, or a quote that is not straight.
 fn advice_on_sign(front: &[u8], rest: &[u8]) -> Option<&'static str> {
     match rest {
         [b'=', b'>', ..] => Some("`=>` is no operator: write `>=`"),
         [b'=', b'<', ..] => Some("`=<` is no operator: write `<=`"),
         [b'=', b'!', ..] => Some("`=!` is no operator: write `!=`"),
         [b'=', b'=', ..] => None,
+        [b'=', ..] if matches!(last_word(front), Some(b'<' | b'>' | b'!' | b'=')) => {
+            Some("no space may stand in an operator, as in `>=`")
+        }
         [b'=', ..] => Some("`=` compares nothing: write `==`"),
         [b'&', b'&', ..] | [b'|', b'|', ..] => None,
         [b'&', ..] => Some("`&` is no operator: write `&&`"),
@@ -193,7 +208,8 @@ fn advice_on_word(front: &[u8], rest: &[u8]) -> Option<&'static str> {
     match first_name(rest) {
         b"and" | b"AND" => return Some("`and` is no operator: write `&&`"),
         b"or" | b"OR" => return Some("`or` is no operator: write `||`"),
-        b"is" | b"eq" => return Some("this word is no operator: write `==`"),
+        b"is" => return Some("`is` is no operator: write `==`, or a test as `.isString()`"),
+        b"eq" => return Some("`eq` is no operator: write `==`"),
         b"in" => return Some("`in` is no operator: compare by `==`, and join by `||`"),
         _ => {}
     }
@@ -223,7 +239,11 @@ fn advice_on_order(front: &[u8], rest: &[u8]) -> &'static str {
             "this ] closes nothing: remove it, or add a [ before it",
         [b']', ..] if last_word(front) == Some(b'[') => "a list has one element at least",
         [b'[', ..] => "a list may only stand in a call, as in `hasChildren(['a', 'b'])`",
-        [b'(', ..] => "only a method after a dot is called, as in `data.exists()`",
+        [b'(', ..] => match last_name(front) {
+            b"now" | b"auth" | b"root" | b"data" | b"newData" | b"query" =>
+                "a variable is not called: remove the parentheses",
+            _ => "only a method after a dot is called, as in `data.exists()`",
+        },
         [b',', ..] if is_behind_operand => "a comma only stands in a call: join conditions by `&&`",
         [b':', ..] if is_behind_operand => "a `:` needs a `?` before it",
         [b'.', ..] => "a dot needs something before it, and a name after it",
@@ -256,19 +276,28 @@ fn is_split(front: &[u8], rest: &[u8]) -> bool {
     matches!(front.last(), Some(b'\'' | b'"')) && !first_name(rest).is_empty()
 }
 
-// Whether a word follows the end of a text directly, somewhere.
-fn is_split_inside(text: &[u8]) -> bool {
+// The rest of a text that ends in quotes, from the quote on that seems to have no second one: the first of two between
+// which a text stands that a word follows directly, else the last.
+fn unclosed_text(text: &[u8]) -> Option<&[u8]> {
     let mut quotes = Quotes::new();
+    let mut begin = 0usize;
     let mut was_closed = false;
-    for byte in text {
+    for (place, byte) in text.iter().enumerate() {
         if was_closed && is_of_name(*byte) {
-            return true;
+            break;
         }
         let was_open = quotes.open().is_some();
         quotes.take(*byte);
+        if !was_open && quotes.open().is_some() {
+            begin = place;
+        }
         was_closed = was_open && quotes.open().is_none();
     }
-    false
+    if Quotes::behind(text).open().is_some() {
+        Some(text.split_at_checked(begin)?.1)
+    } else {
+        None
+    }
 }
 
 // ---- what is left out
@@ -294,9 +323,24 @@ fn advice_on_slash(text: &[u8]) -> &'static str {
     match around_sign(text, b'/', &[]) {
         Some((_, [b'/', b'/' | b'*', ..])) =>
             "a comment may not stand in the text of a rule: put it before the rule",
+        Some((front, _)) if is_in_path(front) => "a path stands in quotes, as in `child('a/b')`",
         Some((front, _)) if !ends_operand(front) =>
             "regular expressions are not in this language: use `contains`, `beginsWith`, `endsWith` or `==`",
         _ => "`/` is not in this language: multiply the other side instead",
+    }
+}
+
+// Whether a slash behind these bytes is that of a path without quotes.
+fn is_in_path(front: &[u8]) -> bool {
+    let name = last_name(front).len();
+    let end = trimmed(front).len().saturating_sub(name);
+    let mut before = front.split_at_checked(end).map_or(front, |parts| parts.0);
+    if let [rest @ .., b'$'] = before {
+        before = rest;
+    }
+    match trimmed(before) {
+        [call @ .., b'('] => matches!(last_name(call), b"child" | b"hasChild"),
+        _ => false,
     }
 }
 
@@ -376,7 +420,7 @@ fn has_capture(pattern: &Pattern, name: &str) -> bool {
     false
 }
 
-// What to do about a variable that is none, or that stands in no such rule.
+// What to do about an unknown variable, or one that may not stand in such a rule.
 fn advice_on_variable(alloc: Global, name: &str, rule: &RuleName) -> Result<String, NoMemory> {
     let kind = rule.kind.name();
     if name == "newData" {
@@ -422,7 +466,7 @@ fn instead_of_variable(name: &str) -> Option<&'static str> {
     }
 }
 
-// What to do about a name behind a dot that is none.
+// What to do about an unknown name behind a dot.
 fn advice_on_use(alloc: Global, name: &str, text: &[u8]) -> Result<String, NoMemory> {
     let other = match instead_of_use(name) {
         Some(other) => Some(other),
@@ -441,7 +485,9 @@ fn advice_on_use(alloc: Global, name: &str, text: &[u8]) -> Result<String, NoMem
         b"query" => Ok(format!(in alloc;
             "there is no `query.{name}`: it has its order, as orderByKey, its bounds and its limits"
         )?),
-        _ => if matches!(rest, [b'(', ..]) {
+        _ => if matches!(rest, [b'.', ..]) {
+            Ok(format!(in alloc; "there is no `.{name}`: write `.child('{name}')`")?)
+        } else if matches!(rest, [b'(', ..]) {
             Ok(format!(in alloc;
                 "there is no `.{name}()`: of a snapshot there are val, exists, child, parent, hasChild, hasChildren, isString, isNumber and isBoolean"
             )?)

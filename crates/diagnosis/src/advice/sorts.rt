@@ -1,16 +1,24 @@
 //! What to do where something of another sort is wanted.
 
+use crate::blame::{first_without_sort, has_sort, has_value};
 use expr_parser::{Argument, Expr, ExprFault, parse};
+use expr_places::parts;
+use expr_tokens::MAX_EXPRESSION_BYTES;
 use expr_types::Sort;
 use json_tree::NoMemory;
+use rules_reader::{RuleName, sort_in_rule};
 use std::alloc::Global;
 
 const GENERAL: &str = "a value is wanted here: a snapshot, as `data`, has one by `.val()`";
 
 /// What to do about the text of a rule in which something of another sort is wanted.
-pub(super) fn advice_on_sorts(alloc: Global, text: &str) -> Result<String, NoMemory> {
+pub(super) fn advice_on_sorts(
+    alloc: Global,
+    rule: &RuleName,
+    text: &str,
+) -> Result<String, NoMemory> {
     match parse(alloc, text) {
-        Ok(expr) => match blame(&expr).or(unwanted(&expr)) {
+        Ok(expr) => match part_at_fault(alloc, &expr, rule)? {
             Some(Misfit::NoValue(part)) => advice_on_no_value(alloc, part),
             Some(Misfit::Use(receiver, part)) => advice_on_use(alloc, receiver, part),
             None => Ok(String::from_str(alloc, GENERAL)?),
@@ -25,124 +33,61 @@ pub(super) fn advice_on_sorts(alloc: Global, text: &str) -> Result<String, NoMem
 enum Misfit<'e> {
     // It is no value, and stands where one is wanted.
     NoValue(&'e Expr),
-    // It is a use of something of this sort, which has none such.
+    // It is a use that something of this sort does not have.
     Use(Sort, &'e Expr),
 }
 
-// The first part at fault, in the order in which they are looked at.
-#[cycle(blames)]
-fn blame(expr: &Expr) -> Option<Misfit<'_>> {
-    match expr {
-        Expr::Group(inner) => blame(inner),
-        Expr::Member(receiver, _) => blame(receiver).or(misused(expr)),
-        Expr::Call(receiver, _, arguments) => {
-            blame(receiver).or(blame_in(arguments)).or(misused(expr))
+// The part of the expression of a rule that is at fault.
+fn part_at_fault<'e>(
+    alloc: Global,
+    expr: &'e Expr,
+    rule: &RuleName,
+) -> Result<Option<Misfit<'e>>, NoMemory> {
+    let mut part = expr;
+    for _ in 0..MAX_EXPRESSION_BYTES {
+        match first_without_sort(alloc, part, rule)? {
+            Some(inner) => part = inner.part,
+            None => break,
         }
-        Expr::Not(operand) | Expr::Negate(operand) => blame(operand).or(unwanted(operand)),
-        Expr::Operation(_, left, right) => {
-            blame(left)
-                .or(blame(right))
-                .or(unwanted(left))
-                .or(unwanted(right))
-        }
-        Expr::Choice(condition, yes, no) => blame(condition)
-            .or(blame(yes))
-            .or(blame(no))
-            .or(unwanted(condition))
-            .or(unwanted(yes))
-            .or(unwanted(no)),
-        _ => None,
+    }
+    if has_sort(alloc, part, rule)? {
+        return Ok(Some(Misfit::NoValue(part)));
+    }
+    match first_without_value(alloc, part, rule)? {
+        Some(operand) => Ok(Some(Misfit::NoValue(operand))),
+        None => Ok(misused(alloc, part, rule)),
     }
 }
 
-// The first part at fault in what a call is given.
-#[cycle(blames)]
-fn blame_in(arguments: &Vec<Argument>) -> Option<Misfit<'_>> {
-    for argument in arguments {
-        let found = match argument {
-            Argument::One(expr) => blame(expr).or(unwanted(expr)),
-            Argument::List(exprs) => blame_in_list(exprs),
-        };
-        if found.is_some() {
-            return found;
+// The first part of an expression that must be a value and is none.
+fn first_without_value<'e>(
+    alloc: Global,
+    expr: &'e Expr,
+    rule: &RuleName,
+) -> Result<Option<&'e Expr>, NoMemory> {
+    let receivers = match expr {
+        Expr::Member(_, _) | Expr::Call(_, _, _) => 1,
+        _ => 0,
+    };
+    let placed = parts(alloc, expr)?;
+    for part in placed.iter().skip(receivers) {
+        if !has_value(alloc, part.part, rule)? {
+            return Ok(Some(part.part));
         }
     }
-    None
+    Ok(None)
 }
 
-#[cycle(blames)]
-fn blame_in_list(exprs: &Vec<Expr>) -> Option<Misfit<'_>> {
-    for expr in exprs {
-        let found = blame(expr).or(unwanted(expr));
-        if found.is_some() {
-            return found;
-        }
-    }
-    None
-}
-
-// An expression that is no value.
-fn unwanted(expr: &Expr) -> Option<Misfit<'_>> {
-    match sort(expr) {
-        Some(Sort::Snapshot | Sort::Query) => Some(Misfit::NoValue(expr)),
-        _ => None,
-    }
-}
-
-// A use that its receiver does not have.
-fn misused(expr: &Expr) -> Option<Misfit<'_>> {
+// A use, and the sort of its receiver.
+fn misused<'e>(alloc: Global, expr: &'e Expr, rule: &RuleName) -> Option<Misfit<'e>> {
     let receiver = match expr {
-        Expr::Member(receiver, _) => sort(receiver)?,
-        Expr::Call(receiver, _, _) => sort(receiver)?,
+        Expr::Member(receiver, _) => receiver,
+        Expr::Call(receiver, _, _) => receiver,
         _ => return None,
     };
-    match sort(expr) {
-        Some(_) => None,
-        None => Some(Misfit::Use(receiver, expr)),
-    }
-}
-
-// The sort of an expression, if it has one.
-fn sort(expr: &Expr) -> Option<Sort> {
-    match expr {
-        Expr::Variable(name) => match name.as_str() {
-            "root" | "data" | "newData" => Some(Sort::Snapshot),
-            "auth" => Some(Sort::Auth),
-            "query" => Some(Sort::Query),
-            _ => Some(Sort::Value),
-        },
-        Expr::Group(inner) => sort(inner),
-        Expr::Member(receiver, name) => member_sort(sort(receiver)?, name.as_str()),
-        Expr::Call(receiver, name, arguments) => {
-            call_sort(sort(receiver)?, name.as_str(), arguments.as_slice())
-        }
-        _ => Some(Sort::Value),
-    }
-}
-
-fn member_sort(receiver: Sort, name: &str) -> Option<Sort> {
-    match (receiver, name) {
-        (Sort::Auth, "token") => Some(Sort::Token),
-        (Sort::Auth, "uid" | "provider") => Some(Sort::Value),
-        (Sort::Token, _) => Some(Sort::Value),
-        (Sort::Value, "length") => Some(Sort::Value),
-        (Sort::Query, _) if is_of_query(name) => Some(Sort::Value),
-        _ => None,
-    }
-}
-
-fn call_sort(receiver: Sort, name: &str, arguments: &[Argument]) -> Option<Sort> {
-    match (receiver, name, arguments) {
-        (Sort::Snapshot, "child", [Argument::One(_)]) => Some(Sort::Snapshot),
-        (Sort::Snapshot, "parent", []) => Some(Sort::Snapshot),
-        (Sort::Snapshot, "hasChild", [Argument::One(_)]) => Some(Sort::Value),
-        (Sort::Snapshot, "hasChildren", [Argument::List(_)]) => Some(Sort::Value),
-        (Sort::Snapshot, _, []) if is_test(name) => Some(Sort::Value),
-        (Sort::Value, "replace", [Argument::One(_), Argument::One(_)]) => Some(Sort::Value),
-        (Sort::Value, "contains" | "beginsWith" | "endsWith", [Argument::One(_)]) => {
-            Some(Sort::Value)
-        }
-        _ => None,
+    match sort_in_rule(alloc, receiver, rule.kind, &rule.pattern) {
+        Ok(sort) => Some(Misfit::Use(sort, expr)),
+        Err(_) => None,
     }
 }
 
