@@ -79,3 +79,30 @@ def public_contracts(source):
         said = "".join(token[1] for token in tokens[: end_of_signature(tokens, first)])
         found.setdefault(it[1], []).append(re.sub(r"\s+", " ", said).strip())
     return found
+
+
+class Function:
+    """A function of a crate: its name, the path by which a check calls it, where it stands, and the words in it."""
+
+    def __init__(self, file, path, start, end, source):
+        self.file, self.path, self.start, self.end = file, path, start, end
+        self.name = path.split("::")[-1]
+        self.words = set(re.findall(r"\w+", source[start:end])) - {self.name}
+
+
+IMPL = re.compile(r"^impl(?:<.*?>)? (?:.* for )?(\w+)", re.M)
+HEAD = re.compile(r"^( *)(?:pub(?:\(crate\))? )?(?:const )?fn (\w+)", re.M)
+
+
+def functions_in(folder):
+    """The functions of a crate's code, as it is formatted: each ends at the first brace as far in as its head."""
+    found = []
+    for path in sorted((folder / "src").rglob("*.rt")):
+        source, file = path.read_text(encoding="utf-8"), path.relative_to(folder).as_posix()
+        module = [it for it in path.relative_to(folder / "src").with_suffix("").parts if it not in ("lib", "main")]
+        for head in HEAD.finditer(source):
+            last = re.compile(rf"^{head[1]}}}|^{head[1]}\{{\}}", re.M).search(source, head.end())
+            impls = [it for it in IMPL.finditer(source, 0, head.start())] if head[1] else []
+            parts = [*module, *([impls[-1][1]] if impls else []), head[2]]
+            found.append(Function(file, "::".join(parts), head.start(), last.end() if last else len(source), source))
+    return found
