@@ -3,7 +3,10 @@
 use crate::command::REFUSED;
 use crate::opening::Contents;
 use crate::wanted::ServeOptions;
-use diagnosis::{diagnose, report};
+use diagnosis::{diagnose, report, report_data, report_tokens};
+use json_lines::MessageFault;
+use json_tree::NoMemory;
+use rtdb_core::MAX_LOCATIONS;
 use scripts::HeaderFault;
 use std::alloc::Global;
 use std::io;
@@ -23,9 +26,7 @@ pub(crate) fn explain_rules<E: io::Write>(
     let Ok(Some(diagnosis)) = diagnose(alloc, bytes) else {
         return;
     };
-    if let Ok(text) = report(alloc, name, bytes, &diagnosis) {
-        let _reported = write!(faults, "{text}");
-    }
+    put(report(alloc, name, bytes, &diagnosis), faults);
 }
 
 /// Reports where the files of a server are at fault. That this may fail changes nothing.
@@ -36,7 +37,38 @@ pub(crate) fn explain_fault<E: io::Write>(
     contents: &Contents,
     faults: &mut E,
 ) {
-    if let HeaderFault::Rules(_) = fault {
-        explain_rules(alloc, REFUSED, options.rules_file, &contents.rules, faults);
+    match fault {
+        HeaderFault::Rules(_) => {
+            explain_rules(alloc, REFUSED, options.rules_file, &contents.rules, faults);
+        }
+        HeaderFault::Line(MessageFault::NoMemory) | HeaderFault::Data(MessageFault::NoMemory) => {}
+        HeaderFault::Line(_) | HeaderFault::Data(_) => {
+            if let (Some(name), Some(bytes)) = (options.data_file, &contents.data_bytes) {
+                put(report_data(alloc, name, bytes), faults);
+            }
+        }
+        HeaderFault::BadTokens => {
+            if let (Some(name), Some(bytes)) = (options.tokens_file, &contents.tokens) {
+                put(report_tokens(alloc, name, bytes), faults);
+            }
+        }
+        HeaderFault::TreeFull => explain_full(options, faults),
+    }
+}
+
+// Reports that a tree has too many locations.
+fn explain_full<E: io::Write>(options: &ServeOptions<'_>, faults: &mut E) {
+    if let Some(name) = options.data_file {
+        let _reported = writeln!(
+            faults,
+            "{name}: the tree has more than {MAX_LOCATIONS} locations: each key that leads to a value is one, and so is the root"
+        );
+    }
+}
+
+// Reports a text, if it was made.
+fn put<E: io::Write>(text: Result<String, NoMemory>, faults: &mut E) {
+    if let Ok(text) = text {
+        let _reported = write!(faults, "{text}");
     }
 }
