@@ -1,0 +1,4 @@
+pub mod Looks
+pub mod Places
+pub mod Order
+pub mod Replaced

@@ -1,0 +1,5 @@
+//! The tests of `explainer`.
+#![tactic(auto)]
+
+#[cfg(test)]
+mod explained;
