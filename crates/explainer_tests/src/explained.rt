@@ -3,8 +3,7 @@ use arena_snapshot::View;
 use bumpalo::Bump;
 use evaluator::{Access, Asked, Claims, Env, Identity, Meaning, Moment, Snapshot, Value};
 use explainer::{Look, explain};
-use expr_parser::parse;
-use expr_types::{Place, check};
+use expr_parser::{Expr, parse};
 use json_tree::{Node, ValueFault, from_json};
 use path_capture::Captures;
 use std::alloc::Global;
@@ -105,29 +104,55 @@ fn explained(alloc: Global, text: &str) -> Result<String, Fail> {
     let uid = String::from_str(alloc, "ann")?;
     let provider = String::from_str(alloc, "custom")?;
     let who = Identity::new(uid, provider, true, Claims::new(alloc));
-    let arena = Bump::new(alloc);
-    let captures = Captures::new(&arena);
+    let asked = Asked::none();
     let Ok(expr) = parse(alloc, text) else {
         return Err("no expression")?;
     };
-    let view = match &tree {
+    let arena = Bump::new(alloc);
+    explained_at_root(alloc, &arena, &expr, &tree, &who, &asked)
+}
+
+fn explained_at_root<'a>(
+    alloc: Global,
+    arena: &'a Bump,
+    expr: &'a Expr,
+    tree: &'a Option<Node>,
+    who: &'a Identity,
+    asked: &'a Asked<'a>,
+) -> Result<String, Fail> {
+    let here = root_of(arena, tree)?;
+    let captures = Captures::new(arena);
+    explained_there(alloc, arena, expr, here, who, asked, &captures)
+}
+
+fn explained_there<'a>(
+    alloc: Global,
+    arena: &'a Bump,
+    expr: &'a Expr,
+    here: &'a Snapshot<'a>,
+    who: &'a Identity,
+    asked: &'a Asked<'a>,
+    captures: &Captures<'a, &'a Bump>,
+) -> Result<String, Fail> {
+    let env = Env {
+        auth: Some(&*who),
+        moment: Moment::new(1_000),
+        here: &*here,
+        access: Access::Reads(&*asked),
+        captures: &*captures,
+    };
+    match explain(alloc, &*arena, &*expr, &env) {
+        Ok(looks) => shown(alloc, looks.as_slice()),
+        Err(_) => Err("no memory")?,
+    }
+}
+
+fn root_of<'a>(arena: &'a Bump, tree: &'a Option<Node>) -> Result<&'a Snapshot<'a>, Fail> {
+    let view = match tree {
         Some(node) => Some(View::stored(node)),
         None => None,
     };
-    let here = arena.try_alloc(Snapshot::root(view))?;
-    let asked = Asked::none();
-    let env = Env {
-        auth: Some(&who),
-        moment: Moment::new(1_000),
-        here: &*here,
-        access: Access::Reads(&asked),
-        captures: &captures,
-    };
-    let looks = match explain(alloc, &arena, &expr, &env) {
-        Ok(looks) => looks,
-        Err(_) => return Err("no memory")?,
-    };
-    shown(alloc, looks.as_slice())
+    Ok(&*arena.try_alloc(Snapshot::root(view))?)
 }
 
 #[test]
