@@ -355,7 +355,7 @@ impl Front {
             if has_line_feed(file, begin, end) {
                 return Some((
                     begin,
-                    "this text runs into another line: is its closing quote missing?",
+                    "the text that begins here does not end where it should: is its closing quote missing?",
                 ));
             }
             if self.is_name_over_a_colon(file) {

@@ -208,7 +208,7 @@ fn advice_on_word(front: &[u8], rest: &[u8]) -> Option<&'static str> {
     match first_name(rest) {
         b"and" | b"AND" => return Some("`and` is no operator: write `&&`"),
         b"or" | b"OR" => return Some("`or` is no operator: write `||`"),
-        b"is" => return Some("`is` is no operator: write `==`, or a test as `.isString()`"),
+        b"is" => return Some(advice_on_is(rest)),
         b"eq" => return Some("`eq` is no operator: write `==`"),
         b"in" => return Some("`in` is no operator: compare by `==`, and join by `||`"),
         _ => {}
@@ -221,6 +221,23 @@ fn advice_on_word(front: &[u8], rest: &[u8]) -> Option<&'static str> {
             "a rule is one expression: nothing is declared in it",
         ),
         _ => None,
+    }
+}
+
+// What to do about `is`, by what is asked with it.
+fn advice_on_is(rest: &[u8]) -> &'static str {
+    let behind = match rest {
+        [b'i', b's', behind @ ..] => behind.trim_ascii_start(),
+        _ => rest,
+    };
+    match first_name(behind) {
+        b"string" | b"String" =>
+            "`is` is no operator: a text is asked for by `newData.isString()`, without `.val()`",
+        b"number" | b"int" | b"Number" =>
+            "`is` is no operator: a number is asked for by `newData.isNumber()`, without `.val()`",
+        b"bool" | b"boolean" | b"Boolean" =>
+            "`is` is no operator: true or false is asked for by `newData.isBoolean()`, without `.val()`",
+        _ => "`is` is no operator: write `==`",
     }
 }
 
@@ -241,7 +258,7 @@ fn advice_on_order(front: &[u8], rest: &[u8]) -> &'static str {
         [b'[', ..] => "a list may only stand in a call, as in `hasChildren(['a', 'b'])`",
         [b'(', ..] => match last_name(front) {
             b"now" | b"auth" | b"root" | b"data" | b"newData" | b"query" =>
-                "a variable is not called: remove the parentheses",
+                "a variable takes no parentheses: remove them",
             _ => "only a method after a dot is called, as in `data.exists()`",
         },
         [b',', ..] if is_behind_operand => "a comma only stands in a call: join conditions by `&&`",
@@ -349,7 +366,8 @@ fn advice_on_index(text: &[u8]) -> &'static str {
     match last_name(front) {
         b"auth" => "`[` is not in this language: write `auth.uid` for `auth['uid']`",
         b"token" => "`[` is not in this language: write `auth.token.name` for `auth.token['name']`",
-        _ => "`[` is not in this language: write `.child('key')` of a snapshot",
+        _ =>
+            "`[` is not in this language: write `.child(..)`, with what stands between the brackets",
     }
 }
 
@@ -391,6 +409,11 @@ const USES: [&str; 27] = [
 
 // What to do about a capture that does not stand above a rule.
 fn advice_on_capture(alloc: Global, name: &str, pattern: &Pattern) -> Result<String, NoMemory> {
+    if let Some(other) = capture_like(name, pattern) {
+        return Ok(format!(in alloc;
+            "there is no `{name}` above this rule: did you mean `${other}`?"
+        )?);
+    }
     let mut words = format!(in alloc; "`{name}` is no capture above this rule")?;
     let mut count = 0usize;
     for index in 0..pattern.len() {
@@ -406,6 +429,19 @@ fn advice_on_capture(alloc: Global, name: &str, pattern: &Pattern) -> Result<Str
         words.push_str(": there is none")?;
     }
     Ok(words)
+}
+
+// The first capture of a pattern whose name, with its `$`, is like this one; it is given without.
+fn capture_like<'a>(name: &str, pattern: &'a Pattern) -> Option<&'a str> {
+    let name = name.strip_prefix('$')?;
+    for index in 0..pattern.len() {
+        if let Some(Part::Capture(capture)) = pattern.part(index) {
+            if nearest(name, &[capture.text()]).is_some() {
+                return Some(capture.text());
+            }
+        }
+    }
+    None
 }
 
 // Whether a capture of this name, with its `$` left out, stands in a pattern.

@@ -1,13 +1,18 @@
 //! What to do where something of another sort is wanted.
 
 use crate::blame::{first_without_sort, has_sort, has_value};
-use expr_parser::{Argument, Expr, ExprFault, parse};
+use expr_parser::{Argument, Expr, ExprFault, Operator, parse};
 use expr_places::parts;
 use expr_tokens::MAX_EXPRESSION_BYTES;
 use expr_types::Sort;
 use json_tree::NoMemory;
 use rules_reader::{RuleName, sort_in_rule};
 use std::alloc::Global;
+
+const VALUE: &str = "` is a snapshot, and a value is wanted: add `.val()` behind it";
+
+const CONDITION: &str =
+    "` is a snapshot, and true or false is wanted: add `.exists()` or `.val()` behind it";
 
 const GENERAL: &str = "a value is wanted here: a snapshot, as `data`, has one by `.val()`";
 
@@ -19,7 +24,8 @@ pub(super) fn advice_on_sorts(
 ) -> Result<String, NoMemory> {
     match parse(alloc, text) {
         Ok(expr) => match part_at_fault(alloc, &expr, rule)? {
-            Some(Misfit::NoValue(part)) => advice_on_no_value(alloc, part),
+            Some(Misfit::NoValue(part)) => advice_on_no_value(alloc, part, VALUE),
+            Some(Misfit::NoCondition(part)) => advice_on_no_value(alloc, part, CONDITION),
             Some(Misfit::Use(receiver, part)) => advice_on_use(alloc, receiver, part),
             None => Ok(String::from_str(alloc, GENERAL)?),
         },
@@ -33,6 +39,8 @@ pub(super) fn advice_on_sorts(
 enum Misfit<'e> {
     // It is no value, and stands where one is wanted.
     NoValue(&'e Expr),
+    // The same where true or false is wanted.
+    NoCondition(&'e Expr),
     // It is a use that something of this sort does not have.
     Use(Sort, &'e Expr),
 }
@@ -51,12 +59,21 @@ fn part_at_fault<'e>(
         }
     }
     if has_sort(alloc, part, rule)? {
-        return Ok(Some(Misfit::NoValue(part)));
+        return Ok(Some(Misfit::NoCondition(part)));
     }
     match first_without_value(alloc, part, rule)? {
+        Some(operand) if wants_conditions(part) => Ok(Some(Misfit::NoCondition(operand))),
         Some(operand) => Ok(Some(Misfit::NoValue(operand))),
         None => Ok(misused(alloc, part, rule)),
     }
+}
+
+// Whether true or false is wanted of the operands.
+fn wants_conditions(expr: &Expr) -> bool {
+    matches!(
+        expr,
+        Expr::Not(_) | Expr::Choice(_, _, _) | Expr::Operation(Operator::And | Operator::Or, _, _)
+    )
 }
 
 // The first part of an expression that must be a value and is none.
@@ -124,7 +141,7 @@ fn is_of_query(name: &str) -> bool {
 }
 
 // What to do about a snapshot or a query where a value is wanted.
-fn advice_on_no_value(alloc: Global, part: &Expr) -> Result<String, NoMemory> {
+fn advice_on_no_value(alloc: Global, part: &Expr, wanted: &str) -> Result<String, NoMemory> {
     let mut words = String::from_str(alloc, "`")?;
     match part {
         Expr::Variable(name) => {
@@ -147,7 +164,7 @@ fn advice_on_no_value(alloc: Global, part: &Expr) -> Result<String, NoMemory> {
         },
         _ => words.push_str("(..)")?,
     }
-    words.push_str("` is a snapshot, and a value is wanted: add `.val()` or `.exists()`")?;
+    words.push_str(wanted)?;
     Ok(words)
 }
 
@@ -160,7 +177,11 @@ fn advice_on_use(alloc: Global, receiver: Sort, part: &Expr) -> Result<String, N
     };
     match receiver {
         Sort::Snapshot => advice_on_snapshot(alloc, name, is_called),
-        Sort::Value => advice_on_value(alloc, name, is_called),
+        Sort::Value => if is_behind_val(part) {
+            advice_behind_val(alloc, name, is_called)
+        } else {
+            advice_on_value(alloc, name, is_called)
+        },
         Sort::Auth => if is_called && matches!(name, "uid" | "provider" | "token") {
             Ok(format!(in alloc; "`{name}` is not called: write `auth.{name}`")?)
         } else {
@@ -177,13 +198,41 @@ fn advice_on_use(alloc: Global, receiver: Sort, part: &Expr) -> Result<String, N
     }
 }
 
+// Whether a use stands behind `.val()`.
+fn is_behind_val(part: &Expr) -> bool {
+    let receiver = match part {
+        Expr::Member(receiver, _) => receiver,
+        Expr::Call(receiver, _, _) => receiver,
+        _ => return false,
+    };
+    match &**receiver {
+        Expr::Call(_, name, _) => name.as_str() == "val",
+        _ => false,
+    }
+}
+
+// What to do about a use behind `.val()`.
+fn advice_behind_val(alloc: Global, name: &str, is_called: bool) -> Result<String, NoMemory> {
+    if matches!(name, "child" | "parent") {
+        return Ok(format!(in alloc;
+            "`{name}` belongs to a snapshot, and `.val()` gives a value: move `.val()` to the end"
+        )?);
+    }
+    if is_of_snapshot(name) && name != "val" {
+        return Ok(format!(in alloc;
+            "`{name}` is asked of a snapshot, and `.val()` gives a value: remove `.val()` before it"
+        )?);
+    }
+    advice_on_value(alloc, name, is_called)
+}
+
 // How a method of a snapshot or of a text is called.
 fn call_of(name: &str) -> &'static str {
     match name {
-        "child" => "a key or a path, as in `child('a')`",
-        "hasChild" => "a key or a path, as in `hasChild('a')`",
+        "child" => "one key or path, as in `child('a/b')`",
+        "hasChild" => "one key or path, as in `hasChild('a/b')`",
         "hasChildren" => "nothing or a list, as in `hasChildren(['a', 'b'])`",
-        "contains" | "beginsWith" | "endsWith" => "one text, in parentheses",
+        "contains" | "beginsWith" | "endsWith" => "one text, as in `contains('a')`",
         "replace" => "two texts, as in `replace('a', 'b')`",
         _ => "nothing, with empty parentheses",
     }
@@ -222,7 +271,7 @@ fn advice_on_value(alloc: Global, name: &str, is_called: bool) -> Result<String,
     }
     if is_of_snapshot(name) {
         return Ok(format!(in alloc;
-            "`{name}` belongs to a snapshot, and what stands before it is a value: `.val()` comes last"
+            "`{name}` belongs to a snapshot, and what stands before it is a value"
         )?);
     }
     Ok(format!(in alloc; "a value has no `{name}`")?)
