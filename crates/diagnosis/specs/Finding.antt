@@ -40,7 +40,7 @@ pub record HasBadMember (text : List ℕ) (at : Pattern) (name : List ℕ) : Typ
   pub there : text_at (member_path at name) text ≡ Some value
   pub bad : (is_sound_member at name value ≡ false) ⊎ HasRival text at name
 
--- the object at the pattern has this rule, which is none, for this fault
+-- the object at the pattern has a rule of this kind, whose text is invalid for this fault
 pub record HasBadText (text : List ℕ) (at : Pattern) (kind : Kind) (fault : RuleFault) : Type 0 where
   pub rule : List ℕ
   pub there : text_at (member_path at (kind_name kind)) text ≡ Some (string rule)

@@ -374,7 +374,7 @@ impl<'a> Search<'a> {
         Ok((place, self.advice(fault, &member)?))
     }
 
-    // The same of a fault that is none of a single member.
+    // The same of a fault that belongs to no single member.
     fn answered_whole(&self, fault: &RulesFault) -> Result<(Option<usize>, String), NoMemory>
         ensures { IfOk result (λ found. IfSome found.0 (IsPlaceOf self.now.text.now fault.now)) }
     {
@@ -382,7 +382,7 @@ impl<'a> Search<'a> {
         Ok((place, advice_on_fault(self.alloc, fault, self.value)?))
     }
 
-    // Where a fault shows that is none of a single member.
+    // Where a fault shows that belongs to no single member.
     fn whole_place(&self, fault: &RulesFault) -> Result<Option<usize>, NoMemory>
         ensures { IfOk result (λ place. IfSome place (IsPlaceOf self.now.text.now fault.now)) }
     {

@@ -256,8 +256,7 @@ const NO_TOKENS: &str = "{\"code\":208,\"name\":\"BadTokens\",\"ok\":false}\n";
 
 const FULL: &str = "{\"code\":504,\"name\":\"TreeFull\",\"ok\":false}\n";
 
-/// What is told of a server's file that has a text: the option that names it, the text, what is printed, and what is
-/// reported.
+/// A file of a server that is at fault: the option that names it, its text, what is printed, and what is reported.
 type Told<'a> = (&'a str, &'a str, &'a str, &'a str);
 
 const FILES: [Told<'static>; 34] = [
