@@ -152,3 +152,16 @@ found_none {P = P} is h = subst (λ q. IfNone q P) is h
 
 pub found_fault : {A B : Type 0} (P : B → Type 0) {r : Result A B} {x : B} → r ≡ Err x → IfErr r P → P x
 found_fault P is h = subst (λ q. IfErr q P) is h
+
+-- ---- what shows is the first fault
+
+at_fault_first : {p : Place} {ns : List (List ℕ)} (x : SyntaxTree) → IsAtFault p ns x → FirstFault p ns x (own_fault x)
+at_fault_first {p} {ns} x h = of_own (subst (AllByRecursion (HasSomeSort p ns)) (placed_are x) (all_trees (HasSomeSort p ns) (placed_parts x) h.parts)) (λ s d. h.none (s, d))
+
+pub first_fault : {p : Place} {ns : List (List ℕ)} {x : SyntaxTree} {e : TypeFault} {n : ℕ} → ShowsBehind p ns x e n → FirstFault p ns x e
+first_fault {p} {ns} {x} (shows.in_part {part = part} first h) = in_part (map tree_of first.before) part.1 (map tree_of first.after) (sym (placed_are x) ∙ ap (map tree_of) first.among ∙ map_append first.before (part ∷ first.after)) (all_trees (HasSomeSort p ns) first.before first.sorted) (first_fault h)
+first_fault (shows.at_variable h) = at_fault_first _ h
+first_fault (shows.at_capture h) = at_fault_first _ h
+first_fault (shows.at_member h) = at_fault_first _ h
+first_fault (shows.at_call h values) = at_fault_first _ h
+first_fault {p} {ns} {x} (shows.at_operand h typed misfit_is) = subst (FirstFault p ns x) typed (at_fault_first x h)
