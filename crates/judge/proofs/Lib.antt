@@ -17,3 +17,4 @@ pub mod Coming
 pub mod Looking
 pub mod Depending
 pub mod Unvalidated
+pub mod Stating

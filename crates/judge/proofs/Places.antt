@@ -45,11 +45,11 @@ stated_here book node path kind r reached h =
     ap (option_and_then (stated_for kind)) (sym (ap (λ b. get b []) reached.below ∙ get-sub book node.at [] ∙ ap (get book) (append-nil node.at)))
     ∙ answered (stated_for kind) (get node.book []) r h
 
-env_is : (q : Question) (node : Point) (here : Snapshot) (access : Access) (bound : List (List ℕ × Key)) → IsAt q node here access bound → record { who = q.scene.who; moment = q.scene.moment; here = here; access = access; captures = bound } ≡ env_at q node.at here.1
+pub env_is : (q : Question) (node : Point) (here : Snapshot) (access : Access) (bound : List (List ℕ × Key)) → IsAt q node here access bound → record { who = q.scene.who; moment = q.scene.moment; here = here; access = access; captures = bound } ≡ env_at q node.at here.1
 env_is q node here access bound at i = record { who = q.scene.who; moment = q.scene.moment; here = (at.old i, here.1); access = at.access_is i; captures = at.bound_is i }
 
 -- what answers where a walk stands is what the node states
-answer_is : (q : Question) (kind : Kind) (node : Point) (path : Path) → HasOneCapture q.scene.book → Reached q.scene.book node path → answer_at q kind path ≡ answer_of q kind path node.at
+pub answer_is : (q : Question) (kind : Kind) (node : Point) (path : Path) → HasOneCapture q.scene.book → Reached q.scene.book node path → answer_at q kind path ≡ answer_of q kind path node.at
 unfolding answer_at
 answer_is q kind node path one reached = ap (option_and_then (answer_of q kind path)) (standing_is q.scene.book node.at path one reached.stands)
 

@@ -4,5 +4,6 @@ pub mod Granting
 pub mod Failing
 pub mod Tests
 pub mod Judging
+pub mod Placed
 pub mod Watching
 pub mod Working

@@ -330,7 +330,7 @@ fn validate_denied<'a>(
 }
 
 // What a read asks.
-fn reading<'a>(arena: &'a Bump, scene: &'a Scene<'a>, asked: &'a Asked<'a>) -> Asking<'a>
+pub(crate) fn reading<'a>(arena: &'a Bump, scene: &'a Scene<'a>, asked: &'a Asked<'a>) -> Asking<'a>
     ensures question { question_of result ≡ reading (scene_of scene.now) (asked_of asked.now) }
     ensures kind { result.kind ≡ ReadKind }
     ensures asks { AsksFor result.kind (question_of result).request }
@@ -346,7 +346,7 @@ fn reading<'a>(arena: &'a Bump, scene: &'a Scene<'a>, asked: &'a Asked<'a>) -> A
 }
 
 // Where a walk begins: at the root.
-fn at_root<'a>(asking: &Asking<'a>) -> Result<Spot<'a>, NoMemory>
+pub(crate) fn at_root<'a>(asking: &Asking<'a>) -> Result<Spot<'a>, NoMemory>
     requires asks { AsksFor asking.now.kind (question_of asking.now).request }
     requires root { access_of asking.now.access ≡ access_at (question_of asking.now).request [] }
     ensures { IfOk result (StandsAtRoot asking.now) }
@@ -371,7 +371,10 @@ fn law_of(view: &Option<View>)
 }
 
 // The root of a tree, in the arena.
-fn root_of<'a>(arena: &'a Bump, view: &Option<View<'a>>) -> Result<&'a Snapshot<'a>, NoMemory>
+pub(crate) fn root_of<'a>(
+    arena: &'a Bump,
+    view: &Option<View<'a>>,
+) -> Result<&'a Snapshot<'a>, NoMemory>
     ensures { IfOk result (λ root. root.now ≡ (tree_or_null view.now, [])) }
 {
     let view = match view {

@@ -1,5 +1,5 @@
 //! Laws of what is granted, and of verdicts: of the definitions alone.
-ghost use Rattle.std.specs.Prelude.{◌≡◌, ◌↔◌, ◌++◌, List, true, false, Contains, IsTrue, IsPermutation};
+ghost use Rattle.std.specs.Prelude.{◌≡◌, ◌↔◌, ◌++◌, List, option_map, true, false, Contains, IsTrue, IsPermutation};
 ghost use Rattle.tree_model.specs.Path.{Path, is_prefix};
 ghost use Rattle.tree_model.specs.Tree.{Tree};
 ghost use Rattle.tree_model.specs.PathMap.{sub};
@@ -15,7 +15,8 @@ ghost use Rattle.judge.specs.Answers.{Holds};
 ghost use Rattle.judge.specs.Granting.{IsGranted};
 ghost use Rattle.judge.specs.Judging.{MayRead, IsReadVerdict, IsWriteVerdict, IsToBeNamed};
 ghost use Rattle.judge.specs.Watching.{IsWatched};
-ghost use Rattle.judge.specs.Tests.{is_granted, named_rules, read_verdict, write_verdict};
+ghost use Rattle.judge.specs.Placed.{PlacedRule, rule_at};
+ghost use Rattle.judge.specs.Tests.{answer_at, is_granted, named_rules, read_verdict, write_verdict};
 ghost use Rattle.judge.specs.declared.verdict.Named.{Named as AnyNamed};
 ghost use Rattle.judge.specs.declared.verdict.Verdict.{Verdict as AnyVerdict};
 
@@ -65,4 +66,10 @@ pub fn each_named_rule_does_not_hold()
 /// as before, at whatever moment. It does nothing. ([`watched`](crate::watched) finds the place.)
 pub fn what_a_read_depends_on()
     ensures { (one other : Scene) (asked : Asked) (path place : Path) → IsWatched one.book path place → other.book ≡ one.book → other.who ≡ one.who → sub other.old place ≡ sub one.old place → MayRead one asked path → MayRead other asked path }
+{}
+
+/// What answers at a path is the rule that stands there, in what it sees there: so the verdicts are made of the
+/// answers of these rules. It does nothing. (Reference, rules types.)
+pub fn placed_rules_answer()
+    ensures { (q : Question) (kind : Kind) (path : Path) → option_map (λ (r : PlacedRule). (r.pattern, r.answer)) (rule_at q kind path) ≡ answer_at q kind path }
 {}

@@ -9,6 +9,7 @@ mod grant;
 mod judging;
 mod laws;
 mod locations;
+mod placed;
 mod scene;
 mod spot;
 mod validate;
@@ -19,9 +20,10 @@ pub use borrowed::{BorrowedName, BorrowedNames};
 pub use judging::{judge_granted, judge_read, judge_write, may_read, read_denial, write_denial};
 pub use laws::{
     a_grant_reaches_down, each_named_rule_does_not_hold, every_write_sees_the_whole,
-    only_rules_above_grant, the_order_of_writes_changes_nothing, the_tests_decide,
-    what_a_read_depends_on,
+    only_rules_above_grant, placed_rules_answer, the_order_of_writes_changes_nothing,
+    the_tests_decide, what_a_read_depends_on,
 };
+pub use placed::{PlacedRule, read_rule_at, validate_rule_at, write_rule_at};
 pub use scene::Scene;
 pub use verdict::{Named, NamedRules, Verdict, Why};
 pub use watching::watched;

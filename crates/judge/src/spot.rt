@@ -147,7 +147,7 @@ fn copy_of<'e, 'a: 'e>(
 // What this rule answers, which is that of the kind that is asked. It stays a function of its own, since most nodes
 // on a walk state none, and room for what an expression needs would be made and cleared at each of them.
 #[inline(never)]
-fn answer_of<'e, 'a: 'e>(
+pub(crate) fn answer_of<'e, 'a: 'e>(
     arena: &'e Bump,
     asking: &Asking<'a>,
     spot: &Spot<'a>,

@@ -100,3 +100,8 @@ Entering asking from key old new spot true = Stands asking spot new × (path_of 
 pub record StandsAtRoot (asking : Asking) (spot : Spot) : Type 0 where
   pub here : Stands asking spot []
   pub root : path_of spot ≡ []
+
+-- a spot that is moved along keys stands at this path, where a rule node is there; else nothing answers there
+abbrev pub IsReached : Asking → Path → Spot → List (List ℕ × Key) → Bool → Type 0
+IsReached asking path spot bound false = ask_of asking path ≡ None
+IsReached asking path spot bound true = Stands asking spot bound × (path_of spot ≡ path)
