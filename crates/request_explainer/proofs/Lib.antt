@@ -1,0 +1,5 @@
+pub mod Existing
+pub mod Touching
+pub mod Deeper
+pub mod Prefixes
+pub mod Asking
