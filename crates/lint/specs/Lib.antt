@@ -1,0 +1,5 @@
+pub mod Literal
+pub mod Demands
+pub mod Captures
+pub mod Finding
+pub mod Working
