@@ -1,0 +1,17 @@
+use Rattle.std.proofs.Common.{option_map, sym, ap, ◌∙◌, refl}
+use Rattle.std.specs.Borrow.{Bor}
+use Rattle.tree_model.specs.Tree.{Tree}
+use Rattle.tree_model.specs.Write.{proposed}
+use Rattle.path_capture.specs.Write.{tree_or_null}
+use Rattle.judge.proofs.Coming.{is_proposed, tree_or_null-non_null}
+use Rattle.rtdb_model.proofs.Filling.{moment_is_whole}
+use Rattle.rtdb_explain.proofs.reasons.Step.writes.Goals as goal
+
+pub overlay-requires-clause-moment : goal.overlay-requires-clause-moment
+overlay-requires-clause-moment c = moment_is_whole c.args.self.now c.requires.moment
+
+pub explain_writes-requires : goal.explain_writes-requires
+explain_writes-requires c =
+    ap tree_or_null c.in_ok-coming-2.ensures
+    ∙ is_proposed c.tree.result (option_map (λ (node : Bor Tree). node.now) c.tree.result) c.in_ok-coming.coming c.args.writes.now c.args.self.now refl c.in_ok-coming.ensures
+    ∙ (λ i. proposed ((ap tree_or_null c.tree.ensures.tree ∙ tree_or_null-non_null c.args.self.core.now.tree ∙ sym c.requires.old) i) c.args.writes.now (sym c.requires.now i))
