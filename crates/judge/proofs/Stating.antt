@@ -22,7 +22,7 @@ use Rattle.judge.proofs.Among.{some_same}
 use Rattle.judge.proofs.Deciding.{standing_is}
 use Rattle.judge.proofs.Places.{stated_here, env_is, answer_is}
 
--- ---- what answers is the rule that stands there
+-- ---- the answer at a path is that of its rule
 
 abbrev answer_by : PlacedRule → Answer
 answer_by r = (r.pattern, r.answer)

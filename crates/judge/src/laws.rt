@@ -68,8 +68,8 @@ pub fn what_a_read_depends_on()
     ensures { (one other : Scene) (asked : Asked) (path place : Path) → IsWatched one.book path place → other.book ≡ one.book → other.who ≡ one.who → sub other.old place ≡ sub one.old place → MayRead one asked path → MayRead other asked path }
 {}
 
-/// What answers at a path is the rule that stands there, in what it sees there: so the verdicts are made of the
-/// answers of these rules. It does nothing. (Reference, rules types.)
+/// The answer at a path is that of the rule for this path, evaluated in what the rule sees there; so verdicts are made
+/// of the answers of these rules. It does nothing. (Reference, rules types.)
 pub fn placed_rules_answer()
     ensures { (q : Question) (kind : Kind) (path : Path) → option_map (λ (r : PlacedRule). (r.pattern, r.answer)) (rule_at q kind path) ≡ answer_at q kind path }
 {}

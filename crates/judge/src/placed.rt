@@ -107,7 +107,7 @@ pub fn validate_rule_at<'a>(
     rule_along(&asking, keys)
 }
 
-// The rule at the end of a way from the root, if one stands there.
+// The rule for the path of these keys, if there is one.
 fn rule_along<'a>(asking: &Asking<'a>, keys: &[&'a Key]) -> Result<Option<PlacedRule<'a>>, NoMemory>
     requires few { length keys.now ≤ most_keys }
     requires asks { AsksFor asking.now.kind (question_of asking.now).request }
@@ -146,7 +146,7 @@ fn walk<'a>(
     }
 }
 
-// The rule of the kind that is asked, where a spot is, if one stands there.
+// The rule of the kind that is asked at a spot, if its object states one.
 fn rule_here<'a>(
     asking: &Asking<'a>,
     spot: &Spot<'a>,

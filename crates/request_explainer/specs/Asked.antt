@@ -17,7 +17,7 @@ use Rattle.judge.specs.declared.verdict.Verdict.{Verdict}
 use Rattle.judge.specs.declared.verdict.Verdict.TheVariants.{WriteDenied}
 use Rattle.request_explainer.specs.declared.asked.AskedRule as code
 
--- a rule that is asked: of which kind, at which place, the rule as it stands there, and what its expression looks at. (Reference, rules types.)
+-- a rule that is asked: its kind, the place, the rule with what it sees and answers there, and what its expression looks at. (Reference, rules types.)
 pub record AskedRule : Type 0 where
   pub kind : Kind
   pub place : Path
@@ -28,7 +28,7 @@ pub record AskedRule : Type 0 where
 abbrev pub asked_rule : Kind → Path → PlacedRule → AskedRule
 asked_rule kind place rule = record { kind = kind; place = place; rule = rule; looks = looked_at 0 rule.rule.tree rule.env }
 
--- the rule of this kind that is asked at a place, if one stands there
+-- the rule of this kind that is asked at a place, if there is one for it
 abbrev pub asked_at : Question → Kind → Path → Option AskedRule
 asked_at q kind place = option_map (asked_rule kind place) (rule_at q kind place)
 
