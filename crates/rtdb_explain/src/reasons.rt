@@ -1,7 +1,14 @@
 //! The explanation of an event by the rules in force.
-ghost use Rattle.std.specs.Prelude.{◌≡◌, ◌≤◌};
+ghost use Rattle.std.specs.Prelude.{◌≡◌, ◌≤◌, map, IfOk, IfSome};
+ghost use Rattle.tree_model.specs.Put.{location};
 ghost use Rattle.path_capture.specs.Write.{tree_or_null};
 ghost use Rattle.evaluator.specs.declared.env.TheConstants.{MAX_MOMENT};
+ghost use Rattle.judge.specs.Question.{scene_of};
+ghost use Rattle.judge.specs.Judging.{IsReadVerdict, IsWriteVerdict};
+ghost use Rattle.rtdb_model.specs.State.{scene_at};
+ghost use Rattle.rtdb_model.specs.Step.{tree_with};
+ghost use Rattle.rtdb_model.specs.Rejudged.{asked_for};
+ghost use Rattle.rtdb_explain.specs.Explained.{IsOnEvent};
 
 use arena_snapshot::{overlaps, overlay};
 use bumpalo::Bump;
@@ -26,13 +33,14 @@ pub(crate) fn explained<'a>(
     event: &'a Event,
 ) -> Result<Option<Explanation<'a>>, NoMemory>
     requires { stamp.now ≤ MAX_MOMENT }
+    ensures { IfOk result (λ found. IfSome found (λ it. IsOnEvent core.now stamp.now stamp.session event.now it.verdict)) }
 {
     let scene = arena.try_alloc(core.scene(stamp.now, stamp.session))?;
     let step = Step {
         alloc,
         arena,
         core,
-        now: stamp.now,
+        stamp,
         scene,
     };
     match event {
@@ -52,7 +60,7 @@ struct Step<'a> {
     alloc: Global,
     arena: &'a Bump,
     core: &'a Core,
-    now: u64,
+    stamp: Stamp,
     scene: &'a Scene<'a>,
 }
 
@@ -61,7 +69,10 @@ impl<'a> Step<'a> {
         self,
         path: &'a Path,
         query: &'a Option<Query>,
-    ) -> Result<Option<Explanation<'a>>, NoMemory> {
+    ) -> Result<Option<Explanation<'a>>, NoMemory>
+        requires { scene_of self.scene.now ≡ scene_at self.core.now self.stamp.now self.stamp.session }
+        ensures { IfOk result (λ found. IfSome found (λ it. IsReadVerdict (scene_at self.entry.core.now self.entry.stamp.now self.entry.stamp.session) (asked_for query.now) path.now it.verdict)) }
+    {
         let asked = match query {
             Some(query) => query.asked(),
             None => Asked::none(),
@@ -72,14 +83,14 @@ impl<'a> Step<'a> {
     }
 
     fn writes(self, writes: &'a [Write]) -> Result<Option<Explanation<'a>>, NoMemory>
-        requires moment { self.now ≤ MAX_MOMENT }
-        requires now { self.scene.now.moment ≡ self.now }
-        requires old { tree_or_null self.scene.now.old ≡ self.core.now.tree }
+        requires moment { self.stamp.now ≤ MAX_MOMENT }
+        requires scene { scene_of self.scene.now ≡ scene_at self.core.now self.stamp.now self.stamp.session }
+        ensures { IfOk result (λ found. IfSome found (λ it. IsWriteVerdict (scene_at self.entry.core.now self.entry.stamp.now self.entry.stamp.session) (tree_with self.entry.core.now self.entry.stamp.now writes.now) (map location writes.now) it.verdict)) }
     {
         if overlaps(writes) {
             return Ok(None);
         }
-        let coming = overlay(self.arena, self.core.tree(), writes, self.now)?;
+        let coming = overlay(self.arena, self.core.tree(), writes, self.stamp.now)?;
         let coming = self.arena.try_alloc(coming)?;
         let found = explain_writes(self.alloc, self.arena, self.scene, coming, writes)?;
         Ok(Some(found))

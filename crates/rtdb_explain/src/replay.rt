@@ -3,9 +3,10 @@ ghost use Rattle.std.specs.Prelude.{◌≡◌, ◌≤◌, IfOk};
 ghost use Rattle.evaluator.specs.declared.env.TheConstants.{MAX_MOMENT};
 ghost use Rattle.rtdb_model.specs.Filled.{IsFilled};
 
+use crate::line::Options;
 use crate::reasons::explained;
-use crate::report::{Fate, Page};
-use crate::rules_file::RulesFile;
+use crate::records::Records;
+use crate::report::Fate;
 use bumpalo::Bump;
 use json_lines::{MessageFault, read_value};
 use json_tree::NoMemory;
@@ -14,18 +15,13 @@ use rtdb_core::{BorrowedRefusal, Core, Event, Granted, Plan, Refusal};
 use scripts::{HeaderFault, Opened, read_header};
 use std::alloc::Global;
 
-/// What becomes of a script.
-#[derive(Drop)]
-pub(crate) enum End {
-    /// The text of its explanations.
-    Explained(String),
-    /// Its header is refused, so no request is asked.
-    BadHeader,
-}
-
-/// Explains each request of a script that the rules refuse, and those that they grant too, if `all` says so. Blank lines
-/// are passed over, and the first of the others is the header.
-pub(crate) fn explain_script(alloc: Global, script: &[u8], all: bool) -> Result<End, NoMemory> {
+/// Explains each request of a script that the rules refuse, and those that they grant too where this is wanted. Blank
+/// lines are passed over, and the first of the others is the header, without which there is nothing to explain.
+pub(crate) fn explain_script(
+    alloc: Global,
+    script: &[u8],
+    options: Options<'_>,
+) -> Result<Option<Records>, NoMemory> {
     let mut replay: Option<Replay> = None;
     for line in script.split(|byte| *byte == b'\n') {
         if is_blank(line) {
@@ -33,16 +29,13 @@ pub(crate) fn explain_script(alloc: Global, script: &[u8], all: bool) -> Result<
         }
         match &mut replay {
             Some(replay) => replay.take(line)?,
-            None => match Replay::open(alloc, line, all)? {
+            None => match Replay::open(alloc, line, options)? {
                 Some(opened) => replay = Some(opened),
-                None => return Ok(End::BadHeader),
+                None => return Ok(None),
             },
         }
     }
-    match replay {
-        Some(replay) => Ok(End::Explained(replay.end()?)),
-        None => Ok(End::BadHeader),
-    }
+    Ok(replay.map(|replay| replay.records))
 }
 
 fn is_blank(line: &[u8]) -> bool {
@@ -56,14 +49,12 @@ struct Replay {
     alloc: Global,
     reader: MessageReader,
     opened: Opened,
-    rules: RulesFile,
-    page: Page,
-    all: bool,
+    records: Records,
 }
 
 impl Replay {
     // What a header opens, if it is accepted.
-    fn open(alloc: Global, line: &[u8], all: bool) -> Result<Option<Replay>, NoMemory> {
+    fn open(alloc: Global, line: &[u8], options: Options<'_>) -> Result<Option<Replay>, NoMemory> {
         let opened = match read_header(alloc, line) {
             Ok(opened) => opened,
             Err(HeaderFault::Line(MessageFault::NoMemory)) => return Err(NoMemory),
@@ -73,16 +64,8 @@ impl Replay {
             alloc,
             reader: MessageReader::new(alloc),
             opened,
-            rules: rules_of_header(alloc, line)?,
-            page: Page::new(alloc),
-            all,
+            records: Records::new(alloc, options, rules_of_header(alloc, line)?)?,
         }))
-    }
-
-    // The text of the explanations, with a count of the requests last.
-    fn end(self) -> Result<String, NoMemory> {
-        let Replay { page, .. } = self;
-        page.end()
     }
 
     // Takes the next request.
@@ -94,7 +77,7 @@ impl Replay {
             Ok(asked) => self.judge(line, asked),
             Err(LineFault::Message(MessageFault::NoMemory)) => Err(NoMemory),
             Err(_) => {
-                self.page.count(Fate::RefusedOtherwise);
+                self.records.count(Fate::RefusedOtherwise);
                 Ok(())
             }
         }
@@ -111,16 +94,9 @@ impl Replay {
             Ok(plan) => plan,
             Err(fate) => return self.refuse(line, stamp, &event, fate),
         };
-        self.page.count(Fate::Granted);
-        if self.all {
-            explain(
-                &self.opened.core,
-                &self.rules,
-                &mut self.page,
-                line,
-                stamp,
-                &event,
-            )?;
+        self.records.count(Fate::Granted);
+        if self.records.takes_granted() {
+            explain(&self.opened.core, &mut self.records, line, stamp, &event)?;
         }
         let deploys = matches!(event, Event::Deploy(_));
         self.opened.core.commit(plan, event)?;
@@ -140,18 +116,9 @@ impl Replay {
     ) -> Result<(), NoMemory>
         requires { stamp.now ≤ MAX_MOMENT }
     {
-        self.page.count(fate);
+        self.records.count(fate);
         match fate {
-            Fate::Refused => {
-                explain(
-                    &self.opened.core,
-                    &self.rules,
-                    &mut self.page,
-                    line,
-                    stamp,
-                    event,
-                )
-            }
+            Fate::Refused => { explain(&self.opened.core, &mut self.records, line, stamp, event) }
             Fate::Granted | Fate::RefusedOtherwise => Ok(()),
         }
     }
@@ -160,28 +127,27 @@ impl Replay {
     fn deploy(&mut self, line: &[u8]) -> Result<(), NoMemory> {
         if let Ok(request) = self.reader.read_request(line, Form::Script) {
             if let Wanted::Deploy(text) = &request.wanted {
-                self.rules = RulesFile::of_text(self.alloc, text.as_str())?;
+                self.records.deploy(text.as_str())?;
             }
         }
         Ok(())
     }
 }
 
-// Appends the explanation of a request, in the state before it.
+// Records the explanation of a request, in the state before it.
 fn explain(
     core: &Core,
-    rules: &RulesFile,
-    page: &mut Page,
+    records: &mut Records,
     line: &[u8],
     stamp: Stamp,
     event: &Event,
 ) -> Result<(), NoMemory>
     requires { stamp.now ≤ MAX_MOMENT }
 {
-    let arena = Bump::new(page.alloc());
-    let found = explained(page.alloc(), &arena, core, stamp, event)?;
+    let arena = Bump::new(records.alloc());
+    let found = explained(records.alloc(), &arena, core, stamp, event)?;
     match found {
-        Some(explanation) => page.append(line, event, &explanation, rules),
+        Some(explanation) => records.add(line, event, &explanation),
         None => Ok(()),
     }
 }
@@ -222,11 +188,11 @@ fn plan_of<'a>(granted: Granted<'_, 'a>) -> Plan<'a>
     plan
 }
 
-// The rules file of a header.
-fn rules_of_header(alloc: Global, line: &[u8]) -> Result<RulesFile, NoMemory> {
+// The text of the rules of a header.
+fn rules_of_header(alloc: Global, line: &[u8]) -> Result<String, NoMemory> {
     let Ok(header) = read_value(alloc, line) else {
-        return RulesFile::of_text(alloc, "");
+        return Ok(String::new(alloc));
     };
     let text = header.get("rules").and_then(|rules| rules.as_str());
-    RulesFile::of_text(alloc, text.unwrap_or(""))
+    Ok(String::from_str(alloc, text.unwrap_or(""))?)
 }

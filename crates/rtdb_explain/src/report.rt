@@ -30,7 +30,7 @@ pub(crate) enum Fate {
 
 /// The text of all explanations so far, and how many requests there were.
 #[derive(Drop)]
-pub(crate) struct Page {
+pub(crate) struct Report {
     alloc: Global,
     text: String,
     granted: u64,
@@ -38,9 +38,9 @@ pub(crate) struct Page {
     refused_otherwise: u64,
 }
 
-impl Page {
-    pub(crate) fn new(alloc: Global) -> Page {
-        Page {
+impl Report {
+    pub(crate) fn new(alloc: Global) -> Report {
+        Report {
             alloc,
             text: String::new(alloc),
             granted: 0,
@@ -65,41 +65,45 @@ impl Page {
         }
     }
 
-    // How many requests were counted.
-    fn total(&self) -> u64 {
+    /// How many requests were counted.
+    pub(crate) fn total(&self) -> u64 {
         self.granted
             .saturating_add(self.refused)
             .saturating_add(self.refused_otherwise)
     }
 
-    /// The whole text, with the counts of requests last.
-    pub(crate) fn end(self) -> Result<String, NoMemory> {
+    /// How many requests were counted, as a sentence.
+    pub(crate) fn sentence(&self) -> Result<String, NoMemory> {
         let total = self.total();
-        let Page {
-            alloc,
-            mut text,
+        let Report {
             granted,
             refused,
             refused_otherwise,
-        } = self;
-        text.push_str(format!(in alloc;
-            "{total} requests: {granted} granted, {refused} refused by the rules, {refused_otherwise} refused for another reason\n"
-        )?.as_str())?;
-        Ok(text)
+            ..
+        } = *self;
+        Ok(format!(in self.alloc;
+            "{total} requests: {granted} granted, {refused} refused by the rules, {refused_otherwise} refused for another reason"
+        )?)
     }
 
-    /// Appends the explanation of the request that was counted last.
+    /// The text of the explanations.
+    pub(crate) fn text(self) -> String {
+        let Report { text, .. } = self;
+        text
+    }
+
+    /// Appends the explanation of the request of a number.
     pub(crate) fn append(
         &mut self,
+        number: u64,
         line: &[u8],
         event: &Event,
         explanation: &Explanation<'_>,
         rules: &RulesFile,
     ) -> Result<(), NoMemory> {
-        let number = self.total();
         self.put(format!(in self.alloc; "Request {number}: ")?.as_str())?;
-        let shown = String::from_utf8_lossy(self.alloc, line)?;
-        self.put_front(&shown)?;
+        self.put(front_of(self.alloc, line)?.as_str())?;
+        self.put("\n")?;
         self.put_verdict(event, &explanation.verdict, explanation.rules.is_empty())?;
         for (index, asked) in explanation.rules.iter().enumerate() {
             if is_shown(&explanation.verdict, &explanation.rules, index) {
@@ -112,19 +116,6 @@ impl Page {
     fn put(&mut self, words: &str) -> Result<(), NoMemory> {
         self.text.push_str(words)?;
         Ok(())
-    }
-
-    // The front of a request, as one line.
-    fn put_front(&mut self, words: &str) -> Result<(), NoMemory> {
-        for (count, letter) in words.trim().chars().enumerate() {
-            if count == MOST_SHOWN {
-                self.put("...")?;
-                break;
-            }
-            self.text
-                .push(if letter.is_control() { ' ' } else { letter })?;
-        }
-        self.put("\n")
     }
 
     // What the rules say.
@@ -184,13 +175,11 @@ impl Page {
 
     // A rule that was asked: where it is written, what it answers, and the parts that decided.
     fn put_rule(&mut self, asked: &AskedRule<'_>, rules: &RulesFile) -> Result<(), NoMemory> {
-        let pattern = asked.rule.node.pattern_text();
-        let source = rules.sources.iter().find(|source| source.kind == asked.kind
-            && source.pattern.as_str() == pattern);
+        let source = rules.source_of(asked);
         self.put("\n  ")?;
-        self.put(name_of(asked.kind))?;
+        self.put(asked.kind.name())?;
         self.put(" of ")?;
-        put_plain(pattern, &mut self.text)?;
+        put_plain(asked.rule.node.pattern_text(), &mut self.text)?;
         if let Some(source) = source {
             let (line, column) = (source.line(), source.column());
             self.put(format!(in self.alloc;
@@ -337,6 +326,20 @@ impl Page {
     }
 }
 
+/// The front of a request, as one line.
+pub(crate) fn front_of(alloc: Global, line: &[u8]) -> Result<String, NoMemory> {
+    let words = String::from_utf8_lossy(alloc, line)?;
+    let mut front = String::new(alloc);
+    for (count, letter) in words.trim().chars().enumerate() {
+        if count == MOST_SHOWN {
+            front.push_str("...")?;
+            break;
+        }
+        front.push(if letter.is_control() { ' ' } else { letter })?;
+    }
+    Ok(front)
+}
+
 // The bytes of an expression behind which its lines in the file end, its own end last.
 fn line_ends(
     alloc: Global,
@@ -453,13 +456,5 @@ fn path_of(event: &Event) -> Option<&Path> {
     match event {
         Event::Get(path, _) | Event::Listen(_, path, _) => Some(path),
         _ => None,
-    }
-}
-
-fn name_of(kind: Kind) -> &'static str {
-    match kind {
-        Kind::Read => ".read",
-        Kind::Write => ".write",
-        Kind::Validate => ".validate",
     }
 }
