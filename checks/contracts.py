@@ -94,15 +94,22 @@ IMPL = re.compile(r"^impl(?:<.*?>)? (?:.* for )?(\w+)", re.M)
 HEAD = re.compile(r"^( *)(?:pub(?:\(crate\))? )?(?:const )?fn (\w+)", re.M)
 
 
+TYPE = re.compile(r"^(?:pub(?:\(crate\))? )?(?:struct|enum) (\w+)", re.M)
+
+
 def functions_in(folder):
-    """The functions of a crate's code, as it is formatted: each ends at the first brace as far in as its head."""
-    found = []
-    for path in sorted((folder / "src").rglob("*.rt")):
+    """The functions of a crate's code, as it is formatted: each ends at the first brace as far in as its head.
+
+    A function of a type has the path of the module that declares the type, wherever it stands."""
+    found, files = [], sorted((folder / "src").rglob("*.rt"))
+    modules = {it: [part for part in it.relative_to(folder / "src").with_suffix("").parts if part not in ("lib", "main")] for it in files}
+    homes = {it[1]: modules[path] for path in files for it in TYPE.finditer(path.read_text(encoding="utf-8"))}
+    for path in files:
         source, file = path.read_text(encoding="utf-8"), path.relative_to(folder).as_posix()
-        module = [it for it in path.relative_to(folder / "src").with_suffix("").parts if it not in ("lib", "main")]
         for head in HEAD.finditer(source):
             last = re.compile(rf"^{head[1]}}}|^{head[1]}\{{\}}", re.M).search(source, head.end())
             impls = [it for it in IMPL.finditer(source, 0, head.start())] if head[1] else []
-            parts = [*module, *([impls[-1][1]] if impls else []), head[2]]
+            owner = impls[-1][1] if impls else None
+            parts = [*homes.get(owner, modules[path]), owner, head[2]] if owner else [*modules[path], head[2]]
             found.append(Function(file, "::".join(parts), head.start(), last.end() if last else len(source), source))
     return found
