@@ -1,8 +1,8 @@
 -- What an explanation owes the event that it explains.
-use Rattle.std.specs.Prelude.{ℕ, List, [], ◌∷◌, map, Option}
+use Rattle.std.specs.Prelude.{◌≡◌, ℕ, List, [], ◌∷◌, map, true, Option, ⊤}
 use Rattle.std.specs.List.Sorted.{IsPermutation}
 use Rattle.tree_model.specs.Path.{Path}
-use Rattle.tree_model.specs.Put.{location}
+use Rattle.tree_model.specs.Put.{location, overlaps}
 use Rattle.tree_model.specs.Write.{Write}
 use Rattle.listeners.specs.Query.{Query}
 use Rattle.judge.specs.declared.verdict.Verdict.{Verdict}
@@ -46,3 +46,29 @@ IsOnEvent old now session (Deploy rules) verdict = ⊥
 IsOnEvent old now session (OnCancel path) verdict = ⊥
 IsOnEvent old now session Leave verdict = ⊥
 IsOnEvent old now session RunNext verdict = ⊥
+
+-- these writes, in some order, overlap, which is refused before any rule is asked
+abbrev Overlap : List Write → Type 0
+Overlap writes = (ordered : List Write) × (IsPermutation writes ordered × (overlaps ordered ≡ true))
+
+-- no rule is asked for the event: it neither reads nor writes, or its writes overlap, which one write never does
+abbrev pub IsUnasked : Event → Type 0
+IsUnasked (Get path query) = ⊥
+IsUnasked (Listen id path query) = ⊥
+IsUnasked (Set write) = overlaps (write ∷ []) ≡ true
+IsUnasked (OnSet write) = overlaps (write ∷ []) ≡ true
+IsUnasked (Remove path) = overlaps (removal path ∷ []) ≡ true
+IsUnasked (OnRemove path) = overlaps (removal path ∷ []) ≡ true
+IsUnasked (Update writes) = Overlap writes
+IsUnasked (OnUpdate writes) = Overlap writes
+IsUnasked Open = ⊤
+IsUnasked Close = ⊤
+IsUnasked (SignIn who) = ⊤
+IsUnasked SignOut = ⊤
+IsUnasked (Unlisten id) = ⊤
+IsUnasked Poll = ⊤
+IsUnasked Tick = ⊤
+IsUnasked (Deploy rules) = ⊤
+IsUnasked (OnCancel path) = ⊤
+IsUnasked Leave = ⊤
+IsUnasked RunNext = ⊤

@@ -1,6 +1,6 @@
 //! The explanation of an event by the rules in force.
-ghost use Rattle.std.specs.Prelude.{◌≡◌, ◌≤◌, map, IfOk, IfSome};
-ghost use Rattle.tree_model.specs.Put.{location};
+ghost use Rattle.std.specs.Prelude.{◌≡◌, ◌≤◌, map, true, IfOk, IfSome, IfNone};
+ghost use Rattle.tree_model.specs.Put.{location, overlaps};
 ghost use Rattle.path_capture.specs.Write.{tree_or_null};
 ghost use Rattle.evaluator.specs.declared.env.TheConstants.{MAX_MOMENT};
 ghost use Rattle.judge.specs.Question.{scene_of};
@@ -8,7 +8,7 @@ ghost use Rattle.judge.specs.Judging.{IsReadVerdict, IsWriteVerdict};
 ghost use Rattle.rtdb_model.specs.State.{scene_at};
 ghost use Rattle.rtdb_model.specs.Step.{tree_with};
 ghost use Rattle.rtdb_model.specs.Rejudged.{asked_for};
-ghost use Rattle.rtdb_explain.specs.Explained.{IsOnEvent};
+ghost use Rattle.rtdb_explain.specs.Explained.{IsOnEvent, IsUnasked};
 
 use arena_snapshot::{overlaps, overlay};
 use bumpalo::Bump;
@@ -33,7 +33,8 @@ pub(crate) fn explained<'a>(
     event: &'a Event,
 ) -> Result<Option<Explanation<'a>>, NoMemory>
     requires { stamp.now ≤ MAX_MOMENT }
-    ensures { IfOk result (λ found. IfSome found (λ it. IsOnEvent core.now stamp.now stamp.session event.now it.verdict)) }
+    ensures verdict { IfOk result (λ found. IfSome found (λ it. IsOnEvent core.now stamp.now stamp.session event.now it.verdict)) }
+    ensures unasked { IfOk result (λ found. IfNone found (IsUnasked event.now)) }
 {
     let scene = arena.try_alloc(core.scene(stamp.now, stamp.session))?;
     let step = Step {
@@ -71,7 +72,8 @@ impl<'a> Step<'a> {
         query: &'a Option<Query>,
     ) -> Result<Option<Explanation<'a>>, NoMemory>
         requires { scene_of self.scene.now ≡ scene_at self.core.now self.stamp.now self.stamp.session }
-        ensures { IfOk result (λ found. IfSome found (λ it. IsReadVerdict (scene_at self.entry.core.now self.entry.stamp.now self.entry.stamp.session) (asked_for query.now) path.now it.verdict)) }
+        ensures found { IfOk result (λ found. IfNone found ⊥) }
+        ensures verdict { IfOk result (λ found. IfSome found (λ it. IsReadVerdict (scene_at self.entry.core.now self.entry.stamp.now self.entry.stamp.session) (asked_for query.now) path.now it.verdict)) }
     {
         let asked = match query {
             Some(query) => query.asked(),
@@ -85,7 +87,8 @@ impl<'a> Step<'a> {
     fn writes(self, writes: &'a [Write]) -> Result<Option<Explanation<'a>>, NoMemory>
         requires moment { self.stamp.now ≤ MAX_MOMENT }
         requires scene { scene_of self.scene.now ≡ scene_at self.core.now self.stamp.now self.stamp.session }
-        ensures { IfOk result (λ found. IfSome found (λ it. IsWriteVerdict (scene_at self.entry.core.now self.entry.stamp.now self.entry.stamp.session) (tree_with self.entry.core.now self.entry.stamp.now writes.now) (map location writes.now) it.verdict)) }
+        ensures overlapping { IfOk result (λ found. IfNone found (overlaps writes.now ≡ true)) }
+        ensures verdict { IfOk result (λ found. IfSome found (λ it. IsWriteVerdict (scene_at self.entry.core.now self.entry.stamp.now self.entry.stamp.session) (tree_with self.entry.core.now self.entry.stamp.now writes.now) (map location writes.now) it.verdict)) }
     {
         if overlaps(writes) {
             return Ok(None);

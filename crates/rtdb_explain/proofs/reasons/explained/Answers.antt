@@ -1,21 +1,33 @@
-use Rattle.std.proofs.Common.{◌∙◌, sym, ap, subst, inl, inr, map, IfOk, IfSome, List, [], ◌∷◌}
-use Rattle.tree_model.specs.Put.{location}
+use Rattle.std.proofs.Common.{◌≡◌, ◌∙◌, sym, ap, subst, inl, inr, map, IfOk, IfSome, IfNone, true, List, [], ◌∷◌}
+use Rattle.tree_model.specs.Put.{location, overlaps}
 use Rattle.tree_model.specs.Write.{Write}
 use Rattle.judge.specs.Judging.{IsWriteVerdict}
 use Rattle.rtdb_model.specs.declared.event.Event.{Event}
 use Rattle.rtdb_model.specs.State.{scene_at}
 use Rattle.rtdb_model.specs.Step.{tree_with}
-use Rattle.rtdb_explain.specs.Explained.{IsOnEvent}
+use Rattle.rtdb_explain.specs.Explained.{IsOnEvent, IsUnasked}
 use Rattle.rtdb_explain.proofs.reasons.explained.Goals as goal
 
-pub returns-in-Set : goal.returns-in-Set
-returns-in-Set c =
-    let one = subst (λ (given : List Write). IfOk c.writes-in-Set.result (λ found. IfSome found (λ it. IsWriteVerdict (scene_at c.args.core.now c.args.stamp.now c.args.stamp.session) (tree_with c.args.core.now c.args.stamp.now given) (map location given) it.verdict))) c.from_ref-in-Set.ensures.value c.writes-in-Set.ensures in
+pub returns-in-Set-clause-verdict : goal.returns-in-Set-clause-verdict
+returns-in-Set-clause-verdict c =
+    let one = subst (λ (given : List Write). IfOk c.writes-in-Set.result (λ found. IfSome found (λ it. IsWriteVerdict (scene_at c.args.core.now c.args.stamp.now c.args.stamp.session) (tree_with c.args.core.now c.args.stamp.now given) (map location given) it.verdict))) c.from_ref-in-Set.ensures.value c.writes-in-Set.ensures.verdict in
     let on = λ (event : Event). IfOk c.writes-in-Set.result (λ found. IfSome found (λ it. IsOnEvent c.args.core.now c.args.stamp.now c.args.stamp.session event it.verdict)) in
     elim c.in-Set.is as (λ _. on c.args.event.now) [ inl is ↦ subst on (sym is) one | inr is ↦ subst on (sym is) one ]
 
-pub returns-in-Remove : goal.returns-in-Remove
-returns-in-Remove c =
-    let one = subst (λ (given : List Write). IfOk c.writes-in-Remove.result (λ found. IfSome found (λ it. IsWriteVerdict (scene_at c.args.core.now c.args.stamp.now c.args.stamp.session) (tree_with c.args.core.now c.args.stamp.now given) (map location given) it.verdict))) (c.from_ref.ensures.value ∙ ap (λ (write : Write). write ∷ []) c.write.ensures) c.writes-in-Remove.ensures in
+pub returns-in-Remove-clause-verdict : goal.returns-in-Remove-clause-verdict
+returns-in-Remove-clause-verdict c =
+    let one = subst (λ (given : List Write). IfOk c.writes-in-Remove.result (λ found. IfSome found (λ it. IsWriteVerdict (scene_at c.args.core.now c.args.stamp.now c.args.stamp.session) (tree_with c.args.core.now c.args.stamp.now given) (map location given) it.verdict))) (c.from_ref.ensures.value ∙ ap (λ (write : Write). write ∷ []) c.write.ensures) c.writes-in-Remove.ensures.verdict in
     let on = λ (event : Event). IfOk c.writes-in-Remove.result (λ found. IfSome found (λ it. IsOnEvent c.args.core.now c.args.stamp.now c.args.stamp.session event it.verdict)) in
+    elim c.in-Remove.is as (λ _. on c.args.event.now) [ inl is ↦ subst on (sym is) one | inr is ↦ subst on (sym is) one ]
+
+pub returns-in-Set-clause-unasked : goal.returns-in-Set-clause-unasked
+returns-in-Set-clause-unasked c =
+    let one = subst (λ (given : List Write). IfOk c.writes-in-Set.result (λ found. IfNone found (overlaps given ≡ true))) c.from_ref-in-Set.ensures.value c.writes-in-Set.ensures.overlapping in
+    let on = λ (event : Event). IfOk c.writes-in-Set.result (λ found. IfNone found (IsUnasked event)) in
+    elim c.in-Set.is as (λ _. on c.args.event.now) [ inl is ↦ subst on (sym is) one | inr is ↦ subst on (sym is) one ]
+
+pub returns-in-Remove-clause-unasked : goal.returns-in-Remove-clause-unasked
+returns-in-Remove-clause-unasked c =
+    let one = subst (λ (given : List Write). IfOk c.writes-in-Remove.result (λ found. IfNone found (overlaps given ≡ true))) (c.from_ref.ensures.value ∙ ap (λ (write : Write). write ∷ []) c.write.ensures) c.writes-in-Remove.ensures.overlapping in
+    let on = λ (event : Event). IfOk c.writes-in-Remove.result (λ found. IfNone found (IsUnasked event)) in
     elim c.in-Remove.is as (λ _. on c.args.event.now) [ inl is ↦ subst on (sym is) one | inr is ↦ subst on (sym is) one ]

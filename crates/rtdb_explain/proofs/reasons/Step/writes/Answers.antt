@@ -21,8 +21,8 @@ explain_writes-requires c =
     ∙ is_proposed c.tree.result (option_map (λ (node : Bor Tree). node.now) c.tree.result) c.in_ok-coming.coming c.args.writes.now c.args.self.stamp.now refl c.in_ok-coming.ensures
     ∙ (λ i. proposed ((ap tree_or_null c.tree.ensures.tree ∙ tree_or_null-non_null c.args.self.core.now.tree ∙ sym (ap (λ (scene : Scene). scene.old) c.requires.scene)) i) c.args.writes.now (sym (ap (λ (scene : Scene). scene.moment) c.requires.scene) i))
 
-pub returns : goal.returns
-returns c =
+pub returns-clause-verdict : goal.returns-clause-verdict
+returns-clause-verdict c =
     same_verdict (scene_of c.args.self.scene.now) (scene_at c.args.self.core.now c.args.self.stamp.now c.args.self.stamp.session)
     (tree_or_null c.in_ok-coming-2.coming.now) (tree_with c.args.self.core.now c.args.self.stamp.now c.args.writes.now)
     (map location c.args.writes.now) c.in_ok-found.found.verdict
