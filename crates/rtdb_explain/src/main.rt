@@ -3,8 +3,9 @@
 //! It reads a script as `rtdb run` does, and says of each request that the rules refuse which rules were asked, what
 //! each of them answers, and which part of it decided. Which rules these are, and what each part means, is the
 //! contract of [`explain_read`](request_explainer::explain_read) and of
-//! [`explain_writes`](request_explainer::explain_writes); the words, and the page, are only tested. That what it finds
-//! in a rules file without a script is certain is the contract of [`lint`](lint::lint).
+//! [`explain_writes`](request_explainer::explain_writes), and that they are about this event in this state that of
+//! [`explained`](reasons::explained); the words, and the page, are only tested. That what it finds in a rules file
+//! without a script is certain is the contract of [`lint`](lint::lint).
 #![tactic(auto)]
 
 mod coverage;
@@ -91,8 +92,8 @@ fn show(rt: &HostRuntime, options: Options<'_>, records: Records) -> u8 {
         let Ok(page) = records.page() else {
             return out_of_memory(rt);
         };
-        if fs::write(rt, name, page.as_str()).is_err() {
-            return say_of_file(rt, "can't write", name);
+        if let Err(fault) = fs::write(rt, name, page.as_str()) {
+            return file_fault(rt, &fault, "can't write", name);
         }
     }
     match records.text() {
@@ -105,7 +106,7 @@ fn show(rt: &HostRuntime, options: Options<'_>, records: Records) -> u8 {
 fn check(rt: &HostRuntime, name: &str) -> u8 {
     let file = match first_bytes(rt, rt.alloc(), name) {
         Ok(file) => file,
-        Err(_) => return say_of_file(rt, "can't read", name),
+        Err(fault) => return file_fault(rt, &fault, "can't read", name),
     };
     match compile(rt.alloc(), &file) {
         Ok(_) => print_findings(rt, &file),
@@ -139,8 +140,11 @@ fn first_bytes(rt: &HostRuntime, alloc: Global, name: &str) -> io::Result<Vec<u8
     Ok(bytes)
 }
 
-fn say_of_file(rt: &HostRuntime, fault: &str, name: &str) -> u8 {
-    let _reported = eprintln!(rt; "rtdb_explain: {fault} {name}");
+fn file_fault(rt: &HostRuntime, fault: &io::Error, words: &str, name: &str) -> u8 {
+    if fault.kind() == io::ErrorKind::OutOfMemory {
+        return out_of_memory(rt);
+    }
+    let _reported = eprintln!(rt; "rtdb_explain: {words} {name}");
     FAILED
 }
 

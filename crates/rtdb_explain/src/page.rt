@@ -12,7 +12,7 @@ use std::alloc::Global;
 
 /// A request that asked rules, or would have asked some.
 #[derive(Drop)]
-pub(crate) struct Told {
+pub(crate) struct JudgedRequest {
     /// Its number, from 1.
     pub(crate) request: u64,
     pub(crate) is_refused: bool,
@@ -27,7 +27,7 @@ pub(crate) struct Told {
 pub(crate) fn page_of(
     alloc: Global,
     files: &[RulesFile],
-    told: &[Told],
+    requests: &[JudgedRequest],
     sentence: &str,
 ) -> Result<String, NoMemory> {
     let mut html = Html::new(alloc)?;
@@ -38,11 +38,11 @@ pub(crate) fn page_of(
     for (index, file) in files.iter().enumerate() {
         put_file(&mut html, index, file)?;
     }
-    put_requests(&mut html, told)?;
+    put_requests(&mut html, requests)?;
     for (index, file) in files.iter().enumerate() {
         put_panels(&mut html, index, file)?;
     }
-    for request in told {
+    for request in requests {
         put_request(&mut html, request)?;
     }
     html.end()
@@ -220,9 +220,9 @@ fn put_part(html: &mut Html, part: &PartCount) -> Result<(), NoMemory> {
 }
 
 // The requests, each with a link to its explanation.
-fn put_requests(html: &mut Html, told: &[Told]) -> Result<(), NoMemory> {
+fn put_requests(html: &mut Html, requests: &[JudgedRequest]) -> Result<(), NoMemory> {
     html.tag("<h2>Requests that the rules judged</h2>\n<ol class=\"requests\">\n")?;
-    for request in told {
+    for request in requests {
         html.tag("<li>")?;
         put_link(html, request.request, request.is_refused)?;
         html.tag(" <code>")?;
@@ -275,7 +275,7 @@ fn put_asks(html: &mut Html, asks: &[Ask]) -> Result<(), NoMemory> {
 }
 
 // The explanation of a request, which is shown where the request is clicked.
-fn put_request(html: &mut Html, request: &Told) -> Result<(), NoMemory> {
+fn put_request(html: &mut Html, request: &JudgedRequest) -> Result<(), NoMemory> {
     let number = request.request;
     html.tag(format!(in html.alloc;
         "<section class=\"panel\" id=\"request-{number}\">\n<a class=\"close\" href=\"#closed\">Close</a>\n<pre>"

@@ -1,7 +1,7 @@
 //! What is recorded of a script.
 
 use crate::line::Options;
-use crate::page::{Told, page_of};
+use crate::page::{JudgedRequest, page_of};
 use crate::report::{Fate, Report, front_of};
 use crate::rules_file::RulesFile;
 use json_tree::NoMemory;
@@ -20,7 +20,7 @@ pub(crate) struct Records {
     report: Report,
     // The last of these is in force.
     files: Vec<RulesFile>,
-    told: Vec<Told>,
+    requests: Vec<JudgedRequest>,
 }
 
 impl Records {
@@ -38,7 +38,7 @@ impl Records {
             has_page: options.page.is_some(),
             report: Report::new(alloc),
             files,
-            told: Vec::new(alloc),
+            requests: Vec::new(alloc),
         })
     }
 
@@ -85,7 +85,7 @@ impl Records {
             rules.count(request, explanation)?;
             let mut own = Report::new(self.alloc);
             own.append(request, line, event, explanation, rules)?;
-            self.told.push(Told {
+            self.requests.push(JudgedRequest {
                 request,
                 is_refused,
                 front: front_of(self.alloc, line)?,
@@ -98,7 +98,7 @@ impl Records {
     /// The page.
     pub(crate) fn page(&self) -> Result<String, NoMemory> {
         let sentence = self.report.sentence()?;
-        page_of(self.alloc, &self.files, &self.told, sentence.as_str())
+        page_of(self.alloc, &self.files, &self.requests, sentence.as_str())
     }
 
     /// The text of the explanations, with a count of the requests last.
