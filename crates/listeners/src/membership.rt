@@ -20,7 +20,7 @@ use crate::query::Query;
 use crate::reach::Stretch;
 use arena_snapshot::View;
 
-/// Whether a query selects the child of a key, if one stands there. The child is found by a binary search, and
+/// Whether a query selects the child of a key, if one is stored there. The child is found by a binary search, and
 /// compared with the bounds; only under a limit others are looked at, those that [`select`](crate::select) looks
 /// at, up to the one that leaves no room for it. It takes no memory. (Guide "Work with Lists of Data", filtering
 /// data.)

@@ -29,7 +29,7 @@ pub fn a_poll_hands_out_what_was_marked()
 {}
 
 /// A listener whose grant fails in a step that judges it is cancelled in that step, and nothing more is
-/// told of it, but once that it is gone, until its session listens under its name anew.
+/// reported of it, but once that it is gone, until its session listens under its name anew.
 pub fn a_failed_grant_is_the_end()
     ensures { (rules : Book) (tree : Tree) (earlier later : List Call) (answered others : List Reply) (t : Taken) (new : State) (session : ℕ) → Run (opening rules tree) earlier answered t.old → IsStep t → Run t.new later others new → judges session t ≡ true → All (λ l. grants session l.path l.query t ≡ false → IsEnd session l.id t later others) (listeners_of t.old session) }
 {}
