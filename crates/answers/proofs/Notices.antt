@@ -34,7 +34,7 @@ gone_told bytes front named all id begins goes_on closes =
     ∙ regrouped bytes (codes "{\"cancelled\":true,\"id\":") (quoted id) (codes "}")
     ∙ ap (λ s. bytes ++ s) (gone_text id)
 
--- what stands before a value that is told under this name
+-- what stands before a value that is reported under this name
 abbrev pub before_value : List ℕ → List ℕ
 before_value id = codes "{\"id\":" ++ (quoted id ++ codes ",\"value\":")
 

@@ -36,6 +36,7 @@ use Rattle.rtdb_model.specs.declared.reply.Refusal.TheVariants as refusals
 
 -- ---- refusals
 
+-- the number of a code
 abbrev pub number_of : Code → ℕ
 number_of code.BadJson = 101
 number_of code.BadRequest = 102
@@ -72,6 +73,7 @@ number_of code.TreeFull = 504
 number_of code.NoMemory = 601
 number_of code.Spent = 602
 
+-- the name of a code
 abbrev pub name_of : Code → List ℕ
 name_of code.BadJson = codes "BadJson"
 name_of code.BadRequest = codes "BadRequest"
@@ -120,6 +122,7 @@ plain_data c = object (refusal_members c no_members)
 abbrev pub placed_data : Code → List ℕ → Data
 placed_data c place = object (member (codes "at") (string place) (refusal_members c no_members))
 
+-- why a rule does not hold: it is false, or an error
 abbrev pub why_text : Why → List ℕ
 why_text No = codes "false"
 why_text Erred = codes "error"
@@ -128,10 +131,12 @@ why_text Erred = codes "error"
 abbrev pub named_data : Named → Data
 named_data named = object (member (codes "pattern") (string (printed_pattern named.pattern)) (member (codes "why") (string (why_text named.why)) no_members))
 
+-- the items of an array
 abbrev pub items_of : List Data → Items
 items_of [] = no_items
 items_of (d ∷ ds) = item d (items_of ds)
 
+-- the rules that are named, as an array
 abbrev pub rules_data : List Named → Data
 rules_data named = array (items_of (map named_data named))
 
@@ -149,6 +154,7 @@ validate_denied_data at pattern why = object (member (codes "at") (string (print
 
 -- ---- replies
 
+-- a refusal of an event
 abbrev pub refusal_data : Refusal → Data
 refusal_data refusals.SessionOpen = plain_data code.SessionOpen
 refusal_data refusals.TooManySessions = plain_data code.TooManySessions
@@ -169,7 +175,7 @@ refusal_data refusals.TreeFull = plain_data code.TreeFull
 refusal_data refusals.NoMemory = plain_data code.NoMemory
 refusal_data refusals.Spent = plain_data code.Spent
 
--- what is told of a listener: that it is cancelled, or the value that it selects
+-- what is reported of a listener: that it is cancelled, or the value that it selects
 abbrev pub notice_data : Notice → Data
 notice_data notice = what_data_of notice.id notice.what
   where
@@ -177,6 +183,7 @@ notice_data notice = what_data_of notice.id notice.what
     what_data_of id Gone = object (member (codes "cancelled") (boolean true) (member (codes "id") (string id) no_members))
     what_data_of id (Now tree) = object (member (codes "id") (string id) (member (codes "value") (value_of (tree_or_null tree)) no_members))
 
+-- notices, as an array
 abbrev pub notices_data : List Notice → Data
 notices_data notices = array (items_of (map notice_data notices))
 
@@ -190,6 +197,7 @@ ran_data (Skipped refusal) = object (member (codes "ok") (boolean true) (member 
 abbrev pub closed_data : ℕ → Data
 closed_data left = object (member (codes "left") (number (unsigned left)) (member (codes "ok") (boolean true) no_members))
 
+-- a reply to an event
 abbrev pub reply_data : Reply → Data
 reply_data Done = object (member (codes "ok") (boolean true) no_members)
 reply_data (Value tree) = object (member (codes "ok") (boolean true) (member (codes "value") (value_of (tree_or_null tree)) no_members))
@@ -204,6 +212,7 @@ text reply = compact_text (reply_data reply)
 
 -- ---- pushes
 
+-- news that are sent to a client which did not ask for them
 abbrev pub pushed_data : List Notice → Data
 pushed_data notices = object (member (codes "push") (notices_data notices) no_members)
 
@@ -213,6 +222,7 @@ pushed_text notices = compact_text (pushed_data notices)
 
 -- ---- faults of messages and of rules files
 
+-- the code of a fault of a message
 abbrev pub message_code : MessageFault → Code
 message_code message_faults.TooLarge = code.TooLarge
 message_code message_faults.BadJson = code.BadJson
@@ -227,7 +237,7 @@ message_code message_faults.NoMemory = code.NoMemory
 unfoldable pub fault_text : MessageFault → List ℕ
 fault_text fault = compact_text (plain_data (message_code fault))
 
--- the text for tokens that are none
+-- the text for tokens that are invalid
 unfoldable pub bad_tokens_text : List ℕ
 bad_tokens_text = compact_text (plain_data code.BadTokens)
 
@@ -255,12 +265,14 @@ byte_data rule c byte = object (member (codes "at") (pattern_data rule) (member 
 abbrev pub what_data : RuleName → Code → List ℕ → Data
 what_data rule c what = object (member (codes "at") (pattern_data rule) (refusal_members c (rule_members rule (member (codes "what") (string what) no_members))))
 
+-- a refusal for a fault of a rule
 abbrev pub rule_fault_data : RuleName → RuleFault → Data
 rule_fault_data rule (rule_faults.BadExpression byte) = byte_data rule code.BadExpression byte
 rule_fault_data rule (rule_faults.NotInProfile left_out) = what_data rule code.NotInProfile (left_out_name left_out)
 rule_fault_data rule rule_faults.TypeError = rule_data rule code.TypeError
 rule_fault_data rule (rule_faults.UnknownName name) = what_data rule code.UnknownName name
 
+-- a refusal for a fault of a rules file
 abbrev pub rules_fault_data : RulesFault → Data
 rules_fault_data rules_faults.BadRulesJson = plain_data code.BadRulesJson
 rules_fault_data (rules_faults.BadRulesShape pattern) = placed_data code.BadRulesShape (printed_pattern pattern)

@@ -226,7 +226,7 @@ impl AnswerWriter {
         self.piece(&text)
     }
 
-    /// Writes the text for tokens that are none.
+    /// Writes the text for tokens that are invalid.
     #[tactic(auto, unfolding(crate::specs::AnswerText::bad_tokens_text))]
     pub fn put_bad_tokens(&mut self) -> Result<(), NoMemory>
         ensures before { self.new.before ≡ self.old.before }

@@ -32,7 +32,7 @@ impl AnswerWriter {
         self.piece(b"]}")
     }
 
-    /// Writes the text of the reply that a poll is given with these tidings, in one pass over what they tell,
+    /// Writes the text of the reply that a poll is given with these tidings, in one pass over what they report,
     /// with no copy of a tree.
     pub(crate) fn put_tidings(&mut self, tidings: &Tidings) -> Result<(), NoMemory>
         ensures before { self.new.before ≡ self.old.before }
@@ -105,7 +105,7 @@ impl AnswerWriter {
         self.piece(b"}")
     }
 
-    // Writes what stands before a value that is told under this name.
+    // Writes what stands before a value that is reported under this name.
     fn name(&mut self, id: &str) -> Result<(), NoMemory>
         ensures before { self.new.before ≡ self.old.before }
         ensures text { OnOk result (self.new.text ≡ self.old.text ++ (codes "{\"id\":" ++ (quoted id.now ++ codes ",\"value\":"))) }

@@ -12,6 +12,7 @@ abbrev pub node_or_null : Option (Bor Tree) → Tree
 node_or_null None = null
 node_or_null (Some node) = node.now
 
+-- the tree that a view shows: a stored one, or a stored one with changes
 abbrev pub tree_of : ViewKind → Tree
 tree_of (Stored node) = node.now
 tree_of (Patched node) = changed (node_or_null node.now.base) (map change_of node.now.patches.now)

@@ -9,7 +9,7 @@ use json_tree::Leaf;
 
 /// Whether both are the same tree. It stops at the first difference: trees of another count or width
 /// differ at once, and else the children are compared in the order of their keys. It takes no memory.
-/// Of a stored tree and what writes propose of it, [`crate::is_changed`] tells without comparing what
+/// Of a stored tree and what writes propose of it, [`crate::is_changed`] says so without comparing what
 /// they share.
 #[cycle(same)]
 pub fn same(view: &View, other: &View) -> bool

@@ -68,7 +68,7 @@ pub own : {p : Place} {ns : List (List ℕ)} (x : SyntaxTree) (e : TypeFault) �
 own {p} {ns} x _ sorted (in_part before y after split b f) = absurd (let all = subst (AllByRecursion (HasSomeSort p ns)) (placed_are x ∙ split) (all_trees (HasSomeSort p ns) (placed_parts x) sorted) in let s = in_all (HasSomeSort p ns) before y after all in never s.1 f)
 own x _ sorted (of_own all without) = (refl, record { parts = sorted; none = λ s. without s.0 s.1 })
 
--- a value and what is none are of two sorts
+-- a value and what is not one are of two sorts
 pub no_value : {p : Place} {ns : List (List ℕ)} {x : SyntaxTree} {s : Sort} → HasSort p ns x s → is_value s ≡ false → HasValue p ns x → ⊥
 no_value d e v = let a = complete d in let b = complete v.1 in let c = v.2 in cc
 

@@ -146,7 +146,7 @@ pub snapshot_call_is : (known : Option KnownName) (f : List ℕ) (s : Snapshot) 
 snapshot_call_is (Some known) f s named = subst (λ g. snapshot_call g s ≡ call_known (Some known) s) named (named_snapshot_call known s)
 snapshot_call_is None f s none = no_snapshot_call f s none
 
--- ---- the name that is told
+-- ---- the name that is found
 
 pub told : (known : Option KnownName) (name : KnownName) (f : List ℕ) → Tells known f → known ≡ Some name → f ≡ text_of name
 told (Some other) name f named is = let same : other ≡ name = cc in sym named ∙ ap text_of same

@@ -1,4 +1,4 @@
--- Names that are none of those that are known.
+-- Names that are not among the known ones.
 use Rattle.std.proofs.Common.{◌≡◌, ℕ, List, Bool, true, false, cond, None, refl, sym, ◌∙◌}
 use Rattle.std.specs.Prelude.{codes}
 use Rattle.std.specs.Str.{bytes_eq}

@@ -76,10 +76,12 @@ pub record Suits (checked : Checked) (env : Env) : Type 0 where
 
 -- ---- that of the code
 
+-- what is judged: a read, with what is asked for, or a write, with the proposed tree
 abbrev pub access_of : code_access.Access → Access
 access_of (code_access.TheVariants.Reads a) = reads (asked_of a.now)
 access_of (code_access.TheVariants.Writes s) = writes s.now
 
+-- the environment that one of the code is
 abbrev pub env_of : code.Env → Env
 env_of e = record {
   who = option_map (λ who. who.now) e.auth;

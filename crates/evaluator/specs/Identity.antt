@@ -36,10 +36,12 @@ pub record IsLawfulIdentity (who : Identity) : Type 0 where
   pub provider : is_text who.provider ≡ true
   pub claims : AreLawfulClaims who.claims
 
--- ---- as data: what tells two of them apart
+-- ---- as data: what distinguishes two of them
 
+-- claims are distinguished by their names and values, in their order
 abbrev pub claims_code : Coded Claims
 claims_code = coded_list (coded× (coded_list coded_ℕ) primitive_code)
 
+-- an identity is distinguished by its four parts
 abbrev pub identity_code : Coded Identity
 identity_code = code_by ((List ℕ × List ℕ) × (Bool × Claims)) (coded× (coded× (coded_list coded_ℕ) (coded_list coded_ℕ)) (coded× coded_bool claims_code)) (λ who. ((who.uid, who.provider), (who.admin, who.claims))) (λ t. record { uid = t.0.0; provider = t.0.1; admin = t.1.0; claims = t.1.1 }) (λ _. refl)

@@ -67,11 +67,12 @@ plus (words a) (whole b) = text_within (a ++ signed_decimal b)
 plus (whole a) (words b) = text_within (signed_decimal a ++ b)
 plus _ _ = None
 
--- of numbers alone. (Reference, `-` and `*` operators.)
+-- the difference of two numbers, if it is in range. (Reference, `-` operator; the range is this project's profile.)
 abbrev pub minus : Value → Value → Option Value
 minus (whole a) (whole b) = in_range (a -ℤ b)
 minus _ _ = None
 
+-- the product of two numbers, if it is in range. (Reference, `*` operator; the range is this project's profile.)
 abbrev pub times : Value → Value → Option Value
 times (whole a) (whole b) = in_range (a *ℤ b)
 times _ _ = None

@@ -7,6 +7,7 @@ use Rattle.evaluator.specs.declared.value.Meaning.TheVariants as parts
 use Rattle.evaluator.specs.Asked.{asked_of}
 use Rattle.evaluator.specs.Value.{Value, null, truth, whole, words, sentinel, a_record, Meaning, value, snapshot, auth, token, query}
 
+-- the value that one of the code is
 abbrev pub value_of : code.Value → Value
 value_of Null = null
 value_of (Truth b) = truth b
@@ -15,6 +16,7 @@ value_of (Words s) = words s.now
 value_of Sentinel = sentinel
 value_of Record = a_record
 
+-- what an expression means, as the code has it
 abbrev pub part_of : code_part.Meaning → Meaning
 part_of (parts.Value v) = value (value_of v)
 part_of (parts.Snapshot s) = snapshot s.now

@@ -32,15 +32,17 @@ val_at s = if exists_at s then primitive_or_sentinel (primitive_at s) else null
 abbrev pub has_children_at : Snapshot → Bool
 has_children_at s = list_any (is_proper_prefix s.1) (map_of.keys s.0)
 
--- a primitive of that type stands there. (Reference, `RuleDataSnapshot.isNumber`, `isString`, `isBoolean`.)
+-- a number. (Reference, `RuleDataSnapshot.isNumber`.)
 abbrev pub is_number : Option Primitive → Bool
 is_number (Some (primitive.whole z)) = true
 is_number _ = false
 
+-- a text. (Reference, `RuleDataSnapshot.isString`.)
 abbrev pub is_string : Option Primitive → Bool
 is_string (Some (primitive.words s)) = true
 is_string _ = false
 
+-- a boolean. (Reference, `RuleDataSnapshot.isBoolean`.)
 abbrev pub is_boolean : Option Primitive → Bool
 is_boolean (Some (primitive.truth b)) = true
 is_boolean _ = false

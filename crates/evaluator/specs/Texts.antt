@@ -16,15 +16,17 @@ abbrev pub is_inside : List ℕ → List ℕ → Bool
 is_inside part [] = starts_with nat_eq [] part
 is_inside part (b ∷ s) = starts_with nat_eq (b ∷ s) part || is_inside part s
 
--- whether; an error where one is no text. (Reference, `String.contains`, `beginsWith`, `endsWith`.)
+-- one text contains the other; an error where either is no text. (Reference, `String.contains`.)
 abbrev pub contains : Value → Value → Option Value
 contains (words s) (words part) = Some (truth (is_inside part s))
 contains _ _ = None
 
+-- one text begins with the other; an error where either is no text. (Reference, `String.beginsWith`.)
 abbrev pub begins_with : Value → Value → Option Value
 begins_with (words s) (words part) = Some (truth (starts_with nat_eq s part))
 begins_with _ _ = None
 
+-- one text ends with the other; an error where either is no text. (Reference, `String.endsWith`.)
 abbrev pub ends_with_text : Value → Value → Option Value
 ends_with_text (words s) (words part) = Some (truth (ends_with nat_eq s part))
 ends_with_text _ _ = None

@@ -29,8 +29,10 @@ keys_behind (suc n) = codes "k/" ++ keys_behind n
 abbrev pub call : SyntaxTree → List ℕ → SyntaxTree
 call x f = Call x f no_argument
 
+-- a call with one argument
 abbrev pub call_with : SyntaxTree → List ℕ → SyntaxTree → SyntaxTree
 call_with x f v = Call x f (argument (One v) no_argument)
 
+-- a call with two arguments
 abbrev pub call_with_two : SyntaxTree → List ℕ → SyntaxTree → SyntaxTree → SyntaxTree
 call_with_two x f v w = Call x f (argument (One v) (argument (One w) no_argument))

@@ -59,8 +59,8 @@ pub enum Access<'a> {
 }
 
 /// Where an expression is evaluated: what its variables and captures stand for. `root` is the root of
-/// the tree of `here`. The captures are lent for as long as the expression is evaluated, since each place has
-/// others. (Reference, variables.)
+/// the tree of `here`. The captures are borrowed for as long as the expression is evaluated, since each
+/// place has others. (Reference, variables.)
 #[derive(Clone, Copy)]
 pub struct Env<'a, 'c> {
     pub auth: Option<&'a Identity>,

@@ -38,8 +38,8 @@ use expr_types::Checked;
 use json_tree::NoMemory;
 use tree_model::MAX_TEXT_BYTES;
 
-// A function below that is marked `inline(never)` is not made one with the functions that call it: room for what it
-// needs on its way would be made and cleared at each call of these.
+// A function below that is marked `inline(never)` is not inlined into its callers: each call of these would make and
+// clear room for its locals.
 
 // What a part of an expression means.
 #[cycle(evaluation)]
@@ -847,8 +847,8 @@ pub enum Outcome {
 
 /// Whether a rule of this expression holds: Yes exactly where it means true, No exactly where it means
 /// false, and Erred in every other case. Each part is evaluated at most once, and only where it is
-/// looked at. Growths are taken for a text that `+` or `replace` makes, unless `child` goes down by what is joined
-/// with a slash between, and one for each key that `child` goes down, as `hasChild` and `hasChildren` do where no
+/// looked at. Growths are taken for a text that `+` or `replace` makes, unless `child` walks down by what is joined
+/// with a slash between, and one for each key that `child` walks down, as `hasChild` and `hasChildren` do where no
 /// child has the key; every other text is borrowed.
 /// (Reference, rules types.)
 pub fn evaluate<'a>(

@@ -45,7 +45,7 @@ fn same(left: Value, right: Value) -> bool
     }
 }
 
-// The values are lent: a call that is given a value by itself copies it first.
+// The values are borrowed: a call that takes a value by itself copies it first.
 fn equal(left: &Value, right: &Value) -> Option<bool>
     ensures { result ≡ equal (value_of left.now) (value_of right.now) }
 {

@@ -76,7 +76,7 @@ fn ends_below(expr: &Expr) -> bool
 }
 
 // Whether it is a sum with a slash between the text of its left operand and that of its right one, as far as literals
-// tell.
+// show.
 pub(crate) fn is_seam(expr: &Expr) -> bool
     ensures { result ≡ true → IsSeam (view expr.now) }
 {
@@ -91,7 +91,7 @@ pub(crate) fn is_seam(expr: &Expr) -> bool
 
 // ---- where a text leads
 
-// Takes the bytes of a text from those that there is room for, or tells that they are too many.
+// Takes the bytes of a text from those that there is room for, or says that they are too many.
 #[inline(always)]
 fn has_room(text: &str, room: &mut usize) -> bool
     ensures fits { result ≡ true → length text.now ≤ room.old }

@@ -141,8 +141,8 @@ fn made_anew<'a>(arena: &'a Bump, text: &str, part: &str, with: &str) -> Result<
     Ok(Value::Words(into_bump_str(made)))
 }
 
-// Every occurrence of a text, from the left, becomes another. Where there is none, the text is lent on, and no memory
-// is taken.
+// Every occurrence of a text, from the left, becomes another. Where there is none, the text itself is the result,
+// and no memory is taken.
 fn replaced<'a>(arena: &'a Bump, text: &'a str, part: &str, with: &str) -> Result<Value<'a>, Stop>
     ensures { Gives result value_of (replace (words text.now) (words part.now) (words with.now)) }
 {

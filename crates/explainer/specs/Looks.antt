@@ -86,5 +86,6 @@ abbrev mutual
 
 -- ---- those of the code
 
+-- what a look of the code stands for
 abbrev pub look_of : code.Look → Look
 look_of l = record { at = l.at; tokens = l.tokens; part = view l.part.now; meaning = option_map part_of l.meaning }

@@ -1,4 +1,4 @@
--- Expressions as data: what tells two trees apart. A tree becomes nested lists of numbers, its alternative first and then its parts, and comes back from them as it was.
+-- Expressions as data: what distinguishes two trees. A tree becomes nested lists of numbers, its alternative first and then its parts, and comes back from them as it was.
 use Rattle.std.specs.Prelude.{◌≡◌, ℕ, zero, suc, List, [], ◌∷◌, refl}
 use Rattle.std.specs.Coded.{Coded, code_by}
 use base.Stored.{Gv, gnil, gnum, gcons}
@@ -9,10 +9,12 @@ use Rattle.expr_parser.specs.Tree.{SyntaxTree, Trees, Argument, Arguments, Numbe
 
 -- ---- a text: its bytes
 
+-- a text as a list of its bytes
 abbrev bytes : List ℕ → Gv
 bytes [] = gnil
 bytes (n ∷ ns) = gcons (gnum n) (bytes ns)
 
+-- the bytes in such a list
 abbrev bytes_back : Gv → List ℕ
 bytes_back gnil = []
 bytes_back (gnum n) = []
@@ -20,12 +22,14 @@ bytes_back (gcons gnil g) = []
 bytes_back (gcons (gnum n) g) = n ∷ bytes_back g
 bytes_back (gcons (gcons f h) g) = []
 
+-- each text comes back from its list
 bytes_same : (ns : List ℕ) → bytes_back (bytes ns) ≡ ns
 bytes_same [] = refl
 bytes_same (n ∷ ns) = λ i. n ∷ bytes_same ns i
 
 -- ---- an operator: its place among them, loosest first
 
+-- how many operators stand before it
 abbrev place_of : Operator → ℕ
 place_of Or = 0
 place_of And = 1
@@ -40,6 +44,7 @@ place_of Subtract = 9
 place_of Multiply = 10
 place_of Remainder = 11
 
+-- the operator at a place
 abbrev operator_at : ℕ → Operator
 operator_at zero = Or
 operator_at (suc zero) = And
@@ -54,6 +59,7 @@ operator_at (suc (suc (suc (suc (suc (suc (suc (suc (suc zero))))))))) = Subtrac
 operator_at (suc (suc (suc (suc (suc (suc (suc (suc (suc (suc zero)))))))))) = Multiply
 operator_at (suc (suc (suc (suc (suc (suc (suc (suc (suc (suc (suc n))))))))))) = Remainder
 
+-- each operator comes back from its place
 operator_same : (op : Operator) → operator_at (place_of op) ≡ op
 operator_same Or = refl
 operator_same And = refl
@@ -160,5 +166,6 @@ mutual
   trees_same none = refl
   trees_same (more x xs) = λ i. more (tree_same x i) (trees_same xs i)
 
+-- an expression is distinguished by its lists of numbers
 abbrev pub tree_code : Coded SyntaxTree
 tree_code = code_by Gv itself tree tree_back tree_same

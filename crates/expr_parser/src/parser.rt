@@ -1,7 +1,7 @@
 //! From tokens to an expression: by descent, and by climbing the operators' levels.
 //!
-//! Each function puts what it reads into a place that is lent to it, and hands back the tokens that are left: an
-//! expression that was handed back would lie in memory, and be copied from there at each level.
+//! Each function puts what it reads into a place that its caller provides, and returns the tokens that are left: an
+//! expression that it returned would lie in memory, and be copied from there at each level.
 ghost use Rattle.std.specs.Prelude.{◌≡◌, ◌≢◌, ◌<◌, ◌≤◌, ◌⊎◌, List, length, IfOk, IfErr, []};
 ghost use Rattle.expr_parser.specs.Grammar.{level, Spells};
 ghost use Rattle.expr_parser.specs.Stopping.{Refused};

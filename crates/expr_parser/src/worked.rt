@@ -5,7 +5,7 @@ ghost use Rattle.expr_parser.specs.Grammar.{Spells};
 ghost use Rattle.expr_parser.specs.Text.{SpellsExpression};
 ghost use Rattle.expr_parser.specs.Worked.{tokens_of_one_in, one_in, quoted};
 
-/// 1 in 64 parentheses is an expression, and in 65 it is none. It does nothing.
+/// 1 in 64 parentheses is an expression, and 1 in 65 is not. It does nothing.
 pub fn what_levels_give()
     ensures deepest { Spells (tokens_of_one_in 64) (one_in 64) }
     ensures too_deep { (x : SyntaxTree) → Spells (tokens_of_one_in 65) x → ⊥ }

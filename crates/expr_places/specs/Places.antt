@@ -82,5 +82,6 @@ pub record IsSpelledAt (tokens : List Token) (part : Placed) : Type 0 where
 
 -- ---- that of the code
 
+-- what a placed part of the code stands for
 abbrev pub placed_of : code.Placed → Placed
 placed_of p = (p.before, view p.part.now)

@@ -12,7 +12,7 @@ const SHORT_BYTES: usize = 16;
 
 /// A name of an expression, in memory of its own: of a variable, of what stands behind a dot, or of a
 /// capture, without its `$`. The bytes of a name of at most 16 lie in it, and take no growth. Which known name
-/// it is is told once, when it is made. Contracts see its bytes.
+/// it is, is found once, when it is made. Contracts see its bytes.
 #[derive(Debug, Drop)]
 pub struct Name {
     known: Option<KnownName>,

@@ -1,4 +1,4 @@
--- The captures that a name is found among, and what is told of one that is not.
+-- The captures that a name is found among, and what is reported of one that is not.
 use Rattle.std.proofs.Common.{◌≡◌, ℕ, List, [], ◌∷◌, Bool, true, false, Option, Some, None, refl, sym, ap, Result, Ok, Err, arith}
 use Rattle.std.proofs.lemmas.Grind.{common_steps}
 use Rattle.std.specs.Prelude.{is_some, option_map, IsErr, IfOk}
@@ -25,7 +25,7 @@ pub is_there : {A B : Type 0} (o : Option A) (g : A → B) → is_some (option_m
 is_there None g = refl
 is_there (Some x) g = refl
 
--- that there is no such name is told, unless memory for it is refused
+-- that there is no such name is reported, unless memory for it is refused
 pub told : (name : Result (List ℕ) AllocError) (fault : TypeFault) (text : List ℕ) → ((t : List ℕ) → name ≡ Ok t → fault ≡ UnknownName t) → (IsErr name → fault ≡ NoMemory) → IfOk name (λ t. t ≡ text) → Refuses {A = Sort} fault (Err (UnknownName text))
 told (Ok t) fault text known none is = rw (known t refl) (ap (λ n. Err (UnknownName n)) (sym is))
 told (Err e) fault text known none is = rw (none refl) tt
@@ -35,7 +35,7 @@ pub answered : {A : Type 0} (o : Option A) (fault : TypeFault) (found : Result A
 answered (Some y) fault found x same gives = grind (arith, common_steps, same, gives)
 answered None fault found x same gives = grind (arith, common_steps, same)
 
--- where there is no answer, a fault is told
+-- where there is no answer, a fault is reported
 pub unanswered : {A : Type 0} (o : Option A) (fault : TypeFault) (found : Result A TypeFault) → o ≡ None → Gives o fault found → Refuses fault found
 unanswered (Some y) fault found same gives = grind (arith, common_steps, same)
 unanswered None fault found same gives = gives

@@ -43,25 +43,30 @@ pub record Checked : Type 0 where
 abbrev pub IsChecked : Checked → Type 0
 IsChecked c = HasValue c.place (captures_in c.tree) c.tree
 
--- ---- as data: what tells two of them apart
+-- ---- as data: what distinguishes two of them
 
+-- how many kinds of rules stand before this one
 abbrev pub place_number : Place → ℕ
 place_number ReadRule = 0
 place_number WriteRule = 1
 place_number ValidateRule = 2
 
+-- the kind of rule at a number
 abbrev pub numbered_place : ℕ → Place
 numbered_place zero = ReadRule
 numbered_place (suc zero) = WriteRule
 numbered_place (suc (suc n)) = ValidateRule
 
+-- each kind comes back from its number
 pub numbered_place-place_number : (p : Place) → numbered_place (place_number p) ≡ p
 numbered_place-place_number ReadRule = refl
 numbered_place-place_number WriteRule = refl
 numbered_place-place_number ValidateRule = refl
 
+-- a kind of rule is distinguished by its number
 abbrev pub place_code : Coded Place
 place_code = code_by ℕ coded_ℕ place_number numbered_place numbered_place-place_number
 
+-- a rule's expression is distinguished by its tree and the kind of rule that it is
 abbrev pub checked_code : Coded Checked
 checked_code = code_by (SyntaxTree × Place) (coded× tree_code place_code) (λ c. (c.tree, c.place)) (λ t. record { tree = t.0; place = t.1 }) (λ _. refl)

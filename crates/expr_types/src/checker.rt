@@ -1,7 +1,7 @@
 //! The checker: the sort of an expression, or its first fault.
 //!
-//! Where there is a fault, it is told in a place that the caller lends: so a sort is handed back in a register, and
-//! where there is none nothing is made of a fault.
+//! A fault is reported in a place that the caller provides: so a sort is returned in a register, and where there is no
+//! fault none is made.
 ghost use Rattle.std.specs.Prelude.{◌≡◌, ◌⊎◌, true, is_ok, IfOk, IfErr, IsErr, OnOk, Ok, Err};
 ghost use Rattle.expr_parser.specs.Tree as tree;
 ghost use Rattle.expr_parser.specs.View.{view, view_argument, views, arguments as arguments_of};

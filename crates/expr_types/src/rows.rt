@@ -58,7 +58,7 @@ fn member_row(receiver: Sort, name: &str) -> Option<Sort>
     }
 }
 
-// The sort of what a call of this name gives, or why it is none.
+// The sort of what a call of this name gives, or why it is invalid.
 pub(crate) fn call(
     alloc: Global,
     receiver: Sort,

@@ -30,7 +30,7 @@ impl Sort {
     }
 }
 
-// What a call is given, as far as the rows of the table tell it apart.
+// What a call is given, as far as the rows of the table distinguish it.
 #[derive(Clone, Copy, Debug, PartialEq, Eq)]
 pub(crate) enum Given {
     Nothing,

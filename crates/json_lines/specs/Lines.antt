@@ -20,10 +20,12 @@ use Rattle.json_lines.specs.declared.fault.MessageFault.TheVariants.{TooLarge, B
 
 -- ---- one thing after another, up to the first fault
 
+-- what is there, or this fault where nothing is
 abbrev pub or_fault : {X : Type 0} → MessageFault → Option X → Result X MessageFault
 or_fault fault None = Err fault
 or_fault fault (Some x) = Ok x
 
+-- what comes next, unless there is a fault already
 abbrev pub unless_fault : {X Y : Type 0} → Result X MessageFault → (X → Result Y MessageFault) → Result Y MessageFault
 unless_fault (Ok x) next = next x
 unless_fault (Err fault) next = Err fault

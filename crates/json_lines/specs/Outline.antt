@@ -35,6 +35,7 @@ said_data (says.Negative z) = number (of_integer z)
 said_data (says.Words s) = string s.now
 said_data (says.Drafts es) = object (drafts_named es)
 
+-- the value that a borrowed member is
 abbrev pub part_data : MemberValue → Data
 part_data parts.Null = null
 part_data (parts.Truth b) = boolean b
@@ -44,6 +45,7 @@ part_data (parts.Words s) = string s.now
 part_data (parts.Drafts es) = object (drafts_named es.now)
 part_data (parts.Held value) = view value.now
 
+-- the value that a borrowed object is
 abbrev pub object_data : Object → Data
 object_data (objects.Drafts es) = object (drafts_named es.now)
 object_data (objects.Held value) = view value.now
@@ -58,6 +60,7 @@ abbrev pub source_data : Source → Data
 source_data (sources.Outline ms) = object (put_all ms.now no_members)
 source_data (sources.Held value) = view value.now
 
+-- the value that a message is
 abbrev pub message_data : Message → Data
 message_data (messages.Outlined outline) = object (put_all outline.members.items no_members)
 message_data (messages.Held value) = view value

@@ -26,7 +26,7 @@ pub enum MessageFault {
     /// The path, the value, or both together are over 32 keys deep.
     #[error("more than 32 keys deep")]
     TooDeep,
-    /// The query is none.
+    /// The query is invalid.
     #[error("no lawful query")]
     BadQuery,
     #[error("out of memory")]

@@ -127,7 +127,7 @@ fn draft_of_text(alloc: Global, text: &str) -> Result<Option<Draft>, MessageFaul
 }
 
 /// The draft of a value. A value that is a tree is read as one, since a draft is built by way of a list more; only
-/// one that is none is looked through for the form of the moment.
+/// one that is not a tree is looked through for the form of the moment.
 pub(crate) fn draft_of_value(alloc: Global, value: &Value) -> Result<Option<Draft>, MessageFault>
     ensures { Tells draft_or_null result (draft_of_value (view value.now)) }
 {

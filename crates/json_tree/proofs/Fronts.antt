@@ -1,5 +1,5 @@
 -- The fronts of two texts, where they are not the same, stand to each other as the texts; and a text that its
--- front tells from each key is the key with the same front.
+-- front distinguishes from each key is the key with the same front.
 use Rattle.std.proofs.Common.{◌≡◌, ◌≢◌, ℕ, zero, suc, ◌+◌, ◌*◌, ◌^◌, ◌<◌, ◌≤◌, true, [], ◌∷◌, length, nat_le, not, ◌==◌, ◌&&◌, get_or, inl, inr, sym, ap, ◌∙◌, refl, arith}
 use Rattle.std.specs.declared.cmp.Ordering.{Ordering}
 use Rattle.std.specs.declared.cmp.Ordering.TheVariants.{Less, Equal, Greater}

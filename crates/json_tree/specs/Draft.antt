@@ -10,6 +10,7 @@ use Rattle.json_tree.specs.Leaf.{primitive_of}
 use Rattle.tree_model.specs.PathMap.{depth}
 use Rattle.json_tree.specs.Json.{primitive_in, is_lawful, read_by, data_of, value_by}
 
+-- the part that a part of the code is
 abbrev pub part_of : Part → drafts.Part
 part_of (Fixed leaf) = fixed (primitive_of leaf.now)
 part_of Moment = moment
@@ -49,9 +50,11 @@ draft_of_json d = read_by part_in d
 
 -- ---- the value of a draft
 
+-- the form that stands for the moment. (REST reference, server values.)
 abbrev pub form : Data
 form = object (member (codes ".sv") (string (codes "timestamp")) no_members)
 
+-- the value that a part is written as
 abbrev pub data_of_part : drafts.Part → Data
 data_of_part (fixed v) = data_of v
 data_of_part moment = form

@@ -68,11 +68,13 @@ of_json d = read_by primitive_in d
 
 -- ---- the value of a tree
 
+-- the value that a primitive is written as
 abbrev pub data_of : Primitive → Data
 data_of (truth b) = boolean b
 data_of (whole z) = number (of_integer z)
 data_of (words s) = string s
 
+-- an object's members, in this order
 abbrev pub members_of : List (Key × Data) → Members
 members_of [] = no_members
 members_of (m ∷ ms) = member m.0 m.1 (members_of ms)

@@ -9,6 +9,7 @@ use Rattle.json_tree.specs.Leaf.{primitive_of}
 use Rattle.json_tree.specs.declared.node.NodeKind.{NodeKind}
 use Rattle.json_tree.specs.declared.node.NodeKind.TheVariants.{Primitive, Parent}
 
+-- the tree that a node holds: a primitive at the root, or children below their keys
 abbrev pub tree_of : NodeKind → Tree
 tree_of (Primitive leaf) = lone (primitive_of leaf)
 tree_of (Parent children deep many) = graft children.items

@@ -1,4 +1,4 @@
-//! The front of a text: what mostly tells it from another, without a look at the text.
+//! The front of a text: what mostly distinguishes it from another, without a look at the text.
 ghost use Rattle.std.specs.Prelude.{◌≡◌, ◌<◌, true};
 ghost use Rattle.std.specs.Int.{w64, from_be_bytes};
 ghost use Rattle.std.specs.Ordering.{nat_cmp};

@@ -124,14 +124,14 @@ impl Child {
         Box::into_inner(self.held)
     }
 
-    // Whether the front alone tells that the key stands before a text.
+    // Whether the front alone shows that the key stands before a text.
     pub(crate) fn is_in_front_of(&self, sought: &Sought<'_>) -> bool
         ensures { result ≡ true → key_cmp self.now.0 sought.now ≡ Less }
     {
         self.front.is_before(sought.front)
     }
 
-    // Where the key stands beside a text: the fronts tell, and where they are the same, either that no other
+    // Where the key stands beside a text: the fronts show it, and where they are the same, either that no other
     // key has this front, or the key.
     pub(crate) fn compare(&self, sought: &Sought<'_>) -> Ordering
         ensures { result ≡ key_cmp self.now.0 sought.now }

@@ -1,4 +1,4 @@
-//! Where a text stands among children, as far as their fronts tell.
+//! Where a text stands among children, as far as their fronts show.
 ghost use Rattle.std.specs.Prelude.{◌+◌, ◌<◌, ◌≤◌, length};
 ghost use Rattle.json_tree.specs.Working.Search.{AreBefore};
 

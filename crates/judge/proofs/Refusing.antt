@@ -179,7 +179,7 @@ not_here ask from d ls h = find_same _ _ ls (each ls)
 pub refused_none : (ask : Ask) (from : Path) (d : ℕ) (ls : List Path) → holds (ask from) ≡ false → Refuses (granted_below ask from) (names_below ask from) d ls None → Refuses (granted_from ask from) (names_from ask from) d ls None
 refused_none ask from d ls h none = not_here ask from d ls h ∙ none
 
--- no rule stands there that does not hold: nothing is told of it
+-- no rule stands there that does not hold: the denial names none there
 pub refused_unnamed : (ask : Ask) (from : Path) (d : ℕ) (ls : List Path) (o : Option Denial) → holds (ask from) ≡ false → failing (ask from) ≡ None → Refuses (granted_below ask from) (names_below ask from) d ls o → Refuses (granted_from ask from) (names_from ask from) d ls o
 refused_unnamed ask from d ls None h is g = refused_none ask from d ls h g
 refused_unnamed ask from d ls (Some denial) h is g = (
@@ -187,7 +187,7 @@ refused_unnamed ask from d ls (Some denial) h is g = (
   g.1 ∙ (λ i. cons_option (option_map name_of (sym is i)) (names_below ask from (drop d denial.location.now))),
 )
 
--- one does: it is told
+-- one does: the denial names it
 pub refused_named : (ask : Ask) (from : Path) (d : ℕ) (ls : List Path) (all : Bool) (o p : Option Denial) (failed : Pattern × Why) → holds (ask from) ≡ false → failing (ask from) ≡ Some failed → all ≡ is_none o → all ≡ false → IsToldWith (name_of failed) o p
     → Refuses (granted_below ask from) (names_below ask from) d ls o → Refuses (granted_from ask from) (names_from ask from) d ls p
 refused_named ask from d ls all None p failed h is told fails with g = absurd (false≢true (sym fails ∙ told))

@@ -36,7 +36,7 @@ found_as P Q (Some f) up down h = record { fails = up (place_of f) (fault_of f) 
 pub first_as : (P : Path → Fault → Type 0) (f : Failure) (q : Path) (w : Fault) → place_of f ≡ q → fault_of f ≡ w → IsFirst P q w → Found P (Some f)
 first_as P f q w place fault h = subst (λ (p : Path). IsFirst P p (fault_of f)) (sym place) (subst (IsFirst P q) (sym fault) h)
 
--- ---- what is told
+-- ---- what is reported
 
 pub found_none : (P : Path → Fault → Type 0) (o : Option Failure) → o ≡ None → Found P None → Found P o
 found_none P o none h = subst (Found P) (sym none) h

@@ -41,6 +41,7 @@ rule_at q kind path = option_and_then (placed_by q kind path) (standing q.scene.
 
 -- ---- that of the code
 
+-- what a placed rule of the code stands for
 abbrev pub placed_of : code.PlacedRule → PlacedRule
 placed_of r = record {
   pattern = r.node.now.at;

@@ -53,6 +53,7 @@ writing scene proposed = record { scene = scene; request = write proposed }
 
 -- ---- that of the code
 
+-- what a scene of the code stands for
 abbrev pub scene_of : code.Scene → Scene
 scene_of s = record {
   book = s.rules.now;

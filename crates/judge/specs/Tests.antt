@@ -122,6 +122,7 @@ Failure = Path × (Pattern × Why)
 abbrev pub failure_by : Question → Path → Pattern → Option Failure
 failure_by q place pattern = if stands_at q.scene.book place pattern then option_map (λ failed. (place, failed)) (failing (answer_of q Validate place pattern)) else None
 
+-- the failures of all `.validate` rules at the place
 abbrev pub failures_at : Question → Path → List Failure
 failures_at q place = filter_map (failure_by q place) (patterns q.scene.book)
 

@@ -1,8 +1,8 @@
 //! Who may: the first location that no rule grants, and the rules that were asked for it.
 //!
-//! A walk over locations hands back whether all are granted. Where one is not, it tells the denial in a place
-//! that the caller lends: so what is handed back goes in registers, and where all are granted nothing is made of
-//! a denial.
+//! A walk over locations hands back whether all are granted. Where one is not, it reports the denial in a place
+//! that the caller provides: so what is handed back goes in registers, and where all are granted nothing is made
+//! of a denial.
 ghost use Rattle.std.specs.List.{cons_option};
 ghost use Rattle.std.specs.Prelude.{◌≡◌, ◌+◌, ◌++◌, ◌≤◌, ◌<◌, [], None, is_none, length, option_map, option_and_then, IfOk, OnOk};
 ghost use Rattle.tree_model.specs.declared.limits.TheConstants.{MAX_DEPTH as most_keys};
@@ -37,8 +37,8 @@ pub(crate) struct Denial<'a> {
     pub(crate) seen: Vec<Seen<'a>, &'a Bump>,
 }
 
-// Whether for each of these locations a rule holds properly below the spot; where not, the denial of the first
-// for which none does is told.
+// Whether for each of these locations a rule holds properly below the spot; where not, it reports the denial of the
+// first for which none does.
 #[cycle(all_granted)]
 fn all_granted_below<'a>(
     asking: &Asking<'a>,
@@ -101,8 +101,8 @@ fn all_granted_at_key<'a>(
     Ok(all)
 }
 
-/// Whether for each of these locations a rule holds at the spot or below it; where not, the denial of the first
-/// for which none does is told. Each rule on the way is asked once, also where several locations lie below it, and
+/// Whether for each of these locations a rule holds at the spot or below it; where not, it reports the denial of
+/// the first for which none does. Each rule on the way is asked once, also where several locations lie below it, and
 /// none behind the first location that is not granted.
 #[cycle(all_granted)]
 pub(crate) fn all_granted_from<'a>(
@@ -206,7 +206,7 @@ fn list<'a>(
     Ok(())
 }
 
-// Tells that a location is not granted, for which no rule was asked yet. It stays a function of its own, as the
+// Reports that a location is not granted, for which no rule was asked yet. It stays a function of its own, as the
 // next one does, since room for what they make would be made and cleared at each node.
 #[inline(never)]
 fn deny<'a>(asking: &Asking<'a>, location: &'a Path, denial: &mut Option<Denial<'a>>)
@@ -218,7 +218,7 @@ fn deny<'a>(asking: &Asking<'a>, location: &'a Path, denial: &mut Option<Denial<
     });
 }
 
-// Tells of the same denial that the rule of this pattern was asked too, and why it does not hold.
+// Adds to the report of the same denial that the rule of this pattern was asked too, and why it does not hold.
 #[inline(never)]
 fn add_rule<'a>(
     denial: &mut Option<Denial<'a>>,

@@ -1,7 +1,7 @@
 //! Validation: the first failing place.
 //!
-//! A walk hands back whether each `.validate` holds. Where one does not, it tells the failure in a place that
-//! the caller lends: so what is handed back goes in registers, and where all hold nothing is made of a failure.
+//! A walk hands back whether each `.validate` holds. Where one does not, it reports the failure in a place that
+//! the caller provides: so what is handed back goes in registers, and where all hold nothing is made of a failure.
 ghost use Rattle.std.specs.Prelude.{◌≡◌, ◌≤◌, ◌<◌, length, map, reverse, None, is_none, IfOk, OnOk};
 ghost use Rattle.tree_model.specs.declared.limits.TheConstants.{MAX_DEPTH as most_keys};
 ghost use Rattle.tree_model.specs.Tree.{IsLawful};
@@ -50,7 +50,7 @@ fn holds_here<'a>(
     }
 }
 
-// Whether each `.validate` at the spot and below it holds; where not, the first failing place is told. Where no
+// Whether each `.validate` at the spot and below it holds; where not, it reports the first failing place. Where no
 // `.validate` is stated there or below, nothing is looked at.
 #[cycle(everywhere)]
 fn everywhere<'a>(
@@ -118,8 +118,8 @@ fn everywhere_below<'a>(
     Ok(all)
 }
 
-/// Whether each `.validate` holds that touches one of these locations, at the spot or below it; where not, the
-/// first failing place is told. It is a walk in the order of paths, which goes into no branch where neither a
+/// Whether each `.validate` holds that touches one of these locations, at the spot or below it; where not, it
+/// reports the first failing place. It is a walk in the order of paths, which goes into no branch where neither a
 /// location leads nor anything was written, or where no `.validate` is stated, and behind no failing place. Each
 /// `.validate` that stands where something exists is asked once.
 #[cycle(towards)]
@@ -205,11 +205,11 @@ fn towards_below<'a>(
     Ok(all)
 }
 
-// ---- what is told of a failure
+// ---- what is reported of a failure
 //
 // The two below stay functions of their own, since room for what they make would be made and cleared at each node.
 
-// Tells that the `.validate` of the node at the spot fails, and why.
+// Reports that the `.validate` of the node at the spot fails, and why.
 #[inline(never)]
 fn tell<'a>(asking: &Asking<'a>, spot: &Spot<'a>, why: Why, failure: &mut Option<Failure<'a>>)
     ensures { IsToldHere (spot.now.rule.now.at, why) failure.new }
@@ -221,7 +221,7 @@ fn tell<'a>(asking: &Asking<'a>, spot: &Spot<'a>, why: Why, failure: &mut Option
     });
 }
 
-// Tells of the same failure the key above it.
+// Adds the key above it to the report of the same failure.
 #[inline(never)]
 fn add_key<'a>(failure: &mut Option<Failure<'a>>, key: &'a Key) -> Result<(), NoMemory>
     ensures { OnOk result (IsToldBelow key.now failure.old failure.new) }

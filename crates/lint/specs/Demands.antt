@@ -8,6 +8,7 @@ use Rattle.expr_parser.specs.Tree.{SyntaxTree, Trees, Arguments, Argument, Text,
 use Rattle.lint.specs.declared.finding.Demand.{Demand}
 use Rattle.lint.specs.declared.finding.Demand.TheVariants.{IsString, IsNumber, IsBoolean, HasChildren}
 
+-- the operator `&&`
 abbrev pub is_and : Operator → Bool
 is_and And = true
 is_and _ = false
@@ -39,6 +40,7 @@ abbrev pub asks_by_one : (List ℕ → Bool) → List ℕ → Argument → Bool
 asks_by_one test f (One x) = bytes_eq f (codes "hasChild") && is_such test (text_in x)
 asks_by_one test f (Listed xs) = bytes_eq f (codes "hasChildren") && lists_such test xs
 
+-- the same of a call with these arguments, by the first of them
 abbrev pub asks_at : (List ℕ → Bool) → List ℕ → Arguments → Bool
 asks_at test f no_argument = false
 asks_at test f (argument x xs) = asks_by_one test f x

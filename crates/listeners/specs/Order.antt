@@ -40,7 +40,7 @@ if_small z = if int_le (negsuc 2147483647) z && int_le z (pos 2147483647) then S
 abbrev pub number_of : Key → Option ℤ
 number_of key = option_and_then if_small (integer_of key)
 
--- keys that are numbers by their numbers, and before those that are none
+-- keys that are numbers by their numbers, and before those that are not numbers
 abbrev pub numbered_cmp : Option ℤ → Option ℤ → Ordering
 numbered_cmp None None = Equal
 numbered_cmp None (Some y) = Greater

@@ -169,12 +169,13 @@ joined [] = []
 joined (k ∷ []) = k
 joined (k ∷ l ∷ path) = k ++ 47 ∷ joined (l ∷ path)
 
--- the order by key alone, and the order by value alone
+-- the order by key alone
 abbrev pub is_by_key : Order → Bool
 is_by_key by_key = true
 is_by_key by_value = false
 is_by_key (by_child path) = false
 
+-- the order by value alone
 abbrev pub is_by_value : Order → Bool
 is_by_value by_key = false
 is_by_value by_value = true
@@ -199,26 +200,31 @@ asked_by query = record {
   limit_to_last = query.limit_to_last;
 }
 
--- ---- as data: what tells two of them apart
+-- ---- as data: what distinguishes two of them
 
+-- an order as data: true by key, false by value, or the path by which children are ordered
 abbrev pub order_parts : Order → Bool ⊎ Path
 order_parts by_key = inl true
 order_parts by_value = inl false
 order_parts (by_child path) = inr path
 
+-- the order that these data are
 abbrev pub of_order_parts : Bool ⊎ Path → Order
 of_order_parts (inl true) = by_key
 of_order_parts (inl false) = by_value
 of_order_parts (inr path) = by_child path
 
+-- the data of an order give it back
 pub of_order_parts-order_parts : (order : Order) → of_order_parts (order_parts order) ≡ order
 of_order_parts-order_parts by_key = refl
 of_order_parts-order_parts by_value = refl
 of_order_parts-order_parts (by_child path) = refl
 
+-- the coding of an order
 abbrev pub order_code : Coded Order
 order_code = code_by (Bool ⊎ Path) (coded⊎ coded_bool (coded_list (coded_list coded_ℕ))) order_parts of_order_parts of_order_parts-order_parts
 
+-- the coding of a query
 abbrev pub query_code : Coded Query
 query_code = code_by ((Option Order × (Option Primitive × Option Primitive)) × (Option Primitive × (Option ℕ × Option ℕ)))
     (coded× (coded× (coded_option order_code) (coded× (coded_option primitive_code) (coded_option primitive_code))) (coded× (coded_option primitive_code) (coded× (coded_option coded_ℕ) (coded_option coded_ℕ))))

@@ -57,10 +57,11 @@ is_within query c =
 abbrev pub within : Query → List Child → List Child
 within query cs = filter (is_within query) cs
 
--- how many of these come before the child, and how many after
+-- how many of these come before the child
 abbrev pub before : Option Order → Child → List Child → ℕ
 before order c cs = length (filter (λ d. is_lt (child_cmp order d c)) cs)
 
+-- how many of these come after the child
 abbrev pub after : Option Order → Child → List Child → ℕ
 after order c cs = length (filter (λ d. is_gt (child_cmp order d c)) cs)
 

@@ -38,15 +38,16 @@ with_mark l = record { id = l.id; path = l.path; query = l.query; live = l.live;
 abbrev pub cancelled : Listener → Listener
 cancelled l = record { id = l.id; path = l.path; query = l.query; live = false; marked = false }
 
--- its news was told
+-- its news was reported
 abbrev pub unmarked : Listener → Listener
 unmarked l = record { id = l.id; path = l.path; query = l.query; live = l.live; marked = false }
 
--- what is left of listeners whose news was told: the cancelled go, and no other is marked
+-- what is left of listeners whose news was reported: the cancelled go, and no other is marked
 abbrev pub taken : List Listener → List Listener
 taken listeners = map unmarked (filter (λ l. l.live) listeners)
 
--- ---- as data: what tells two listeners apart
+-- ---- as data: what distinguishes two listeners
 
+-- the coding of a listener
 abbrev pub listener_code : Coded Listener
 listener_code = code_by ((List ℕ × Path) × (Option Query × (Bool × Bool))) (coded× (coded× (coded_list coded_ℕ) (coded_list (coded_list coded_ℕ))) (coded× (coded_option query_code) (coded× coded_bool coded_bool))) (λ l. ((l.id, l.path), (l.query, (l.live, l.marked)))) (λ t. record { id = t.0.0; path = t.0.1; query = t.1.0; live = t.1.1.0; marked = t.1.1.1 }) (λ _. refl)

@@ -195,7 +195,7 @@ impl Table {
         cancel_at(&mut self.held, index);
     }
 
-    /// The news of all listeners was told: the cancelled go, and no other is marked. It takes no memory.
+    /// The news of all listeners was reported: the cancelled go, and no other is marked. It takes no memory.
     pub fn take_marked(&mut self)
         ensures { self.new ≡ taken self.old }
     {

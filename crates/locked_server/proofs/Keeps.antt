@@ -1,4 +1,4 @@
--- Each kind of step keeps the rule of a hall's table, and tells the seat what it should.
+-- Each kind of step keeps the rule of a hall's table, and shows the seat what it should.
 use Rattle.std.proofs.Common.{◌≡◌, ◌≢◌, ℕ, zero, suc, ◌+◌, ◌%◌, ◌^◌, ◌<◌, ◌≤◌, Bool, true, false, cond, eqb, List, [], ◌∷◌, ◌++◌, length, get_or, set, refl, ap, ap₂, sym, subst, ◌∙◌, arith, length-append, append-nil, inl, inr, ⊎_elim, eq-eqb, ne_eqb, le_refl}
 use Rattle.std.proofs.lemmas.List.{set-get_or}
 use Rattle.std.specs.Prelude.{IsTrue, Option, Some}

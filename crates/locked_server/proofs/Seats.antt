@@ -1,4 +1,4 @@
--- What steps tell, in the words of the calls of a hall and its seats.
+-- What steps show, in the words of the calls of a hall and its seats.
 use Rattle.std.proofs.Common.{◌≡◌, ℕ, ◌^◌, ◌<◌, Bool, true, ◌||◌, List, [], ◌∷◌, ◌++◌, refl, ap, ap₂, sym, subst, ◌∙◌}
 use Rattle.std.specs.Prelude.{IsTrue, Option}
 use mathlib.Core.List.{IsPrefix}

@@ -51,8 +51,9 @@ Met k other l = IsPrefix k.seen l.seen × IsPrefix other.seen l.seen × Shuffled
 abbrev pub Closes : Known → State → Type 0
 Closes k left = (history : List Entry) × Leaves k.opening history left × IsPrefix k.seen history × (calls_of k.numbers history ≡ own k)
 
--- ---- as data: what tells two of these apart
+-- ---- as data: what distinguishes two of these
 
+-- the coding of what a seat knows
 abbrev pub known_code : Coded Known
 known_code = code_by (TableId × (State × (List ℕ × List Entry))) (coded× table_id_coded (coded× state_code (coded× (coded_list coded_ℕ) (coded_list entry.the_row.coded)))) (λ k. (k.hall, (k.opening, (k.numbers, k.seen))))
     (λ t. record { hall = t.0; opening = t.1.0; numbers = t.1.1.0; seen = t.1.1.1 }) (λ _. refl)

@@ -1,4 +1,4 @@
-//! The rule of a hall's table, and what each step on it tells the seat that makes it.
+//! The rule of a hall's table, and what each step on it shows to the seat that makes it.
 //!
 //! Word 0 is the length of the history, word 1 the next ticket. The slot has the database, in the state that the
 //! history leaves, but while it is out with the seat whose ticket is word 0.

@@ -163,7 +163,7 @@ neither_so : (a b : Bool) → a ≡ false → b ≡ false → (a || b) ≡ false
 neither_so true b h g = h
 neither_so false b h g = g
 
--- a piece that is neither empty nor a lawful key is a segment that is none
+-- a piece that is neither empty nor a lawful key is an invalid segment
 pub unlawful_at : (ps : List Key) (n : ℕ) (piece : Key) → IsPieceAt ps n piece → (length piece == 0) ≡ false → is_key piece ≡ false → list_all is_key (named ps) ≡ false
 unlawful_at ps n piece at full bad =
     let test : Key → Bool = λ p. (length p == 0) || is_key p in

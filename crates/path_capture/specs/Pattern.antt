@@ -14,6 +14,7 @@ pub data PatternPart : Type 0 where
   literal : Key → PatternPart
   capture : List ℕ → PatternPart
 
+-- the parts of a pattern, from the root on. (Reference, `$location` variables.)
 abbrev pub Pattern : Type 0
 Pattern = List PatternPart
 
@@ -40,22 +41,27 @@ pattern_cmp p q = path_cmp (map part_text p) (map part_text q)
 abbrev pub printed_pattern : Pattern → List ℕ
 printed_pattern p = printed (map part_text p)
 
--- ---- as data: what tells two patterns apart
+-- ---- as data: what distinguishes two patterns
 
+-- what a part of a pattern holds: a key, or the name of a capture
 abbrev pub Side : Type 0
 Side = Key ⊎ List ℕ
 
+-- what this part holds
 abbrev pub side_of : PatternPart → Side
 side_of (literal key) = inl key
 side_of (capture name) = inr name
 
+-- the part that holds this
 abbrev pub of_side : Side → PatternPart
 of_side (inl key) = literal key
 of_side (inr name) = capture name
 
+-- each part comes back from what it holds
 pub of_side-side_of : (part : PatternPart) → of_side (side_of part) ≡ part
 of_side-side_of (literal key) = refl
 of_side-side_of (capture name) = refl
 
+-- a pattern is distinguished by what its parts hold
 abbrev pub pattern_code : Coded Pattern
 pattern_code = coded_list (code_by Side (coded⊎ (coded_list coded_ℕ) (coded_list coded_ℕ)) side_of of_side of_side-side_of)

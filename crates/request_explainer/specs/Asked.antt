@@ -42,9 +42,11 @@ abbrev pub is_yes : Outcome → Bool
 is_yes Yes = true
 is_yes _ = false
 
+-- the rule that was asked holds
 abbrev pub does_hold : AskedRule → Bool
 does_hold asked = is_yes asked.rule.answer
 
+-- the rule that was asked does not hold
 abbrev pub does_fail : AskedRule → Bool
 does_fail asked = not (does_hold asked)
 
@@ -81,5 +83,6 @@ asked_to_write scene proposed locations verdict =
 
 -- ---- those of the code
 
+-- what an asked rule of the code stands for
 abbrev pub asked_of : code.AskedRule → AskedRule
 asked_of a = record { kind = a.kind; place = a.place.now; rule = placed_of a.rule; looks = map look_of a.looks.items }

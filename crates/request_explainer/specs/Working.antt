@@ -13,12 +13,13 @@ use Rattle.request_explainer.specs.Asked.{AskedRule, existing, asked_at, does_ho
 use Rattle.request_explainer.specs.declared.asked.Inquiry as code
 use Rattle.request_explainer.specs.declared.asked.Inquiry.TheVariants as inquiries
 
--- the question that is asked, and the kind of its rules
+-- the question that is asked
 abbrev pub question_of : Scene → code.Inquiry → Question
 question_of scene (inquiries.Read asked) = reading scene (asked_of asked.now)
 question_of scene (inquiries.Write coming) = writing scene (tree_or_null coming.now)
 question_of scene (inquiries.Validate coming) = writing scene (tree_or_null coming.now)
 
+-- the kind of the rules that are asked
 abbrev pub kind_of : code.Inquiry → Kind
 kind_of (inquiries.Read asked) = Read
 kind_of (inquiries.Write coming) = Write

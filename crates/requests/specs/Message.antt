@@ -172,6 +172,7 @@ wanted_by verbs.RunNext d = Ok (Step RunNext)
 abbrev pub verb_in : Form → Data → Option Verb
 verb_in form d = option_and_then (verb_of form) (text_at (codes "do") d)
 
+-- the request that a value is in this form, or its fault
 abbrev pub request_of : Form → Data → Result Request MessageFault
 request_of form d =
     unless_fault (or_fault BadRequest (verb_in form d)) (λ verb.

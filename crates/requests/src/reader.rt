@@ -37,7 +37,7 @@ impl MessageReader {
 
     /// What a message asks, or its first fault: as [`crate::read_request`]. It is one pass over the bytes,
     /// in which what is wanted takes memory, and the list of each object's members. Where that does not
-    /// lead to members, since the message is none, since it has what `trees` leaves to the reader of JSON, or
+    /// lead to members, since the message is invalid, since it has what `trees` leaves to the reader of JSON, or
     /// for want of memory, the bytes are read once more, as a value.
     #[tactic(auto, unfolding(crate::specs::Message::asks))]
     pub fn read_request(&mut self, bytes: &[u8], form: Form) -> Result<Request, MessageFault>

@@ -114,7 +114,7 @@ fn id_in(source: Source<'_>) -> Result<ListenerId, MessageFault>
     Ok(id)
 }
 
-// The same, None where it is none.
+// The same, None where it is not an id.
 fn id_at(source: Source<'_>) -> Option<ListenerId>
     ensures { result ≡ id_at (source_data source.entry) }
 {

@@ -31,6 +31,7 @@ abbrev pub answer_text : Result Book RulesFault → List ℕ
 answer_text (Ok book) = accepted_text (length (rules book))
 answer_text (Err fault) = rules_fault_text fault
 
+-- its status: done where the file is accepted, else refused
 abbrev pub answer_status : Result Book RulesFault → ℕ
 answer_status (Ok book) = done
 answer_status (Err fault) = refused
@@ -95,9 +96,9 @@ HasServed known options before after status =
     ((status ≡ refused) × IsRefused known options before after)
     ⊎ (((status ≡ done) × IsOpened known options before after) ⊎ ((status ≡ failed) ⊎ (status ≡ no_memory)))
 
--- ---- what is told of the streams
+-- ---- what is reported of the streams
 
--- the input that was left before the command, what its source tells after it, what was written before it and after it, and whether the output has failed
+-- the input that was left before the command, what its source reports after it, what was written before it and after it, and whether the output has failed
 pub record Streams : Type 0 where
   pub left : Option (List ℕ)
   pub source : SourceTells

@@ -35,7 +35,7 @@ abbrev pub told_tokens : Option (List ℕ) → Option Tokens
 told_tokens None = Some []
 told_tokens (Some bytes) = tokens_in bytes
 
--- what was read of the tokens is what they are; want of memory tells nothing
+-- what was read of the tokens is what they are; want of memory says nothing
 abbrev pub TellsTokens : Option Tokens → Result Tokens TokensFault → Type 0
 TellsTokens told (Ok tokens) = told ≡ Some tokens
 TellsTokens told (Err NoTokens) = told ≡ None

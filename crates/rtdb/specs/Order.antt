@@ -13,6 +13,7 @@ use Rattle.rtdb.specs.declared.wanted.TheConstants.{MAX_PORT, MAX_WORKERS, MAX_R
 
 -- ---- the program as `clap` knows it
 
+-- the same, but that it must be given
 abbrev pub required : Rule → Rule
 required rule = record rule { required = true }
 
@@ -70,6 +71,7 @@ pub data Wanted : Type 0 where
 abbrev pub number_of : Text → ℕ
 number_of text = digits_value 10 (without_leading_plus text)
 
+-- the number under this name, if one is given
 abbrev pub number_at : Text → List Row → Option ℕ
 number_at name rows = option_map number_of (one_of name rows)
 
@@ -96,6 +98,7 @@ pub record AreOrder (words : List Text) (order : Wanted) : Type 0 where
   pub faultless : fault_of the_program words ≡ []
   pub found : wanted (subcommand_of the_program words) ≡ Some order
 
+-- what the options of the code stand for
 abbrev pub served_by : ServeOptions → Served
 served_by options = record {
   rules_file = options.rules_file.now;
@@ -106,11 +109,13 @@ served_by options = record {
   rounds = options.rounds;
 }
 
+-- what an order of the code stands for
 abbrev pub wanted_by : Order → Wanted
 wanted_by (Check name) = checks name.now
 wanted_by Run = runs
 wanted_by (Serve options) = serves (served_by options)
 
+-- The words are this order of the code.
 abbrev pub Orders : List Text → Order → Type 0
 Orders words order = AreOrder words (wanted_by order)
 

@@ -69,7 +69,7 @@ pub fn command<
         ⊎ ((result ≡ no_memory) × Appends (W.written output.old.sink) (W.written output.new.sink) []) }
     // An output that failed is reported.
     ensures broken { W.failed output.new.sink ≡ true → result ≡ failed }
-    // Words that are none are refused, and nothing is printed.
+    // Words that are not an order are refused, and nothing is printed.
     ensures fault { fault_of the_program (map string_bytes words.now) ≢ []
         → ((result ≡ bad_line) ⊎ (result ≡ no_memory)) × Appends (W.written output.old.sink) (W.written output.new.sink) [] }
 {

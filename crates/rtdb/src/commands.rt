@@ -508,7 +508,7 @@ fn each_fault_has_its_line_and_its_status(rt: HostRuntime) -> Result<(), Fail> {
     Ok(())
 }
 
-// What a server's file with a text comes to, where that is not as it is to be told.
+// What a server's file with a text comes to, where that is not what is to be reported.
 fn other_file<R: Net<Listener = TcpListener, Stream = TcpStream> + Threads + Wait + Clock + Sync>(
     rt: &R,
     alloc: Global,

@@ -121,7 +121,7 @@ fn refuse<W: Sink, E: io::Write>(
     }
 }
 
-// The line that tells a fault, and the status that goes with it.
+// The line that reports a fault, and the status that goes with it.
 fn refusal(alloc: Global, fault: &HeaderFault) -> Result<Told, NoMemory>
     ensures line { IfOk result (λ refusal. refusal.line.items ≡ as_line (header_fault_text fault.now)) }
     ensures status { IfOk result (λ refusal. refusal.status ≡ refused) }

@@ -198,7 +198,7 @@ cancelled_stays fate ls i one at dead =
         some_is x y e = cc
     set_same (l ∷ ls) (suc i) one at = ap (λ (ks : List Listener). l ∷ ks) (set_same ls i one at)
 
--- ---- what is told on the way
+-- ---- what is reported on the way
 
 here_is : (ls : List Listener) (i : ℕ) (l : Listener) → slice_get ls i ≡ Some l → drop i ls ≡ l ∷ drop (suc i) ls
 here_is [] i l at = cc

@@ -24,7 +24,8 @@ pub record IsPlanFor (old : State) (now session : ℕ) (event : Event) (reply : 
   pub planned : plan ≡ record { before = old; moment = now; session = session; event = event }
   pub answered : (outcome old now session event).reply ≡ reply_of reply
 
--- ---- as data: what tells two plans apart
+-- ---- as data: what distinguishes two plans
 
+-- the coding of a plan
 abbrev pub planned_code : Coded Planned
 planned_code = code_by (State × (Event × (ℕ × ℕ))) (coded× state_code (coded× event_code (coded× coded_ℕ coded_ℕ))) (λ p. (p.before, (p.event, (p.moment, p.session)))) (λ t. record { before = t.0; event = t.1.0; moment = t.1.1.0; session = t.1.1.1 }) (λ _. refl)

@@ -939,7 +939,7 @@ impl Machine {
         open.unlisten(id)
     }
 
-    // Makes what was decided of an open session's listeners, whose news was told.
+    // Makes what was decided of an open session's listeners, whose news was reported.
     fn hand_out(&mut self, session: u64, decisions: &[Decision])
         requires { is_open self.old session ≡ true }
         ensures { self.new ≡ with_session self.old session (identity_of self.old session) (taken (settled 0 decisions.now (listeners_of self.old session))) }

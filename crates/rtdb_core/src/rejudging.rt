@@ -78,7 +78,7 @@ pub(crate) fn decide_own<'a, 'p>(
     Ok(decisions)
 }
 
-// What becomes of the listeners of a session. Most sessions have none, so this is made one with what goes through
+// What becomes of the listeners of a session. Most sessions have none, so this is inlined into what goes through
 // them.
 #[inline(always)]
 fn decide_each<'s>(

@@ -82,7 +82,7 @@ impl Session {
     }
 
     /// Listens to one thing more, or changes nothing. That takes memory. Whoever calls it has asked whether the id is
-    /// free and there is room: an id in use would be told as want of memory.
+    /// free and there is room: an id in use would be reported as want of memory.
     pub(crate) fn listen(
         &mut self,
         id: ListenerId,
@@ -168,7 +168,7 @@ impl Session {
         }
     }
 
-    /// The news of its listeners was told. It takes no memory.
+    /// The news of its listeners was reported. It takes no memory.
     pub(crate) fn take_marked(&mut self)
         ensures { self.new ≡ with_listeners self.old (taken self.old.listeners) }
     {

@@ -1,4 +1,4 @@
-//! What a poll tells: the news of a session's listeners, once what was decided of them is made.
+//! What a poll reports: the news of a session's listeners, once what was decided of them is made.
 ghost use Rattle.std.specs.Prelude.{◌≡◌, option_map, IfOk};
 ghost use Rattle.arena_snapshot.specs.View.{node_or_null};
 ghost use Rattle.listeners.specs.Listener.{seen};
@@ -14,7 +14,7 @@ use listeners::{Listener, Table};
 use rtdb_model::{Sight, Tiding, Tidings};
 use std::alloc::Global;
 
-/// What is told of these listeners, once what was decided of them is made: a list in the arena.
+/// What a poll reports of these listeners, once what was decided of them is made: a list in the arena.
 pub(crate) fn tidings_of<'a>(
     alloc: Global,
     arena: &'a Bump,
@@ -37,7 +37,7 @@ pub(crate) fn tidings_of<'a>(
     Ok(Tidings::of_vec(tidings))
 }
 
-// What is told of a listener.
+// What a poll reports of a listener.
 fn told<'a>(
     selections: &mut Selections<'a>,
     listener: &Listener<'a>,

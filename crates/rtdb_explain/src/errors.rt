@@ -10,7 +10,7 @@ use expr_tokens::Operator;
 use json_tree::NoMemory;
 use std::alloc::Global;
 
-/// Appends why a part is an error that is made of parts which are none.
+/// Appends why a part is an error that is made of parts which are not errors.
 pub(crate) fn put_reason(
     alloc: Global,
     looks: &[Look<'_>],

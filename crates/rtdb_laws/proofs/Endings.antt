@@ -55,7 +55,7 @@ few_along n id old (call ∷ calls) [] new run few = absurd run
 abbrev Ended : List ℕ → List Listener → Type 0
 Ended id ls = (ls ≡ []) ⊎ ((l : Listener) × (ls ≡ l ∷ []) × (l.live ≡ false) × (l.id ≡ id))
 
--- what a step tells and leaves, once the listener ends
+-- what a step reports and leaves, once the listener ends
 abbrev EndedBy : List ℕ → List Notice → List Listener → Type 0
 EndedBy id notices ls = ((notices ≡ []) × Ended id ls) ⊎ ((notices ≡ gone id ∷ []) × (ls ≡ []))
 
@@ -95,7 +95,7 @@ ended_after : (n : ℕ) (id : List ℕ) (t : Taken) → is_anew n id t.call t.re
 ended_after n id t quiet goes (inl none) = let h = none_after n id t quiet goes none in inl (h.0, inl h.1)
 ended_after n id t quiet goes (inr one) = one_after n id t one.0 one.1 one.3 (λ f fades. fades.dead one.0 one.2) (λ _. one.2) quiet goes
 
--- ---- what is told of it
+-- ---- what is reported of it
 
 told_none : (n : ℕ) (id : List ℕ) (old : State) (calls : List Call) (replies : List Reply) (new : State) → Run old calls replies new → under n id old ≡ [] → told_from n id calls replies ≡ []
 told_none n id old [] replies new run none = refl

@@ -67,7 +67,7 @@ filter_both {X} p q (x ∷ xs) = by_cases (p x) (q x) refl refl (filter_both p q
     by_cases false true e f h = simp (e, f) h
     by_cases false false e f h = simp (e, f) h
 
--- what is told of a listener is told under its id
+-- what is reported of a listener is reported under its id
 about_one : (tree : Tree) (id : List ℕ) (l : Listener) (ns : List Notice) → about id (cons_option (told tree l) ns) ≡ cond (bytes_eq id l.id) (cons_option (told tree l) (about id ns)) (about id ns)
 about_one tree id l ns = by_cases l.live l.marked (bytes_eq id l.id) refl
   where
@@ -201,7 +201,7 @@ module _ (old : State) (call : Call) (id : List ℕ) where
   only_all_goes : (n : ℕ) (mid : State) → mid.sessions ≡ old.sessions → OutcomeGoes (record { reply = Done; after = all_rejudged old.tree call.now mid }) n
   only_all_goes n mid same = all_goes n Done mid (all_rejudged old.tree call.now mid) same (alike_itself (all_rejudged old.tree call.now mid)) refl
 
-  -- the step judges nothing and tells nothing, and nothing that listeners hang on is another
+  -- the step judges nothing and reports nothing, and nothing that listeners hang on is another
   alike_goes : (n : ℕ) (o : Outcome) → AreAlike o.after old → judges n (taken_by o) ≡ false → notices_of o.reply ≡ [] → OutcomeGoes o n
   alike_goes n o alike quiet silent = quiet_goes n o quiet (ap (λ (ns : List Notice). cond (eqb call.session n) (about id ns) []) silent ∙ either_empty (eqb call.session n)) (alike.listeners n)
 

@@ -148,7 +148,7 @@ kept_judged old now session (OnCancel path) all one kept = absurd kept
 kept_judged old now session Leave all one kept = absurd kept
 kept_judged old now session RunNext all one kept = absurd kept
 
--- a step at an event that is told by an equation
+-- a step at an event that an equation gives
 at_event : (old new : State) (call : Call) (reply : Reply) → Step old call.now call.session call.event reply new → (event : Event) → call.event ≡ event → Step old call.now call.session event reply new
 at_event old new call reply s event is = subst (λ (e : Event). Step old call.now call.session e reply new) is s
 

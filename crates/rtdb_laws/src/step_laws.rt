@@ -30,7 +30,7 @@ pub fn no_step_answers_spent()
 /// refuse is done exactly where none of these stops it; a read is answered by what stands there, and
 /// writes are made together, exactly where nothing else stops them, the rules grant and validate them,
 /// and the tree has room; where the rules do not, they are denied with the names that a denial owes; a
-/// poll tells its news and leaves those that are granted; what is to be written when a session goes is
+/// poll reports its news and leaves those that are granted; what is to be written when a session goes is
 /// judged where it is established, and again where it is run; rules are deployed exactly where an
 /// administrator asks for it on a session that is open and not leaving; nothing else changes.
 /// (Reference, `.read`, `.write` and `.validate`; the other refusals and deployments are this project's

@@ -22,6 +22,7 @@ pub data Fate : Type 0 where
   skipped : Refusal → Fate
   dropped : Fate
 
+-- the action still waits to be run
 abbrev pub is_waiting : Fate → Bool
 is_waiting waits = true
 is_waiting taken_back = false
@@ -53,6 +54,7 @@ run_so Empty es = es
 run_so Applied es = first_ended_by made es
 run_so (Skipped refusal) es = first_ended_by (skipped refusal) es
 
+-- what the reply makes of these actions: if an action was run, the first that waits is run so
 abbrev pub run_in : Reply → List Established → List Established
 run_in Done es = es
 run_in (Value tree) es = es

@@ -1,4 +1,4 @@
--- What a session is told of a listener, and for how long.
+-- What is reported to a session of a listener, and for how long.
 use Rattle.std.specs.Prelude.{◌≡◌, ◌==◌, ℕ, ◌⊎◌, ◌&&◌, List, [], ◌∷◌, ◌++◌, All, filter, filter_map, Bool, true, false, if◌then◌else◌, bytes_eq, Option, None, Some, is_some}
 use Rattle.tree_model.specs.Tree.{Tree}
 use Rattle.listeners.specs.Table.{Listener}
@@ -20,8 +20,9 @@ IsStep t = Step t.old t.call.now t.call.session t.call.event t.reply t.new
 abbrev pub under : ℕ → List ℕ → State → List Listener
 under session id state = filter (λ l. bytes_eq id l.id) (listeners_of state session)
 
--- ---- what is told
+-- ---- what is reported
 
+-- the notices in a reply: those of its news, if it is news
 abbrev pub notices_of : Reply → List Notice
 notices_of Done = []
 notices_of (Value tree) = []
@@ -30,7 +31,7 @@ notices_of (Refused refusal) = []
 notices_of (Ran ran) = []
 notices_of (Closed dropped) = []
 
--- what the reply to this call tells the session of the id
+-- what the reply to this call reports to the session under the id
 abbrev pub told_of : ℕ → List ℕ → Call → Reply → List Notice
 told_of session id call reply = if call.session == session then filter (λ notice. bytes_eq id notice.id) (notices_of reply) else []
 
@@ -38,7 +39,7 @@ told_of session id call reply = if call.session == session then filter (λ notic
 abbrev pub is_anew : ℕ → List ℕ → Call → Reply → Bool
 is_anew session id call reply = is_accepted reply && (is_some (asked_under id call.event) && call.session == session)
 
--- what the replies to these calls tell the session of the id, until it listens under it anew
+-- what the replies to these calls report to the session under the id, until it listens under it anew
 abbrev pub told_from : ℕ → List ℕ → List Call → List Reply → List Notice
 told_from session id [] replies = []
 told_from session id (call ∷ calls) [] = []
@@ -48,14 +49,14 @@ told_from session id (call ∷ calls) (reply ∷ replies) = if is_anew session i
 abbrev pub IsLastWord : List ℕ → List Notice → Type 0
 IsLastWord id notices = (notices ≡ []) ⊎ (notices ≡ gone id ∷ [])
 
--- By this step the listener of the session under this id is cancelled, if it is not gone already; and by this step and the calls after it nothing more is told of it, but once that it is gone, until the session listens under the id anew. (Guide "Read and Write Data", listeners that are cancelled.)
+-- By this step the listener of the session under this id is cancelled, if it is not gone already; and by this step and the calls after it nothing more is reported of it, but once that it is gone, until the session listens under the id anew. (Guide "Read and Write Data", listeners that are cancelled.)
 pub record IsEnd (session : ℕ) (id : List ℕ) (t : Taken) (later : List Call) (replies : List Reply) : Type 0 where
   pub cancelled : All (λ l. l.live ≡ false) (under session id t.new)
   pub last : IsLastWord id (told_of session id t.call t.reply ++ told_from session id later replies)
 
 -- ---- what is handed out
 
--- a selection that is told, with the id under which it is
+-- the selection that a notice reports, if it reports one, with the id of its listener
 abbrev pub selection_told : Notice → Option (List ℕ × Option Tree)
 selection_told notice = tree_told notice.what
   where

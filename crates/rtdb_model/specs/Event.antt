@@ -1,4 +1,4 @@
--- Events as data: what tells two events apart.
+-- Events as data: what distinguishes two events.
 use Rattle.std.specs.Prelude.{◌≡◌, ℕ, List, Option, None, Some, refl}
 use Rattle.std.proofs.Common.{inl, inr, ◌⊎◌}
 use Rattle.std.specs.Coded.{Coded, code_by, coded×, coded⊎, coded_ℕ, coded_list, coded_option}
@@ -15,10 +15,11 @@ use Rattle.rtdb_model.specs.declared.event.Event.TheVariants.{Open, Close, SignI
 abbrev Asked : Type 0
 Asked = Path × Option Query
 
--- what an event that has anything has: an identity, a read, a write, a path, writes, an id and a read, an id, or rules; and for when the session goes a write, a path, writes, or a path
+-- what an event for when the session goes has: a write, a path, writes, or a path
 abbrev LaterParts : Type 0
 LaterParts = Write ⊎ (Path ⊎ (List Write ⊎ Path))
 
+-- what an event that has anything has: an identity, a read, a write, a path, writes, an id and a read, an id, rules, or what one for when the session goes has
 abbrev Parts : Type 0
 Parts = Identity ⊎ (Asked ⊎ (Write ⊎ (Path ⊎ (List Write ⊎ ((List ℕ × Asked) ⊎ (List ℕ ⊎ (Book ⊎ LaterParts)))))))
 
@@ -26,12 +27,15 @@ Parts = Identity ⊎ (Asked ⊎ (Write ⊎ (Path ⊎ (List Write ⊎ ((List ℕ 
 abbrev Data : Type 0
 Data = Option (Option (Option (Option (Option (Option (Option Parts))))))
 
+-- the data of an event that has this
 abbrev of_parts : Parts → Data
 of_parts parts = Some (Some (Some (Some (Some (Some (Some parts))))))
 
+-- the data of an event for when the session goes that has this
 abbrev of_later : LaterParts → Data
 of_later parts = of_parts (inr (inr (inr (inr (inr (inr (inr (inr parts))))))))
 
+-- an event as data
 abbrev data_of : Event → Data
 data_of Open = None
 data_of Close = Some None
@@ -53,12 +57,14 @@ data_of (OnRemove path) = of_later (inr (inl path))
 data_of (OnUpdate writes) = of_later (inr (inr (inl writes)))
 data_of (OnCancel path) = of_later (inr (inr (inr path)))
 
+-- the event for when the session goes that has this
 abbrev event_of_later : LaterParts → Event
 event_of_later (inl write) = OnSet write
 event_of_later (inr (inl path)) = OnRemove path
 event_of_later (inr (inr (inl writes))) = OnUpdate writes
 event_of_later (inr (inr (inr path))) = OnCancel path
 
+-- the event that has this
 abbrev event_of_parts : Parts → Event
 event_of_parts (inl who) = SignIn who
 event_of_parts (inr (inl read)) = Get read.0 read.1
@@ -70,6 +76,7 @@ event_of_parts (inr (inr (inr (inr (inr (inr (inl id))))))) = Unlisten id
 event_of_parts (inr (inr (inr (inr (inr (inr (inr (inl rules)))))))) = Deploy rules
 event_of_parts (inr (inr (inr (inr (inr (inr (inr (inr later)))))))) = event_of_later later
 
+-- the event that these data are
 abbrev event_of : Data → Event
 event_of None = Open
 event_of (Some None) = Close
@@ -80,6 +87,7 @@ event_of (Some (Some (Some (Some (Some None))))) = Leave
 event_of (Some (Some (Some (Some (Some (Some None)))))) = RunNext
 event_of (Some (Some (Some (Some (Some (Some (Some parts))))))) = event_of_parts parts
 
+-- the data of an event give it back
 pub event_of-data_of : (event : Event) → event_of (data_of event) ≡ event
 event_of-data_of Open = refl
 event_of-data_of Close = refl
@@ -101,17 +109,22 @@ event_of-data_of (OnRemove path) = refl
 event_of-data_of (OnUpdate writes) = refl
 event_of-data_of (OnCancel path) = refl
 
+-- the coding of a path
 abbrev path_code : Coded Path
 path_code = coded_list (coded_list coded_ℕ)
 
+-- the coding of a write
 abbrev write_code : Coded Write
 write_code = coded× path_code draft_code
 
+-- the coding of what a read asks for
 abbrev asked_code : Coded Asked
 asked_code = coded× path_code (coded_option query_code)
 
+-- the coding of what an event has
 abbrev parts_code : Coded Parts
 parts_code = coded⊎ identity_code (coded⊎ asked_code (coded⊎ write_code (coded⊎ path_code (coded⊎ (coded_list write_code) (coded⊎ (coded× (coded_list coded_ℕ) asked_code) (coded⊎ (coded_list coded_ℕ) (coded⊎ book_code (coded⊎ write_code (coded⊎ path_code (coded⊎ (coded_list write_code) path_code))))))))))
 
+-- the coding of an event
 abbrev pub event_code : Coded Event
 event_code = code_by Data (coded_option (coded_option (coded_option (coded_option (coded_option (coded_option (coded_option parts_code))))))) data_of event_of event_of-data_of

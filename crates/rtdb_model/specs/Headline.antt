@@ -287,6 +287,7 @@ FailsFirst before now session writes at pattern why = IsFirstFailing (scene_at b
 abbrev pub Fits : State → ℕ → List Write → Type 0
 Fits before now writes = count (tree_with before now writes) ≤ MAX_LOCATIONS
 
+-- the tree that these writes propose at this moment has more locations than may be
 abbrev pub Overflows : State → ℕ → List Write → Type 0
 Overflows before now writes = MAX_LOCATIONS < count (tree_with before now writes)
 

@@ -31,10 +31,11 @@ hears scene path query = is_granted (reading scene (asked_for query)) Read path
 abbrev pub selected_at : Tree → Path → Option Query → Tree
 selected_at tree path query = selection (sub tree path) query
 
--- the same primitives stand at the same paths
+-- the same primitive stands at the same path
 abbrev pub same_entry : Path × Primitive → Path × Primitive → Bool
 same_entry e f = is_eq (path_cmp e.0 f.0) && is_eq (primitive_cmp e.1 f.1)
 
+-- the same primitives stand at the same paths of both trees
 abbrev pub same_tree : Tree → Tree → Bool
 same_tree old new = pointwise same_entry (map_of.entries old) (map_of.entries new)
 

@@ -40,6 +40,7 @@ pub record State : Type 0 where
 abbrev pub opening : Book → Tree → State
 opening rules tree = record { tree = tree; rules = rules; sessions = map_of.empty }
 
+-- the session is open
 abbrev pub is_open : State → ℕ → Bool
 is_open state session = map_of.contains_key state.sessions session
 
@@ -47,6 +48,7 @@ is_open state session = map_of.contains_key state.sessions session
 abbrev pub identity_of : State → ℕ → Option Identity
 identity_of state session = option_and_then (λ (one : Session). one.identity) (map_of.get state.sessions session)
 
+-- what this session listens to: nothing where there is none
 abbrev pub listeners_in : Option Session → List Listener
 listeners_in None = []
 listeners_in (Some one) = one.listeners
@@ -55,6 +57,7 @@ listeners_in (Some one) = one.listeners
 abbrev pub listeners_of : State → ℕ → List Listener
 listeners_of state session = listeners_in (map_of.get state.sessions session)
 
+-- this session, or a fresh one where there is none
 abbrev pub session_or_fresh : Option Session → Session
 session_or_fresh None = fresh
 session_or_fresh (Some one) = one
@@ -92,13 +95,16 @@ scene_for state now who = record { book = state.rules; who = who; moment = now; 
 abbrev pub scene_at : State → ℕ → ℕ → Scene
 scene_at state now session = scene_for state now (identity_of state session)
 
--- ---- as data: what tells two states apart
+-- ---- as data: what distinguishes two states
 
+-- the coding of an action
 abbrev pub action_code : Coded Action
 action_code = map_of.code (coded_list (coded_list coded_ℕ)) draft_code
 
+-- the coding of a session
 abbrev pub session_code : Coded Session
 session_code = code_by (Option Identity × (List Listener × (List Action × Bool))) (coded× (coded_option identity_code) (coded× (coded_list listener_code) (coded× (coded_list action_code) coded_bool))) (λ s. (s.identity, (s.listeners, (s.actions, s.leaving)))) (λ t. record { identity = t.0; listeners = t.1.0; actions = t.1.1.0; leaving = t.1.1.1 }) (λ _. refl)
 
+-- the coding of a state
 abbrev pub state_code : Coded State
 state_code = code_by (Tree × (Book × Sessions)) (coded× tree_code (coded× book_code (map_of.code coded_ℕ session_code))) (λ s. (s.tree, (s.rules, s.sessions))) (λ t. record { tree = t.0; rules = t.1.0; sessions = t.1.1 }) (λ _. refl)

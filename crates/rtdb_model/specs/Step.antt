@@ -82,6 +82,7 @@ read_refusal old now session path query = denial (read_verdict (scene_at old now
 abbrev pub opened : State → ℕ → State
 opened old session = record old { sessions = map_of.insert old.sessions session fresh }
 
+-- a session is opened, if it is not open yet and there is room for one more
 abbrev pub opens : State → ℕ → Outcome
 opens old session =
     if is_open old session then refused old SessionOpen
@@ -92,6 +93,7 @@ opens old session =
 abbrev pub closed : State → ℕ → State
 closed old session = record old { sessions = map_of.remove old.sessions session }
 
+-- an open session is closed, and answered with how many actions it still had
 abbrev pub closes : State → ℕ → Outcome
 closes old session =
     if not (is_open old session) then refused old NoSession
@@ -109,6 +111,7 @@ own_again old now session who = map (judged_again old.tree old now who) (listene
 abbrev pub signed : State → ℕ → ℕ → Option Identity → State
 signed old now session who = with_session old session who (own_again old now session who)
 
+-- this person, or nobody, is signed in on an open session
 abbrev pub signs : State → ℕ → ℕ → Option Identity → Outcome
 signs old now session who =
     if not (is_open old session) then refused old NoSession
@@ -118,6 +121,7 @@ signs old now session who =
 abbrev pub value_at : State → Path → Option Query → Outcome
 value_at old path query = record { reply = Value (non_null (selected_at old.tree path query)); after = old }
 
+-- a read on an open session is judged, and answered with what it selects
 abbrev pub gets : State → ℕ → ℕ → Path → Option Query → Outcome
 gets old now session path query =
     if not (is_open old session) then refused old NoSession
@@ -131,6 +135,7 @@ written_to old now writes = all_rejudged old.tree now (record old { tree = tree_
 abbrev pub makes : State → ℕ → ℕ → List Write → Outcome
 makes old now session writes = unless_refused old (write_refusal old now session writes) (record { reply = Done; after = written_to old now writes })
 
+-- one write on an open session is judged and made
 abbrev pub sets : State → ℕ → ℕ → Write → Outcome
 sets old now session write =
     if not (is_open old session) then refused old NoSession
@@ -140,6 +145,7 @@ sets old now session write =
 abbrev pub removal : Path → Write
 removal path = (path, null_draft)
 
+-- writes on an open session are judged and made together, if there are any and no two overlap
 abbrev pub updates : State → ℕ → ℕ → List Write → Outcome
 updates old now session writes =
     if not (is_open old session) then refused old NoSession
@@ -159,23 +165,25 @@ listens old now session id path query =
     else if nat_le MAX_LISTENERS (length (listeners_of old session)) then refused old TooManyListeners
     else unless_refused old (read_refusal old now session path query) (record { reply = Value (non_null (selected_at old.tree path query)); after = listening old session id path query })
 
+-- an open session no longer listens under this id
 abbrev pub unlistens : State → ℕ → List ℕ → Outcome
 unlistens old session id =
     if not (is_open old session) then refused old NoSession
     else if not (has_id id (listeners_of old session)) then refused old NoListener
     else record { reply = Done; after = with_session old session (identity_of old session) (without_id id (listeners_of old session)) }
 
--- what is told of a listener: where it is cancelled that it is gone, where there is news for it what it selects now
+-- what is reported of a listener: where it is cancelled that it is gone, where there is news for it what it selects now
 abbrev pub told : Tree → Listener → Option Notice
 told tree l =
     if not l.live then Some (gone l.id)
     else if l.marked then Some (selected_now l.id (non_null (selected_at tree l.path l.query)))
     else None
 
+-- the news of these listeners, in their order
 abbrev pub news_of : Tree → List Listener → List Notice
 news_of tree listeners = filter_map (told tree) listeners
 
--- the session's listeners are judged again, and then their news is told: the cancelled go, and no other is marked
+-- the session's listeners are judged again, and then their news is reported: the cancelled go, and no other is marked
 abbrev pub polls : State → ℕ → ℕ → Outcome
 polls old now session =
     if not (is_open old session) then refused old NoSession
@@ -223,11 +231,13 @@ keeps old now session writes =
     if nat_le MAX_ACTIONS (length (actions_of old session)) then refused old TooManyActions
     else unless_refused old (denial (verdict_on old now session writes)) (record { reply = Done; after = with_action old session writes })
 
+-- one write on an open session is kept for when the session goes
 abbrev pub keeps_one : State → ℕ → ℕ → Write → Outcome
 keeps_one old now session write =
     if not (is_open old session) then refused old NoSession
     else keeps old now session (write ∷ [])
 
+-- writes on an open session are kept as one action for when the session goes, if there are any and no two overlap
 abbrev pub keeps_update : State → ℕ → ℕ → List Write → Outcome
 keeps_update old now session writes =
     if not (is_open old session) then refused old NoSession
@@ -243,6 +253,7 @@ is_below path action = list_all (is_prefix path) (map_of.keys action)
 abbrev pub without_actions : State → ℕ → Path → State
 without_actions old session path = with_actions old session (filter (λ action. not (is_below path action)) (actions_of old session))
 
+-- an open session takes back its actions that write only at the path or below it
 abbrev pub cancels : State → ℕ → Path → Outcome
 cancels old session path =
     if not (is_open old session) then refused old NoSession
@@ -252,6 +263,7 @@ cancels old session path =
 abbrev pub departing : State → ℕ → State
 departing old session = record old { sessions = map_of.insert old.sessions session (record (session_in old session) { leaving = true }) }
 
+-- an open session begins to leave
 abbrev pub leaves : State → ℕ → Outcome
 leaves old session =
     if not (is_open old session) then refused old NoSession
@@ -267,6 +279,7 @@ abbrev pub runs_first : State → ℕ → ℕ → List Action → Outcome
 runs_first old now session [] = record { reply = Ran Empty; after = old }
 runs_first old now session (action ∷ others) = run_by old now session (writes_of action) others (write_refusal old now session (writes_of action))
 
+-- the first action of an open session that is leaving is run
 abbrev pub runs : State → ℕ → ℕ → Outcome
 runs old now session =
     if not (is_open old session) then refused old NoSession

@@ -1,11 +1,11 @@
-//! News: what a poll tells of a session's listeners.
+//! News: what a poll reports of a session's listeners.
 ghost use Rattle.std.specs.Prelude.{◌≡◌};
 
 use json_tree::Node;
 use listeners::ListenerId;
 use std::marker::Model;
 
-/// What is told of a listener.
+/// What a poll reports of a listener.
 #[derive(Debug, Drop)]
 pub enum What {
     /// It is cancelled, since its read is no longer granted, and it is listened to no more.
@@ -14,7 +14,7 @@ pub enum What {
     Now(Option<Node>),
 }
 
-/// What is told under the id of a listener.
+/// What a poll reports under the id of a listener.
 #[derive(Debug, Drop)]
 pub struct Notice {
     pub id: ListenerId,

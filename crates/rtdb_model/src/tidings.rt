@@ -1,4 +1,4 @@
-//! Tidings: what a poll tells, borrowed from the tree and from the listeners.
+//! Tidings: what a poll reports, borrowed from the tree and from the listeners.
 ghost use Rattle.std.specs.Prelude.{◌≡◌, map, IfOk};
 ghost use Rattle.rtdb_model.specs.Tidings.{what_of, notice_of};
 
@@ -10,7 +10,7 @@ use listeners::ListenerId;
 use std::alloc::Global;
 use std::marker::Model;
 
-/// What is told of a listener, borrowed.
+/// What a poll reports of a listener, borrowed.
 #[derive(Drop)]
 pub enum Sight<'a> {
     /// It is cancelled, since its read is no longer granted, and it is listened to no more.
@@ -19,14 +19,14 @@ pub enum Sight<'a> {
     Now(Option<View<'a>>),
 }
 
-/// What is told under the id of a listener, borrowed.
+/// What a poll reports under the id of a listener, borrowed.
 #[derive(Drop)]
 pub struct Tiding<'a> {
     pub id: &'a ListenerId,
     pub what: Sight<'a>,
 }
 
-/// What a poll tells, in the order in which the listeners began: no tree of it is copied. Contracts see the
+/// What a poll reports, in the order in which the listeners began: no tree of it is copied. Contracts see the
 /// notices that it is.
 #[derive(Drop)]
 pub struct Tidings<'a> {
@@ -55,7 +55,7 @@ impl<'a> Tidings<'a> {
         Tidings { held }
     }
 
-    /// What is told of each listener of which anything is. It takes no memory.
+    /// What the poll reports of each listener of which it reports anything. It takes no memory.
     pub fn as_slice(&self) -> &[Tiding<'a>]
         ensures { map notice_of result.now ≡ self.now }
     {

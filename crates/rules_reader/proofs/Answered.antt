@@ -84,7 +84,7 @@ refused_never : (p : Place) (ns : List (List ℕ)) (x : SyntaxTree) (d : TypeFau
 refused_never p ns x d (inl f) e = first_never f e
 refused_never p ns x d (inr s) e = let n = sym s.3 ∙ e in cc
 
--- a rule, or why the text is none
+-- a rule, or why the text is not one
 abbrev Ruled : Pattern → Kind → List ℕ → Type 0
 Ruled at kind text = ((c : Checked) × SpellsRule at kind text c) ⊎ ((fault : RuleFault) × IsNoRule at kind text fault)
 
@@ -111,7 +111,7 @@ module _ (at : Pattern) (kind : Kind) (text : List ℕ) where
 
 -- ---- the rules of a file
 
--- all are rules, or there is a first that is none
+-- all are rules, or there is a first that is not one
 abbrev AllRuled : Pattern → List (RuleOf (List ℕ)) → Type 0
 AllRuled at rs = AllByRecursion (IsRule at) rs ⊎ ((p : Pattern) × (kind : Kind) × (fault : RuleFault) × IsFirstBad at rs p kind fault)
 

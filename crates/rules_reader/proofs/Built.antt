@@ -81,7 +81,7 @@ built_push at done rest more all name d c step part is_obj text spelled counted 
   ascending = rest_ascends rest more name d step b.ascending;
 }
 
--- a rule below a part that is none is the first of all
+-- the first invalid rule below a part is the first of all
 pub built_blamed : (at : Pattern) (done : List (Part × Point)) (rest more all : Members) (name : PartText) (d : Data) (fault : RulesFault) → rest ≡ member name d more → is_part name ≡ true → is_object d ≡ true → Built at done rest all → Blames (at ++ name ∷ []) (rules (texts_of d)) fault → Blames at (rules_below (parts_of all)) fault
 built_blamed at done rest more all name d fault step part is_obj b h =
     subst (λ ps. Blames at (rules_below ps) fault) (ap (λ ps. b.front ++ ps) (sym (ap parts_of step ∙ taken_parts name d more part is_obj)) ∙ b.whole)

@@ -111,12 +111,12 @@ one_object at (Some t) (Some c) (Some d) h g =
 one_book : (at : Pattern) (t : TextBook) (a b : Book) → IsSpelled at t a → IsSpelled at t b → a ≡ b
 one_book at t a b h g = same_tree a b (λ q. one_object (at ++ q) (get t q) (get a q) (get b q) (h q) (g q))
 
--- ---- the first that is none
+-- ---- the first that is invalid
 
 not_both_rules : (at : Pattern) (rule : RuleOf (List ℕ)) (fault : RuleFault) → IsRule at rule → IsNoRule (at ++ rule.0) rule.1 rule.2 fault → ⊥
 not_both_rules at rule fault is why = no_cause (at ++ rule.0) rule.1 rule.2 is.0 fault is.1 (cause (at ++ rule.0) rule.1 rule.2 fault why)
 
--- the first that is none stands behind as many as another first
+-- the first that is invalid stands behind as many as another first
 same_first : (at : Pattern) (before others : List (RuleOf (List ℕ))) (r s : RuleOf (List ℕ)) (after rest : List (RuleOf (List ℕ))) (f g : RuleFault)
     → before ++ r ∷ after ≡ others ++ s ∷ rest → AllByRecursion (IsRule at) before → AllByRecursion (IsRule at) others → IsNoRule (at ++ r.0) r.1 r.2 f → IsNoRule (at ++ s.0) s.1 s.2 g → r ≡ s
 same_first at [] [] r s after rest f g e h k x y = cc
@@ -124,7 +124,7 @@ same_first at [] (b ∷ bs) r s after rest f g e h k x y = let same : b ≡ r = 
 same_first at (b ∷ bs) [] r s after rest f g e h k x y = let same : b ≡ s = cc in absurd (not_both_rules at s g (subst (IsRule at) same h.0) y)
 same_first at (b ∷ bs) (d ∷ ds) r s after rest f g e h k x y = same_first at bs ds r s after rest f g (cc) h.1 k.1 x y
 
--- among rules none is a first that is none
+-- where all texts are rules, so is any one of them
 all_rules : (at : Pattern) (before : List (RuleOf (List ℕ))) (r : RuleOf (List ℕ)) (after : List (RuleOf (List ℕ))) → AllByRecursion (IsRule at) (before ++ r ∷ after) → IsRule at r
 all_rules at [] r after h = h.0
 all_rules at (b ∷ bs) r after h = all_rules at bs r after h.1

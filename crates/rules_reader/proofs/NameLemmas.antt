@@ -40,7 +40,7 @@ pub key_is_part : (text : PartText) → is_key text ≡ true → is_part text �
 unfolding is_part
 key_is_part text h = ap (λ b. b || is_capture text) h
 
--- what a text gives that is a part, and one that is none
+-- what a text gives that is a part, and one that is not a part
 pub some_part : (text made : PartText) → made ≡ text → is_part text ≡ true → Some made ≡ cond (is_part text) (Some text) None
 some_part text made e h = ap (λ t. Some t) e ∙ ap (λ b. cond b (Some text) None) (sym h)
 

@@ -153,7 +153,7 @@ lawful_push at ts t h g =
     (subst (AllByRecursion (IsRule at)) (sym (rules_below-cons t []))
     (lawful_append at (map (lifted t.0) (rules t.1)) [] (lifted_rules at t.0 (rules t.1) g) tt)))
 
--- ---- the first that is none
+-- ---- the first that is invalid
 
 module _ (at : Pattern) (pattern : Pattern) (kind : Kind) (fault : RuleFault) where
   bad_front : (rs ss : List (RuleOf (List ℕ))) → IsFirstBad at rs pattern kind fault → IsFirstBad at (rs ++ ss) pattern kind fault
@@ -213,13 +213,13 @@ blames_lifted at k rs TooManyRules b = b
 blames_lifted at k rs (BadRule rule why) b = bad_lifted at (texts rule.pattern) rule.kind why k rs b
 blames_lifted at k rs NoMemory b = tt
 
--- a rule below a part that is none, where all below the parts before are rules
+-- the first invalid rule below a part, where all below the parts before are valid
 pub blames_below : (at : Pattern) (ts us : List (PartText × TextBook)) (t : PartText × TextBook) (fault : RulesFault) → AllByRecursion (IsRule at) (rules_below ts) → Blames (at ++ t.0 ∷ []) (rules t.1) fault → Blames at (rules_below (ts ++ t ∷ us)) fault
 blames_below at ts us t fault h b =
     subst (λ rs. Blames at rs fault) (sym (rules_below-append ts (t ∷ us) ∙ ap (λ rs. rules_below ts ++ rs) (rules_below-cons t us)))
     (blames_behind at (rules_below ts) (map (lifted t.0) (rules t.1) ++ rules_below us) fault h (blames_front at (map (lifted t.0) (rules t.1)) (rules_below us) fault (blames_lifted at t.0 (rules t.1) fault b)))
 
--- the one text of a rule is none
+-- the one text of a rule is invalid
 pub only_bad : (at pattern : Pattern) (kind : Kind) (text : List ℕ) (fault : RuleFault) → pattern ≡ at → IsNoRule at kind text fault → IsFirstBad at (stated [] kind (Some text)) pattern kind fault
 only_bad at pattern kind text fault same why = record {
   before = [];

@@ -47,6 +47,7 @@ stated_for Validate s = s.validate
 abbrev pub RuleOf : Type 0 → Type 0
 RuleOf A = Pattern × Kind × A
 
+-- the rules of this kind at the pattern: the one that is stated, or none
 abbrev pub stated : {A : Type 0} → Pattern → Kind → Option A → List (RuleOf A)
 stated p kind None = []
 stated p kind (Some rule) = (p, kind, rule) ∷ []
@@ -71,10 +72,12 @@ states test b = list_any (λ e. test e.1) (map_of.entries b)
 abbrev pub stated_count : {A : Type 0} → Stated A → ℕ
 stated_count s = length (stated [] Read s.read) + (length (stated [] Validate s.validate) + length (stated [] Write s.write))
 
--- ---- as data: what tells two books apart
+-- ---- as data: what distinguishes two books
 
+-- the coding of what an object states, by that of its rules
 abbrev pub stated_code : {A : Type 0} → Coded A → Coded (Stated A)
 stated_code {A} code = code_by (Option A × (Option A × Option A)) (coded× (coded_option code) (coded× (coded_option code) (coded_option code))) (λ s. (s.read, (s.write, s.validate))) (λ t. record { read = t.0; write = t.1.0; validate = t.1.1 }) (λ _. refl)
 
+-- the coding of a book
 abbrev pub book_code : Coded Book
 book_code = map_of.code (coded_list (coded_list coded_ℕ)) (stated_code checked_code)

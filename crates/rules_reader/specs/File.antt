@@ -68,9 +68,11 @@ texts_of d = map_of.from_entries (map (λ o. (o.0, rule_texts o.1)) (objects d))
 abbrev pub is_string : Data → Bool
 is_string d = is_some (as_str d)
 
+-- an object
 abbrev pub is_object : Data → Bool
 is_object d = is_some (as_object d)
 
+-- the items are all texts
 abbrev pub are_strings : Items → Bool
 are_strings no_items = true
 are_strings (item d ds) = is_string d && are_strings ds
@@ -95,6 +97,7 @@ is_sound_member at name d =
     if bytes_eq name (codes ".indexOn") then is_index d else
     (is_part name && is_object d && nat_lt (length at) MAX_DEPTH && not (is_capture name && list_any (bytes_eq name) at))
 
+-- the members whose names are those of captures
 abbrev pub captures_among : List (List ℕ × Data) → List (List ℕ × Data)
 captures_among members = filter (λ m. is_capture m.0) members
 

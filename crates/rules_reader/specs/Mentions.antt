@@ -14,7 +14,7 @@ variable_text Data = codes "data"
 variable_text NewData = codes "newData"
 
 abbrev mutual
-  -- a part of the expression is this variable: what is behind a dot, and the name of a call, are none
+  -- a part of the expression is this variable: what is behind a dot, and the name of a call, are not variables
   pub mentions : List ℕ → SyntaxTree → Bool
   mentions v (Number n) = false
   mentions v (Text s) = false

@@ -19,6 +19,7 @@ pub record Point : Type 0 where
   pub at : Pattern
   pub book : Book
 
+-- the coding of a point
 abbrev pub point_code : Coded Point
 point_code = code_by (Pattern × Book) (coded× (coded_list (coded_list coded_ℕ)) book_code) (λ p. (p.at, p.book)) (λ t. record { at = t.0; book = t.1 }) (λ _. refl)
 
@@ -48,6 +49,7 @@ text_of part = part_text (part_of part)
 abbrev pub books : List (Part × Point) → List (PartText × Book)
 books children = map (λ c. (text_of c.0, c.1.book)) children
 
+-- the texts of the parts of a node's children
 abbrev pub names : List (Part × Point) → List PartText
 names children = map (λ c. text_of c.0) children
 

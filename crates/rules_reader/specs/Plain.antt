@@ -12,9 +12,11 @@ pub data Piece : Type 0 where
 
 -- ---- how a piece is written
 
+-- the byte of a double quote
 abbrev pub quote : ℕ
 quote = 34
 
+-- the byte of a backslash
 abbrev pub backslash : ℕ
 backslash = 92
 
@@ -107,6 +109,7 @@ becomes (block_comment _) byte = 32
 becomes (unclosed_comment _) byte = byte
 becomes (single _) byte = byte
 
+-- the plain text of a piece: what becomes of each of its bytes
 abbrev pub plain_piece : Piece → List ℕ
 plain_piece piece = map (becomes piece) (written piece)
 

@@ -33,6 +33,7 @@ pub data Reason : Type 0 where
   bad_rule : (at : Pattern) (kind : Kind) (fault : RuleFault) → Reason
   no_memory : Reason
 
+-- what a refusal with this fault says
 abbrev pub reason : RulesFault → Reason
 reason BadRulesJson = no_json
 reason (BadRulesShape p) = bad_shape (texts p)
@@ -48,7 +49,7 @@ Names faulty TooManyRules = ⊥
 Names faulty (BadRule rule fault) = ⊥
 Names faulty NoMemory = ⊤
 
--- a refusal for the first of some rules below `at` that is none, or for want of memory
+-- a refusal for the first of some rules below `at` that is invalid, or for want of memory
 abbrev pub Blames : Pattern → List (RuleOf (List ℕ)) → RulesFault → Type 0
 Blames at rules BadRulesJson = ⊥
 Blames at rules (BadRulesShape p) = ⊥

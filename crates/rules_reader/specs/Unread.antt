@@ -12,11 +12,13 @@ use Rattle.rules_reader.specs.declared.rule_text.Unread.{Unread}
 use Rattle.rules_reader.specs.declared.rule_text.Unread.TheVariants.{NoRule, NoMemory}
 use Rattle.rules_reader.specs.Spelled.{IsNoRule}
 
+-- what a fault in the syntax of a text comes to: the text is no rule, or memory was refused
 abbrev pub of_expr_fault : ExprFault → Unread
 of_expr_fault (text_fault.BadExpression byte) = NoRule (BadExpression byte)
 of_expr_fault (text_fault.NotInProfile excluded) = NoRule (NotInProfile (Sign excluded))
 of_expr_fault text_fault.NoMemory = NoMemory
 
+-- what a fault in the types of an expression comes to: its text is no rule, or memory was refused
 abbrev pub of_type_fault : TypeFault → Unread
 of_type_fault (type_fault.NotInProfile name) = NoRule (NotInProfile (Name name))
 of_type_fault type_fault.TypeError = NoRule TypeError

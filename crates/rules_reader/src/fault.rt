@@ -23,7 +23,7 @@ pub enum RulesFault {
     /// There are over 4,096 rules.
     #[error("more than 4096 rules")]
     TooManyRules,
-    /// The text of a rule is none, the first such by pattern, and at one pattern `.read`, `.validate`,
+    /// The text of a rule is invalid, the first such by pattern, and at one pattern `.read`, `.validate`,
     /// `.write`.
     #[error("{} is no rule: {}", .0.kind.name(), .1)]
     BadRule(RuleName, RuleFault),

@@ -46,7 +46,7 @@ fn has_no_control(piece: &[u8]) -> bool
     piece.iter().all(|byte| b' ' <= *byte)
 }
 
-/// Whether a file is its own plain text, as far as its bytes tell: it has no slash, and no ASCII
+/// Whether a file is its own plain text, as far as its bytes show: it has no slash, and no ASCII
 /// control character below a space. It takes no memory. It looks at each byte of any file, and ends
 /// at none before the last, so that many can be looked at at once.
 pub(crate) fn is_plain(file: &[u8]) -> bool

@@ -55,7 +55,7 @@ pub(crate) fn rule(
 /// Why a text was not read as a rule.
 #[derive(Debug, Drop)]
 pub enum Unread {
-    /// It is none where it stands.
+    /// It is not a rule where it stands.
     NoRule(RuleFault),
     NoMemory,
 }
@@ -97,8 +97,8 @@ impl From<TypeFault> for Unread {
     }
 }
 
-/// The rule of a kind that a text is at a pattern, or why it is none: what [`compile`](crate::compile) makes of each
-/// rule of a file. Time and memory for the tokens of the text and its expression.
+/// The rule of a kind that a text is at a pattern, or why it is not one: what [`compile`](crate::compile) makes of
+/// each rule of a file. Time and memory for the tokens of the text and its expression.
 pub fn read_rule(
     alloc: Global,
     text: &str,

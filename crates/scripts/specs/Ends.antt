@@ -6,17 +6,17 @@ use Rattle.scripts.specs.declared.script.ScriptEnd.TheVariants as ends
 use Rattle.scripts.specs.Lines.{cut, non_blank}
 use Rattle.scripts.specs.Said.{Phase, refused, IsWritten, Said}
 
--- what is left of an input, where its source tells it; where it does not, some rest
+-- what is left of an input, where its source reports it; where it does not, some rest
 abbrev pub IsRest : Option (List ℕ) → List ℕ → Type 0
 IsRest left rest = IfSome left (λ known. rest ≡ known)
 
--- what a source tells: what is left of the input, where it knows that, whether a read has failed, and how many were made
+-- what a source reports: what is left of the input, where it knows that, whether a read has failed, and how many were made
 pub record SourceTells : Type 0 where
   pub left : Option (List ℕ)
   pub failed : Bool
   pub reads : ℕ
 
--- By the end of a script, what was written, where these bytes of the input were taken, the source tells this, and it is known whether the sink has failed.
+-- By the end of a script, what was written, where these bytes of the input were taken, the source reports this, and it is known whether the sink has failed.
 abbrev pub Ends : ScriptEnd → List ℕ → SourceTells → Bool → List ℕ → Type 0
 -- the whole input is read, and what is written is said to it
 Ends ends.Finished taken source sink_failed out = IsAtEnd source.left × (phase : Phase) × (phase ≢ refused) × Said taken phase out

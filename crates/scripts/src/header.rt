@@ -30,7 +30,7 @@ pub enum HeaderFault {
     Rules(RulesFault),
     /// A key or a primitive of the opening tree is not lawful, or one stands too deep.
     Data(MessageFault),
-    /// What stands under `tokens` is none.
+    /// What stands under `tokens` is invalid.
     BadTokens,
     /// The opening tree has more locations than may be.
     TreeFull,
@@ -79,7 +79,7 @@ pub fn read_header(alloc: Global, line: &[u8]) -> Result<Opened, HeaderFault>
     let rules = compile(alloc, header.rules.as_bytes())?;
     // No object of theirs has two captures.
     rules.root();
-    // They are read before the value is taken apart, and their fault is told behind that of its tree.
+    // They are read before the value is taken apart, and their fault is reported behind that of its tree.
     let tokens = opening_tokens(alloc, header.tokens);
     open(alloc, rules, opening_of(value), tokens)
 }

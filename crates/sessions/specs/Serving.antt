@@ -19,6 +19,7 @@ pub record World : Type 0 where
   pub moments : Option (List ℕ)
   pub traffic : Traffic
 
+-- the world of these parts
 abbrev pub world : Known → Option (List ℕ) → Traffic → World
 world seat moments traffic = record { seat = seat; moments = moments; traffic = traffic }
 

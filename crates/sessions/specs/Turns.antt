@@ -20,6 +20,7 @@ pub record Deeds : Type 0 where
   pub calls : List Answered
   pub texts : List (List ℕ)
 
+-- nothing was done
 abbrev pub nothing : Deeds
 nothing = record { moments = []; calls = []; texts = [] }
 

@@ -157,7 +157,7 @@ fn cause_of(error: &Error) -> Cause {
     }
 }
 
-// The bytes of a message; pings and pongs are none.
+// The bytes of a message; pings and pongs are not messages.
 fn bytes_of(alloc: Global, message: &Message) -> Result<Option<Vec<u8>>, AllocError> {
     match message {
         Message::Text(text) => Ok(Some(text.as_str().as_bytes().to_vec(alloc)?)),

@@ -117,7 +117,8 @@ tokens_in bytes = option_and_then tokens_of (option_and_then top (json_of bytes)
 unfoldable pub identity_named : Tokens → List ℕ → Option Identity
 identity_named tokens secret = option_map (λ t. t.1) (find (λ t. bytes_eq secret t.0) tokens)
 
--- ---- as data: what tells two of them apart
+-- ---- as data: what distinguishes two of them
 
+-- tokens are distinguished by their secrets and identities, in their order
 abbrev pub tokens_code : Coded Tokens
 tokens_code = coded_list (coded× (coded_list coded_ℕ) identity_code)

@@ -41,23 +41,27 @@ pub record IsLawfulDraft (d : Draft) : Type 0 where
 pub record IsFixed (d : Draft) : Type 0 where
   pub alone : (p : Path) → get d p ≢ Some moment
 
--- ---- as data: what tells two drafts apart
+-- ---- as data: what distinguishes two drafts
 
 -- the primitive of a part, which a moment has none of
 abbrev pub primitive_in : Part → Option Primitive
 primitive_in (fixed v) = Some v
 primitive_in moment = None
 
+-- the part that has this primitive, a moment where there is none
 abbrev pub of_primitive : Option Primitive → Part
 of_primitive (Some v) = fixed v
 of_primitive None = moment
 
+-- each part comes back from its primitive
 pub of_primitive-in : (p : Part) → of_primitive (primitive_in p) ≡ p
 of_primitive-in (fixed v) = refl
 of_primitive-in moment = refl
 
+-- a part is distinguished by its primitive
 abbrev pub part_code : Coded Part
 part_code = code_by (Option Primitive) (coded_option primitive_code) primitive_in of_primitive of_primitive-in
 
+-- a draft is distinguished by its paths and the parts at them
 abbrev pub draft_code : Coded Draft
 draft_code = map_of.code (coded_list (coded_list coded_ℕ)) part_code

@@ -7,6 +7,7 @@ use Rattle.std.specs.Ordering.{nat_cmp}
 use Rattle.std.specs.Cmp.Lexicographic.{slice_cmp}
 use Rattle.tree_model.specs.declared.limits.TheConstants.{MAX_KEY_BYTES}
 
+-- the bytes of a key
 abbrev pub Key : Type 0
 Key = List ℕ
 

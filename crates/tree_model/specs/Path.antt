@@ -26,6 +26,7 @@ strip_prefix (k ∷ p) (l ∷ q) = if bytes_eq k l then strip_prefix p q else No
 abbrev pub is_prefix : Path → Path → Bool
 is_prefix p q = is_some (strip_prefix p q)
 
+-- the path of the root
 abbrev pub is_root : Path → Bool
 is_root [] = true
 is_root (k ∷ p) = false

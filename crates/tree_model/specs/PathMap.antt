@@ -29,6 +29,7 @@ sub t p = map_of.from_entries (filter_map (below p) (map_of.entries t))
 unfoldable pub exists : {X : Type 0} → PathMap X → Path → Bool
 exists t p = list_any (is_prefix p) (map_of.keys t)
 
+-- the greatest of some numbers, 0 where there is none
 abbrev pub greatest : List ℕ → ℕ
 greatest [] = 0
 greatest (n ∷ ns) = max n (greatest ns)

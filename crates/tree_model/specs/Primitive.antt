@@ -25,25 +25,30 @@ is_primitive (truth b) = true
 is_primitive (whole z) = is_whole z
 is_primitive (words s) = is_text s
 
--- ---- as data: what tells two primitives apart
+-- ---- as data: what distinguishes two primitives
 
+-- what a primitive holds: a boolean, a whole number, or the bytes of a text
 abbrev pub Parts : Type 0
 Parts = Bool ⊎ (ℤ ⊎ List ℕ)
 
+-- what this primitive holds
 abbrev pub parts_of : Primitive → Parts
 parts_of (truth b) = inl b
 parts_of (whole z) = inr (inl z)
 parts_of (words s) = inr (inr s)
 
+-- the primitive that holds this
 abbrev pub of_parts : Parts → Primitive
 of_parts (inl b) = truth b
 of_parts (inr (inl z)) = whole z
 of_parts (inr (inr s)) = words s
 
+-- each primitive comes back from what it holds
 pub of_parts-parts_of : (v : Primitive) → of_parts (parts_of v) ≡ v
 of_parts-parts_of (truth b) = refl
 of_parts-parts_of (whole z) = refl
 of_parts-parts_of (words s) = refl
 
+-- a primitive is distinguished by what it holds
 abbrev pub primitive_code : Coded Primitive
 primitive_code = code_by Parts (coded⊎ coded_bool (coded⊎ coded_ℤ (coded_list coded_ℕ))) parts_of of_parts of_parts-parts_of

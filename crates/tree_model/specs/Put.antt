@@ -13,6 +13,7 @@ use Rattle.tree_model.specs.Tree.{Tree, IsLawful}
 abbrev pub Put : Type 0
 Put = Path × Tree
 
+-- where it is put
 abbrev pub location : {Y : Type 0} → Path × Y → Path
 location w = w.0
 

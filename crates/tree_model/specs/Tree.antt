@@ -40,6 +40,7 @@ count t = set_of.len (existing t)
 
 -- ---- children
 
+-- the key with which a path begins; the root's path has none
 abbrev pub first_key : Path → Option Key
 first_key [] = None
 first_key (k ∷ p) = Some k
@@ -60,7 +61,8 @@ pub record IsLawful (t : Tree) : Type 0 where
   pub paths : (p : Path) → IsSome (get t p) → is_path p ≡ true
   pub primitives : (p : Path) (v : Primitive) → get t p ≡ Some v → is_primitive v ≡ true
 
--- ---- as data: what tells two trees apart
+-- ---- as data: what distinguishes two trees
 
+-- a tree is distinguished by its paths and the primitives at them
 abbrev pub tree_code : Coded Tree
 tree_code = map_of.code (coded_list (coded_list coded_ℕ)) primitive_code

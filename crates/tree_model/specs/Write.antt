@@ -7,6 +7,7 @@ use Rattle.tree_model.specs.Tree.{Tree}
 use Rattle.tree_model.specs.Put.{Put, location, written, merged}
 use Rattle.tree_model.specs.Draft.{Draft, tree_at, as_draft, IsFixed, IsLawfulDraft}
 
+-- a draft that is put at a location
 abbrev pub Write : Type 0
 Write = Path × Draft
 
@@ -14,6 +15,7 @@ Write = Path × Draft
 abbrev pub made : ℕ → Write → Put
 made now w = (location w, tree_at now (written w))
 
+-- what several writes put in a step at this moment
 abbrev pub all_made : ℕ → List Write → List Put
 all_made now ws = map (made now) ws
 

@@ -8,7 +8,7 @@ ghost use Rattle.tree_model.specs.Tree.{null, count, child_keys, IsTree};
 ghost use Rattle.tree_model.specs.Put.{overlaps, merged};
 ghost use Rattle.tree_model.specs.Worked.{tree_of_pairs};
 
-/// In `{"a":{"b":1}}` there are the locations `/`, `/a` and `/a/b`, and no others: `/a/c` is none.
+/// In `{"a":{"b":1}}` there are the locations `/`, `/a` and `/a/b`, and no others: `/a/c` does not exist.
 pub fn a_location_exists_at_or_above_a_primitive()
     ensures root { let t = tree_of_pairs ((codes "a" ∷ codes "b" ∷ [], whole (pos 1)) ∷ []) in exists t [] ≡ true }
     ensures above { let t = tree_of_pairs ((codes "a" ∷ codes "b" ∷ [], whole (pos 1)) ∷ []) in exists t (codes "a" ∷ []) ≡ true }

@@ -47,6 +47,7 @@ share g k t = shared g k (non_null t)
 abbrev pub total : (Key → Tree → ℕ) → Tree → ℕ
 total g t = sum_by (λ (c : Key × Tree). g c.0 c.1) (entries_of t)
 
+-- 1 where it is so, else 0
 abbrev pub one_if : Bool → ℕ
 one_if b = if b then 1 else 0
 

@@ -31,6 +31,7 @@ child_after t (Some o) = unwrap_or o null
 abbrev next : Bool → Tree → List Put → List Put
 next b u ws = cons_option (option_map (λ (r : Path). (r, u)) (cond b (Some []) None)) ws
 
+-- without a change at a key nothing is put below it
 no_below : (k : Key) (ps : List Change) → find key_cmp k ps ≡ None → puts_below k (map write_of ps) ≡ []
 no_below k [] h = refl
 no_below k (p ∷ ps) h =
@@ -39,6 +40,7 @@ no_below k (p ∷ ps) h =
       | false ↦ λ g. no_below k ps g
     ] (ap (λ b. cond b (Some p.1) (find key_cmp k ps)) (sym (is_eq-slice_cmp k p.0)) ∙ h)
 
+-- below a key stands what its change puts there, or what stood there
 below_changes : (k : Key) (t : Tree) (ps : List Change) → is_sorted key_cmp ps ≡ true → merged t (puts_below k (map write_of ps)) ≡ child_after t (find key_cmp k ps)
 below_changes k t [] s = merged-none t
 below_changes k t (p ∷ ps) s =
@@ -48,6 +50,7 @@ below_changes k t (p ∷ ps) s =
     ] (find_beyond k p ps s)
     ∙ ap (λ b. child_after t (cond b (Some p.1) (find key_cmp k ps))) (sym (is_eq-slice_cmp k p.0))
 
+-- no change is put at the root
 none_at_root : (ps : List Change) → list_any is_at_root (map write_of ps) ≡ false
 none_at_root [] = refl
 none_at_root (p ∷ ps) = none_at_root ps
@@ -56,6 +59,7 @@ none_at_root (p ∷ ps) = none_at_root ps
 pub sub-changed : (t : Tree) (ps : List Change) (k : Key) → is_sorted key_cmp ps ≡ true → sub (changed t ps) (k ∷ []) ≡ child_after (sub t (k ∷ [])) (find key_cmp k ps)
 sub-changed t ps k s = sub-merged t (map write_of ps) k (none_at_root ps) ∙ below_changes k (sub t (k ∷ [])) ps s
 
+-- no change puts a primitive at the root
 none_placed : (ps : List Change) → placed_at (map write_of ps) [] ≡ None
 none_placed [] = refl
 none_placed (p ∷ ps) = none_placed ps
@@ -80,6 +84,7 @@ find_behind k o p ps s found =
       | false ↦ λ _. found
     ] (find_beyond k p ps s)
 
+-- the first change is that of its key
 pub find_first : (p : Change) (ps : List Change) → find key_cmp p.0 (p ∷ ps) ≡ Some p.1
 find_first p ps = ap (λ b. cond b (Some p.1) (find key_cmp p.0 ps)) (is_eq-slice_cmp p.0 p.0 ∙ bytes_eq-self p.0)
 
@@ -98,6 +103,7 @@ found_some k o (p ∷ ps) h found =
       | false ↦ λ is. found_some k o ps h.1 is
     ] (ap (λ b. cond b (Some p.1) (find key_cmp k ps)) (sym (is_eq-slice_cmp k p.0)) ∙ found)
 
+-- a child that is missing is null, and the other way round
 pub non_null-unwrap : (o : Option Tree) → o ≢ Some null → non_null (unwrap_or o null) ≡ o
 non_null-unwrap None h = non_null-null
 non_null-unwrap (Some u) h = non_null-some u (λ e. h (ap Some e))

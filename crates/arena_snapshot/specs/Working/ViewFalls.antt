@@ -24,6 +24,7 @@ child_le : (o : Option Tree) (n : ℕ) → ((u : Tree) → o ≡ Some u → dept
 child_le None n h = omega arith
 child_le (Some u) n h = let le = h u refl in omega arith
 
+-- changes weigh no more than what is deeper than the children that they put
 most_le : (n : ℕ) (ps : List Patch) → is_sorted key_cmp (map change_of ps) ≡ true → AllByRecursion (λ c. c.1 ≢ Some null) (map change_of ps)
     → ((k : Key) (u : Tree) → find key_cmp k (map change_of ps) ≡ Some (Some u) → u ≢ null → depth u + 1 ≤ n)
     → most {X = Patch} (λ x. deep-Patch x) ps ≤ n
@@ -32,6 +33,7 @@ most_le n (p ∷ ps) s a h =
     let here = child_le p.child n (λ u is. h p.key.now u (find_first (change_of p) (map change_of ps) ∙ ap Some is) (λ e. a.0 (is ∙ ap Some e))) in
     omega (arith, here, most_le n ps (second_so _ _ s) a.1 (λ l u found some. h l u (find_behind l (Some u) (change_of p) (map change_of ps) s found) some))
 
+-- a view's changes weigh at most the depth of the tree that it shows
 pub falls : (k : ViewKind) → IsKind k → max (deep-ViewKind k) 0 ≤ depth (tree_of k)
 falls (Stored n) h = omega arith
 falls (Patched n) h =

@@ -76,7 +76,7 @@ fn wants_conditions(expr: &Expr) -> bool {
     )
 }
 
-// The first part of an expression that must be a value and is none.
+// The first part of an expression that must be a value and is not one.
 fn first_without_value<'e>(
     alloc: Global,
     expr: &'e Expr,

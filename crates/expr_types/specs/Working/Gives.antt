@@ -16,7 +16,7 @@ Refuses (NotInProfile f) found = found ≡ Err (NotInProfile f)
 Refuses TypeError found = found ≡ Err TypeError
 Refuses (UnknownName f) found = found ≡ Err (UnknownName f)
 
--- what is answered is what is found; where there is no answer, the fault that is told is found, unless memory for its name is refused
+-- what is answered is what is found; where there is no answer, the fault that is reported is found, unless memory for its name is refused
 abbrev pub Gives : {A : Type 0} → Option A → TypeFault → Result A TypeFault → Type 0
 Gives (Some x) fault found = found ≡ Ok x
 Gives None fault found = Refuses fault found

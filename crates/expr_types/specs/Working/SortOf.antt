@@ -20,6 +20,7 @@ abbrev pub ◌>>=◌ : {A B E : Type 0} → Result A E → (A → Result B E) �
 (Ok x) >>= k = k x
 (Err e) >>= k = Err e
 
+-- a `.read` rule, which alone sees queries
 abbrev pub is_read : Place → Bool
 is_read ReadRule = true
 is_read WriteRule = false

@@ -35,6 +35,7 @@ abbrev pub marks_of : Option (Box Tree Global) → Tree
 marks_of None = null
 marks_of (Some b) = b.value
 
+-- the marks that are borrowed, if there are any
 abbrev pub marks_seen : Option (Bor Tree) → Tree
 marks_seen None = null
 marks_seen (Some b) = b.now

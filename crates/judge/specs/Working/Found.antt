@@ -20,14 +20,15 @@ pub record IsFirst (P : Path → Pattern × Why → Type 0) (q : Path) (w : Patt
   pub fails : P q w
   pub least : (r : Path) (other : Pattern × Why) → P r other → path_cmp r q ≢ Less
 
--- the place of a failure, from where its walk began: its keys are told on the way back
+-- the place of a failure, from where its walk began: its keys are added on the way back
 abbrev pub place_of : Failure → Path
 place_of f = map (λ key. key.now) (reverse f.keys.items)
 
+-- the pattern of the rule that fails, and the reason
 abbrev pub fault_of : Failure → Pattern × Why
 fault_of f = (texts f.pattern.now, f.why)
 
--- what a walk tells: the first failing place, or none where nothing fails
+-- what a walk reports: the first failing place, or none where nothing fails
 abbrev pub Found : (Path → Pattern × Why → Type 0) → Option Failure → Type 0
 Found P told = MatchOption told ((q : Path) (w : Pattern × Why) → ¬ (P q w)) (λ f. IsFirst P (place_of f) (fault_of f))
 
@@ -47,11 +48,11 @@ Near locations P q w = (is_touched locations q ≡ true) × P q w
 abbrev pub FaultsHere : Ask → Path → Option Failure → Type 0
 FaultsHere ask path told = MatchOption told (failing (ask path) ≡ None) (λ f. (place_of f ≡ []) × (failing (ask path) ≡ Some (fault_of f)))
 
--- this fault is told, at the very place
+-- the walk reports this fault, at the very place
 abbrev pub IsToldHere : Pattern × Why → Option Failure → Type 0
 IsToldHere fault told = IsSomeAnd told (λ f. (place_of f ≡ []) × (fault_of f ≡ fault))
 
--- what is told of a failure, if there is one, is told of the same below a key
+-- a failure that was reported, if there is one, is reported with the key above it
 abbrev pub IsToldBelow : List ℕ → Option Failure → Option Failure → Type 0
 IsToldBelow k None next = next ≡ None
 IsToldBelow k (Some f) next = IsSomeAnd next (λ g. (place_of g ≡ k ∷ place_of f) × (fault_of g ≡ fault_of f))

@@ -33,6 +33,7 @@ abbrev pub names_below : Ask → Path → Path → List Named
 names_below ask from [] = []
 names_below ask from (k ∷ rest) = cons_option (name_at ask (from ++ k ∷ [])) (names_below ask (from ++ k ∷ []) rest)
 
+-- the names of the rules at `from` and below it, on the way along the rest, that do not hold
 abbrev pub names_from : Ask → Path → Path → List Named
 names_from ask from rest = cons_option (name_at ask from) (names_below ask from rest)
 
@@ -40,16 +41,16 @@ names_from ask from rest = cons_option (name_at ask from) (names_below ask from 
 abbrev pub seen_names : List Seen → List Named
 seen_names seen = map (λ s. record { pattern = s.pattern.now; why = s.why }) (reverse seen)
 
--- what a walk over locations tells, of which so many keys lie above: the first that is not granted, with the names of the rules that were asked for it; or none, where all are
+-- what a walk over locations reports, of which so many keys lie above: the first that is not granted, with the names of the rules that were asked for it; or none, where all are
 abbrev pub Refuses : (Path → Bool) → (Path → List Named) → ℕ → List Path → Option Denial → Type 0
 Refuses granted names depth locations None = find (λ l. not (granted (drop depth l))) locations ≡ None
 Refuses granted names depth locations (Some denial) = (find (λ l. not (granted (drop depth l))) locations ≡ Some denial.location.now) × (seen_names denial.seen.items ≡ names (drop depth denial.location.now))
 
--- the denial of this location is told, for which no rule was asked yet
+-- the walk reports the denial of this location, for which no rule was asked yet
 abbrev pub IsToldOf : Path → Option Denial → Type 0
 IsToldOf location told = IsSomeAnd told (λ d. (d.location.now ≡ location) × (d.seen.items ≡ []))
 
--- what is told of a denial, if there is one, is told of the same where the rule of this name was asked too
+-- the denial that was reported, if there is one, now has this name in front, of a rule that was asked too
 abbrev pub IsToldWith : Named → Option Denial → Option Denial → Type 0
 IsToldWith name None next = next ≡ None
 IsToldWith name (Some d) next = IsSomeAnd next (λ n. (n.location.now ≡ d.location.now) × (seen_names n.seen.items ≡ name ∷ seen_names d.seen.items))

@@ -35,6 +35,7 @@ abbrev pub proposed_by : Request → Tree
 proposed_by (read asked) = null
 proposed_by (write t) = t
 
+-- the tree that the question proposes
 abbrev pub coming_of : Asking → Tree
 coming_of asking = proposed_by (question_of asking).request
 

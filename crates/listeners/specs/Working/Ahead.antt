@@ -15,5 +15,6 @@ abbrev pub is_ahead : Limit → Rank → Rank → Bool
 is_ahead (First n) r s = is_lt (rank_cmp s r)
 is_ahead (Last n) r s = is_gt (rank_cmp s r)
 
+-- how many of these stand ahead of r
 abbrev pub count_ahead : Limit → Rank → List (ℕ × Rank) → ℕ
 count_ahead limit r rs = length (filter (λ s. is_ahead limit r s.1) rs)

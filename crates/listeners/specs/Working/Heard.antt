@@ -3,6 +3,7 @@ use Rattle.std.specs.Prelude.{ℕ, List, true, false}
 use Rattle.listeners.specs.Table.{Listener}
 use Rattle.listeners.specs.declared.table.Heard.{Heard}
 
+-- the listener that an entry holds
 abbrev pub listener_of : List ℕ × Heard → Listener
 listener_of e = record { id = e.0; path = e.1.path; query = e.1.query; live = e.1.live; marked = e.1.marked }
 

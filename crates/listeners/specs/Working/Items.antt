@@ -19,14 +19,17 @@ use Rattle.listeners.specs.declared.bounds.Bounds.{Bounds}
 use Rattle.listeners.specs.declared.edge.Edge.{Edge}
 use Rattle.listeners.specs.declared.edge.Edge.TheVariants.{Nowhere, UpTo, FromOn}
 
+-- what a key of the code stands for, with the number that it is
 abbrev pub key_seen : ListKey → Option ℤ × Key
 key_seen key = (key.number, key.text.now)
 
+-- what a sort place of the code stands for
 abbrev pub place_seen : SortPlace → orders.SortPlace
 place_seen Nothing = nothing
 place_seen (Value leaf) = value (primitive_of leaf.now)
 place_seen Location = location
 
+-- the rank of an item
 abbrev pub rank_seen : Item → Rank
 rank_seen item = (place_seen item.place, key_seen item.key)
 
@@ -34,13 +37,16 @@ rank_seen item = (place_seen item.place, key_seen item.key)
 abbrev pub item_seen : Item → ℕ × Rank
 item_seen item = (item.index, rank_seen item)
 
+-- the order of items, which is that of their ranks
 abbrev pub item_cmp : Item → Item → Ordering
 item_cmp a b = rank_cmp (rank_seen a) (rank_seen b)
 
+-- what a bound of the code stands for
 abbrev pub mark_seen : Mark → ranks.Mark
 mark_seen (AtKey key) = at_key (key_seen key)
 mark_seen (AtValue leaf) = at_value (primitive_of leaf.now)
 
+-- what all bounds of a query, as the code has them, stand for
 abbrev pub marks_seen : Bounds → ranks.Marks
 marks_seen bounds = record {
   start_at = option_map mark_seen bounds.start_at;

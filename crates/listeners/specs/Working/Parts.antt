@@ -8,6 +8,7 @@ use Rattle.listeners.specs.declared.order.Order.TheVariants.{Key, Value, Child}
 use Rattle.listeners.specs.declared.order.Limit.{Limit}
 use Rattle.listeners.specs.declared.order.Limit.TheVariants.{First, Last}
 
+-- what an order of the code stands for
 abbrev pub order_seen : code.Order → Order
 order_seen Key = by_key
 order_seen Value = by_value

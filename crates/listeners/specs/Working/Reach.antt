@@ -41,12 +41,15 @@ AreDigits cs digits = (i : ℕ) (d : Child) → i < length cs → is_text digits
 
 -- ---- bounds by keys
 
+-- the key is not before the bound, if there is one
 abbrev pub passes_start : Option Key → Key → Bool
 passes_start bound k = option_map_or (λ b. not (is_lt (keyed_cmp (keyed k) (keyed b)))) bound true
 
+-- the key is not behind the bound, if there is one
 abbrev pub passes_end : Option Key → Key → Bool
 passes_end bound k = option_map_or (λ b. not (is_gt (keyed_cmp (keyed k) (keyed b)))) bound true
 
+-- the key is equal to the bound in the order of keys, if there is a bound
 abbrev pub passes_equal : Option Key → Key → Bool
 passes_equal bound k = option_map_or (λ b. is_eq (keyed_cmp (keyed k) (keyed b))) bound true
 
@@ -74,6 +77,7 @@ pub record IsEqual (cs : List Child) (bound : Option Key) (span : Span) : Type 0
 
 -- ---- what is looked at
 
+-- the index is in reach, which has an end of its own outside of the keys that begin with digits
 abbrev pub is_looked_at : Reach → ℕ → Bool
 is_looked_at reach i = nat_le reach.from i && nat_lt i (if is_text reach.digits i then reach.texts_to else reach.to)
 

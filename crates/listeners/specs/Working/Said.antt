@@ -9,16 +9,19 @@ use Rattle.listeners.specs.declared.said.SaidBound.{SaidBound}
 use Rattle.listeners.specs.declared.said.SaidBound.TheVariants.{Truth, Whole, Words}
 use Rattle.listeners.specs.declared.said.Said.{Said}
 
+-- the order that a value says
 abbrev pub order_said : SaidOrder → Order
 order_said Key = by_key
 order_said Value = by_value
 order_said (Child text) = by_child (segments text.now)
 
+-- the bound that a value says
 abbrev pub bound_said : SaidBound → Primitive
 bound_said (Truth b) = truth b
 bound_said (Whole z) = whole z
 bound_said (Words s) = words s.now
 
+-- the query that a value says
 abbrev pub query_said : Said → Query
 query_said said = record {
   order = option_map order_said said.order;

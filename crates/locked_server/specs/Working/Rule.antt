@@ -1,4 +1,4 @@
--- The rule of a hall's table, and what each step on it tells.
+-- The rule of a hall's table, and what each step on it shows.
 -- The history is stored nowhere: the rule says that there is one. Word 0 is its length, word 1 the next ticket, and the slot has the database in the state that it leaves, or a seat has the slot out, the one whose ticket is word 0.
 use Rattle.std.specs.Prelude.{◌≡◌, ◌≢◌, ℕ, ◌<◌, ◌≤◌, Bool, true, false, ◌⊎◌, List, [], ◌∷◌, ◌++◌, length, IsTrue, Option, Some}
 use Rattle.std.specs.FinMap as map_of
@@ -41,12 +41,15 @@ ticket_of (Waiting ticket) = ticket
 ticket_of Serving = 0
 ticket_of Joined = 0
 
+-- a beginning of the history, and numbers of seats of which it has all calls
 abbrev pub part : List Entry → List ℕ → HistoryPart
 part seen numbers = record { seen = seen; numbers = numbers }
 
+-- the beginning with no entries, and no numbers
 abbrev pub empty_part : HistoryPart
 empty_part = part [] []
 
+-- the view of a seat at this stage: the opening state, what it has seen, its numbers, and its second part
 abbrev pub view_with : State → List Entry → List ℕ → HistoryPart → Stage → View
 view_with opening seen numbers second stage = record { opening = opening; first = part seen numbers; second = second; stage = stage }
 
@@ -125,7 +128,7 @@ pub record IsKept (opening : State) (s : TableState (Option Content) View) : Typ
   pub numbered : AreBelow next log
   pub each_seat : (j : ℕ) (v : View) → get_elem? s.views j ≡ some v → ViewFits opening log next tickets owner holder j v
 
--- ---- what each step tells
+-- ---- what each step shows
 
 -- what a seat knows, and what it holds
 abbrev Mine : Type 0

@@ -12,6 +12,7 @@ use Rattle.locked_server.specs.declared.view.Stage.TheVariants.{Serving}
 use Rattle.locked_server.specs.History.{is_in, calls_of, Leaves}
 use Rattle.locked_server.specs.Working.Rule.{at_rest, view_with, empty_part}
 
+-- what a seat has of its own: its view, and what it took out of the table
 abbrev Mine : Type 0
 Mine = Me (Option Content) View
 

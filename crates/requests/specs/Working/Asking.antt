@@ -10,6 +10,7 @@ use Rattle.requests.specs.declared.ask.LineFault.{LineFault}
 use Rattle.requests.specs.declared.ask.LineFault.TheVariants.{Message, UnknownToken, Rules}
 use Rattle.requests.specs.Ask.{ComesTo}
 
+-- what is wanted comes to this event; or the fault is that memory was refused, that the token names nobody, or that the rules are refused so
 abbrev pub IsComing : Tokens → Wanted → Result Event LineFault → Type 0
 IsComing tokens wanted (Ok event) = ComesTo tokens wanted event
 IsComing tokens wanted (Err (Message fault)) = fault ≡ NoMemory

@@ -29,24 +29,27 @@ abbrev pub fate_by : (live granted news : Bool) → Option Fate
 fate_by live granted news =
     if live then (if granted then (if news then Some Marked else None) else Some Cancelled) else None
 
--- the listener after it; what is cancelled stays
+-- the live listener after it
 abbrev pub fated_live : Fate → Listener → Listener
 fated_live Marked l = with_mark l
 fated_live Cancelled l = cancelled l
 
+-- the listener after what was decided of it, if anything was; one that is cancelled stays
 abbrev pub fated : Option Fate → Listener → Listener
 fated None l = l
 fated (Some fate) l = if l.live then fated_live fate l else l
 
--- what listeners are judged by, at this moment: the tree before the step, the rules after it, the tree after it, and who is signed in
+-- what listeners are judged by, at this moment: the rules after the step, the tree after it, and who is signed in
 abbrev pub scene_by : Book → Tree → ℕ → Option Identity → Scene
 scene_by rules new now who = record { book = rules; who = who; moment = now; old = new }
 
+-- what is decided of a listener, if it does not stay as it is
 abbrev pub fate_of : Tree → Book → Tree → ℕ → Option Identity → Listener → Option Fate
 fate_of old rules new now who l = fate_by l.live (hears (scene_by rules new now who) l.path l.query) (moves old new l.path l.query && not l.marked)
 
 -- ---- all listeners: what is noted are those that don't stay, by their places
 
+-- the decisions on those that don't stay, with their places, which count from this one
 abbrev pub sparse : ℕ → List (Option Fate) → List Decision
 sparse place [] = []
 sparse place (None ∷ fates) = sparse (suc place) fates
@@ -57,26 +60,32 @@ abbrev pub front : ℕ → List Decision → Option Fate
 front place [] = None
 front place (d ∷ ds) = if d.place == place then Some d.fate else None
 
+-- what is noted of later places, once this place is done
 abbrev pub behind : ℕ → List Decision → List Decision
 behind place [] = []
 behind place (d ∷ ds) = if d.place == place then ds else d ∷ ds
 
+-- the next place, as far as 64 bits count
 abbrev pub next_place : ℕ → ℕ
 next_place place = min (place + 1) (2 ^ 64 - 1)
 
+-- the listeners from this place on, once these decisions are made
 abbrev pub settled : ℕ → List Decision → List Listener → List Listener
 settled place ds [] = []
 settled place ds (l ∷ ls) = fated (front place ds) l ∷ settled (next_place place) (behind place ds) ls
 
+-- the place behind these listeners, and the decisions that are left there
 abbrev pub left_of : ℕ → List Decision → List Listener → ℕ × List Decision
 left_of place ds [] = (place, ds)
 left_of place ds (l ∷ ls) = left_of (next_place place) (behind place ds) ls
 
 -- ---- all sessions
 
+-- the session with these listeners
 abbrev pub with_listeners : Session → List Listener → Session
 with_listeners one listeners = record one { listeners = listeners }
 
+-- the sessions, with their listeners from this place on, once these decisions are made
 abbrev pub settled_all : ℕ → List Decision → List (ℕ × Session) → List (ℕ × Session)
 settled_all place ds [] = []
 settled_all place ds (e ∷ es) =
@@ -88,6 +97,7 @@ abbrev pub fates_of : Tree → Book → Tree → ℕ → List Session → List (
 fates_of old rules new now [] = []
 fates_of old rules new now (one ∷ others) = map (fate_of old rules new now one.identity) one.listeners ++ fates_of old rules new now others
 
+-- the sessions in the order of their numbers
 abbrev pub all_sessions : Sessions → List Session
 all_sessions sessions = map (λ e. e.1) (map_of.entries sessions)
 

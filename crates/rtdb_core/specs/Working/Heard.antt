@@ -16,6 +16,7 @@ use Rattle.rtdb_core.specs.Working.Fates.{scene_by}
 abbrev pub IsHeard : Book → Tree → Option Identity → Listener → Type 0
 IsHeard rules tree who l = l.live ≡ true → (moment : ℕ) × (hears (scene_by rules tree moment who) l.path l.query ≡ true)
 
+-- so were all of these
 abbrev pub AreHeard : Book → Tree → Option Identity → List Listener → Type 0
 AreHeard rules tree who listeners = All (IsHeard rules tree who) listeners
 

@@ -15,6 +15,7 @@ use Rattle.rtdb_core.specs.declared.moved.Known.{Known}
 abbrev pub IsFound : Tree → Tree → Found → Type 0
 IsFound before after found = found.moved ≡ moves before after found.path.now (Some found.query.now)
 
+-- it is so for all of these
 abbrev pub AreFound : Tree → Tree → List Found → Type 0
 AreFound before after all = All (IsFound before after) all
 
@@ -22,6 +23,7 @@ AreFound before after all = All (IsFound before after) all
 abbrev pub IsKnown : Tree → Tree → Known → Type 0
 IsKnown before after known = OnTrue known.has_changed (sub after known.place.now ≢ sub before known.place.now) × OnFalse known.has_changed (sub after known.place.now ≡ sub before known.place.now)
 
+-- it is so for all of these
 abbrev pub AreKnown : Tree → Tree → List Known → Type 0
 AreKnown before after all = AllByRecursion (IsKnown before after) all
 

@@ -17,11 +17,14 @@ pub record IsPassage (p : Passage) : Type 0 where
   pub fixed : AreFixed p.writes.now
   pub coming : tree_or_null p.coming ≡ proposed (node_or_null p.base) p.writes.now p.moment
 
+-- the tree before the step
 abbrev pub tree_before : Passage → Tree
 tree_before p = node_or_null p.base
 
+-- the tree after the step: what its writes propose at its moment
 abbrev pub tree_after : Passage → Tree
 tree_after p = proposed (node_or_null p.base) p.writes.now p.moment
 
+-- who is signed in, if anybody is
 abbrev pub who_of : Option (Bor Identity) → Option Identity
 who_of who = option_map (λ (one : Bor Identity). one.now) who

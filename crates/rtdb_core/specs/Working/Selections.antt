@@ -8,5 +8,6 @@ use Rattle.rtdb_core.specs.declared.selections.Selected.{Selected}
 abbrev pub IsSelectedAt : Tree → Selected → Type 0
 IsSelectedAt tree it = it.view ≡ non_null (selected_at tree it.path.now (Some it.query.now))
 
+-- it is so for all of these
 abbrev pub AreSelected : Tree → List Selected → Type 0
 AreSelected tree all = All (IsSelectedAt tree) all

@@ -10,6 +10,7 @@ use Rattle.rules_reader.specs.Node.{Point, text_of}
 abbrev pub points : List (Part × Point) → List (PartText × Point)
 points children = map (λ c. (text_of c.0, c.1)) children
 
+-- the child at this place, if there is one
 abbrev pub point_at : List (Part × Point) → Option ℕ → Option Point
 point_at children None = None
 point_at children (Some i) = option_map (λ c. c.1) (slice_get children i)
@@ -20,5 +21,6 @@ first_of capture None other = other
 first_of true (Some point) other = None
 first_of false (Some point) other = Some point
 
+-- the child that the key leads to: the one with its text, or else that of the capture
 abbrev pub stepped : List (Part × Point) → Option ℕ → Key → Option Point
 stepped children capture key = first_of (is_capture key) (find key_cmp key (points children)) (point_at children capture)

@@ -4,7 +4,7 @@ use Rattle.std.specs.List.{All}
 use Rattle.json_lines.specs.declared.limits.TheConstants.{MAX_MESSAGE_BYTES}
 use Rattle.scripts.specs.Lines.{is_blank}
 
--- how many bytes of a line its answer rests on: one more than a message may have, which tells that it is too large
+-- how many bytes of a line its answer rests on: one more than a message may have, which shows that it is too large
 abbrev pub FRONT_BYTES : ℕ
 FRONT_BYTES = MAX_MESSAGE_BYTES + 1
 

@@ -2,12 +2,13 @@
 use Rattle.std.specs.Prelude.{◌≡◌, ℕ, Bool, List, ◌++◌, Option}
 use Rattle.std.specs.Io.KnownBytes.{Appends}
 
--- what a sink tells of a call: what was written before it and after it, where that is known, and whether it has failed
+-- what a sink reports of a call: what was written before it and after it, where that is known, and whether it has failed
 pub record SinkTells : Type 0 where
   pub before : Option (List ℕ)
   pub after : Option (List ℕ)
   pub failed : Bool
 
+-- the report with these parts
 abbrev pub tells : Option (List ℕ) → Option (List ℕ) → Bool → SinkTells
 tells before after failed = record { before = before; after = after; failed = failed }
 

@@ -7,12 +7,14 @@ use Rattle.evaluator.specs.Identity.{Identity}
 use Rattle.tokens.specs.declared.identity.Parts as code
 use Rattle.tokens.specs.Tokens.{has_only, lawful_text_at, admin_in, claims_of, claims_in}
 
+-- what stands under an identity's members
 pub record Parts : Type 0 where
   pub uid : List ℕ
   pub provider : List ℕ
   pub admin : Bool
   pub claims : Members
 
+-- the parts of an identity that a value has, if it is one
 abbrev pub parts_of : Data → Option Parts
 parts_of d =
     if has_only (codes "uid" ∷ codes "provider" ∷ codes "admin" ∷ codes "claims" ∷ []) d then

@@ -3,7 +3,7 @@ use Rattle.answers.specs.AnswerText.{named_data}
 use Rattle.answers.proofs.Items.{left_items}
 use Rattle.answers.proofs.answer_writer.AnswerWriter.borrowed_rules.Given as goal
 
--- what is told, and what is left, are all
+-- what is written, and what is left, are all
 abbrev pub invariant-loop-place : goal.invariant-loop-place
 invariant-loop-place l =
     (l.self.before ≡ l.fn.self.before)
