@@ -982,6 +982,14 @@ class NothingTakenBack(Machine):
         self.present(it)
 
 
+class TooMuchTakenBack(Machine):
+    """An `oncancel` takes back an action that writes elsewhere too."""
+
+    def oncancel(self, it):
+        session = self.present(it)
+        session.actions = [one for one in session.actions if not any(is_below(place, it["path"]) for place in locations_of(one["writes"]))]
+
+
 class MomentOfPromise(Machine):
     """The server's time in a disconnect action is that at which it was established."""
 
@@ -1067,8 +1075,8 @@ class ListenersOfOne(Machine):
 
 
 FAULTS = [NoRemovals, NeverCancelled, SilentEnds, RefusedWrites, OldTree, HalfAnUpdate, UnjudgedActions, LostActions, LastActionFirst,
-          NothingTakenBack, MomentOfPromise, ToldTwice, OwnWritesUntold, OldRead, SignedInForever, RulesOfTheBeginning,
-          ListenersOfOne]
+          NothingTakenBack, TooMuchTakenBack, MomentOfPromise, ToldTwice, OwnWritesUntold, OldRead, SignedInForever,
+          RulesOfTheBeginning, ListenersOfOne]
 
 
 # ---- faults that are planted into what was written down: each gives histories with one such fault
