@@ -6,15 +6,20 @@ use bumpalo::Bump;
 use locked_server::{Hall, Seat};
 use sessions::{Gate, SocketPeer, serve_session};
 use std::alloc::Global;
-use std::io;
 use std::net::{TcpListener, TcpStream};
 use std::sync::Wait;
 use std::time::{self, Duration};
+use std::{io, thread};
 use tokens::Tokens;
 use tungstenite::{NoMask, WebSocket, WebSocketConfig, accept};
 
 // How long a client may say nothing in its handshake, in milliseconds.
 const HANDSHAKE_MS: u64 = 5_000;
+
+// How long a worker rests where the system gives it no connection, in milliseconds, and how often: for an hour.
+const REST_MS: u64 = 100;
+
+const MOST_RESTS: u64 = 36_000;
 
 // How long a worker waits for a message before it looks for news, in milliseconds.
 const MESSAGE_MS: u64 = 20;
@@ -51,8 +56,8 @@ pub(crate) struct Job {
     pub(crate) seat: Seat,
 }
 
-/// Serves the rounds of one worker, and gives its seat back. A connection that is not accepted, or whose handshake
-/// fails, is a round too.
+/// Serves the rounds of one worker, and gives its seat back. A connection whose handshake fails is a round too, and so is
+/// an hour in which the system gives none.
 pub(crate) fn work<R: Wait + time::Clock, G: Gate>(place: &WorkPlace<'_, R, G>, job: Job) -> Seat
     requires { job.seat.hall ≡ place.now.hall.now }
     ensures { result.hall ≡ place.now.hall.now }
@@ -60,7 +65,7 @@ pub(crate) fn work<R: Wait + time::Clock, G: Gate>(place: &WorkPlace<'_, R, G>, 
     let Job { session, mut seat } = job;
     let mut arena = Bump::new(place.alloc);
     for _ in 0..place.rounds {
-        if let Some(socket) = next_client(place.alloc, place.listener) {
+        if let Some(socket) = next_client(place.rt, place.alloc, place.listener) {
             serve_client(place, &mut seat, &mut arena, session, socket);
         }
     }
@@ -95,9 +100,13 @@ fn serve_client<R: Wait + time::Clock, G: Gate>(
     );
 }
 
-// The next client, once its handshake is done; none where it was not accepted or its handshake failed.
-fn next_client(alloc: Global, listener: &TcpListener) -> Option<WebSocket<TcpStream, NoMask>> {
-    let (stream, _) = listener.accept().ok()?;
+// The next client, once its handshake is done; none where no connection came or its handshake failed.
+fn next_client<R: time::Clock>(
+    rt: &R,
+    alloc: Global,
+    listener: &TcpListener,
+) -> Option<WebSocket<TcpStream, NoMask>> {
+    let stream = next_connection(rt, listener)?;
     set_limits(&stream).ok()?;
     let mut socket = accept(alloc, stream).ok()?;
     socket.set_config(limits());
@@ -106,6 +115,18 @@ fn next_client(alloc: Global, listener: &TcpListener) -> Option<WebSocket<TcpStr
         .set_read_timeout(Some(Duration::from_millis(MESSAGE_MS)))
         .ok()?;
     Some(socket)
+}
+
+// The next connection. Where the system gives none, as where this program may open no more files, the worker rests and
+// tries again, until another one has closed some.
+fn next_connection<R: time::Clock>(rt: &R, listener: &TcpListener) -> Option<TcpStream> {
+    for _ in 0..MOST_RESTS {
+        if let Ok((stream, _)) = listener.accept() {
+            return Some(stream);
+        }
+        thread::sleep(rt, Duration::from_millis(REST_MS));
+    }
+    None
 }
 
 // What a socket takes in.

@@ -17,10 +17,11 @@ use tokens::Tokens;
 
 /// Serves sessions until each worker has served its rounds. It prints `listening 127.0.0.1:P` at the start, where P is
 /// the port of the listener, which listens there, and `served N` once all workers have ended, where N is how many
-/// entries the history of the hall has; it then closes the hall. A connection that is not accepted, or whose handshake
-/// fails, is a round too. Worker w, from 1, serves its clients as session w. A client may say nothing for 5 seconds in
-/// its handshake, may leave what is sent to it unread for 5 seconds, and sends at most 2 MiB a message; a session has
-/// 1,000,000,000 turns, and waits 20 milliseconds in each for a message. With no workers, or no rounds, nobody is served.
+/// entries the history of the hall has; it then closes the hall. A connection whose handshake fails is a round too. Where
+/// the system gives no connection, a worker tries again each 100 milliseconds, and an hour of that is a round. Worker w,
+/// from 1, serves its clients as session w. A client may say nothing for 5 seconds in its handshake, may leave what is
+/// sent to it unread for 5 seconds, and sends at most 2 MiB a message; a session has 1,000,000,000 turns, and waits 20
+/// milliseconds in each for a message. With no workers, or no rounds, nobody is served.
 pub fn serve_on<R: Threads + Wait + time::Clock + Sync, G: Gate + Sync, W: Printer>(
     rt: &R,
     alloc: Global,

@@ -137,7 +137,7 @@ fn message_of(alloc: Global, text: &[u8]) -> Result<Message, Unsaid>
 // Why a read or a write gave nothing.
 #[derive(Clone, Copy)]
 enum Cause {
-    // The time is over that it may take.
+    // The time is over that it may take, or a signal ended it early, as where the program was stopped and goes on.
     Wait,
     // There was no memory for it.
     Memory,
@@ -149,7 +149,7 @@ fn cause_of(error: &Error) -> Cause {
     match error {
         Error::OutOfMemory => Cause::Memory,
         Error::Io(error) => match error.kind() {
-            ErrorKind::WouldBlock | ErrorKind::TimedOut => Cause::Wait,
+            ErrorKind::WouldBlock | ErrorKind::TimedOut | ErrorKind::Interrupted => Cause::Wait,
             ErrorKind::OutOfMemory => Cause::Memory,
             _ => Cause::Fault,
         },
