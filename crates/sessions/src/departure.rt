@@ -14,6 +14,11 @@ use std::sync::Wait;
 /// memory was wanting.
 pub const MAX_RUNS: u64 = 32;
 
+/// The limit in a number, since all definitions have it by its name.
+pub fn the_limit_of_runs()
+    ensures { MAX_RUNS ≡ 32 }
+{}
+
 /// Lets the session leave, runs its actions, and closes it.
 pub(crate) fn depart<R: Wait, C: Clock>(
     place: &SessionPlace<'_, R>,
