@@ -50,9 +50,12 @@ export function connect(url, onState = () => {}) {
 /** Stands in a written value for the moment at which the server writes it. */
 export const serverTimestamp = () => ({ ".sv": "timestamp" });
 
-/** A key for a new child. One that is made later sorts behind it, as the keys of Firebase's push do. */
+let lastMoment = 0;
+
+/** A key for a new child. One that this page makes later sorts behind it, as the keys of Firebase's push do; keys of several pages sort by their clocks. */
 export function newKey() {
-  const moment = Date.now().toString(36).padStart(9, "0");
+  lastMoment = Math.max(Date.now(), lastMoment + 1);
+  const moment = lastMoment.toString(36).padStart(9, "0");
   const random = Array.from(crypto.getRandomValues(new Uint8Array(11)), (it) => (it % 36).toString(36));
   return `-${moment}${random.join("")}`;
 }
