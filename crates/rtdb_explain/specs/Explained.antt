@@ -1,5 +1,5 @@
 -- What an explanation owes the event that it explains.
-use Rattle.std.specs.Prelude.{◌≡◌, ℕ, List, [], ◌∷◌, map, true, Option, ⊤}
+use Rattle.std.specs.Prelude.{◌≡◌, ◌×◌, ℕ, List, [], ◌∷◌, map, true, Option, ⊤}
 use Rattle.std.specs.List.Sorted.{IsPermutation}
 use Rattle.tree_model.specs.Path.{Path}
 use Rattle.tree_model.specs.Put.{location, overlaps}
@@ -12,46 +12,51 @@ use Rattle.rtdb_model.specs.declared.event.Event.TheVariants.{Open, Close, SignI
 use Rattle.rtdb_model.specs.State.{State, scene_at}
 use Rattle.rtdb_model.specs.Step.{removal, tree_with}
 use Rattle.rtdb_model.specs.Rejudged.{asked_for}
+use Rattle.request_explainer.specs.Asked.{AskedRule, asked_to_read, asked_to_write}
 
--- the verdict of the rules in force on a read that the session asks for at this moment
-abbrev IsOnRead : State → ℕ → ℕ → Path → Option Query → Verdict → Type 0
-IsOnRead old now session path query verdict = IsReadVerdict (scene_at old now session) (asked_for query) path verdict
+-- what the rules in force say of a read that the session asks for at this moment: the verdict, and the rules that are asked
+abbrev pub IsOnRead : State → ℕ → ℕ → Path → Option Query → Verdict → List AskedRule → Type 0
+IsOnRead old now session path query verdict asked =
+    IsReadVerdict (scene_at old now session) (asked_for query) path verdict
+    × (asked ≡ asked_to_read (scene_at old now session) (asked_for query) path)
 
--- the verdict of the rules in force on writes that the session asks for at this moment, by the tree that they propose
-abbrev IsOnWrites : State → ℕ → ℕ → List Write → Verdict → Type 0
-IsOnWrites old now session writes verdict = IsWriteVerdict (scene_at old now session) (tree_with old now writes) (map location writes) verdict
+-- what they say of writes that the session asks for at this moment, by the tree that they propose
+abbrev pub IsOnWrites : State → ℕ → ℕ → List Write → Verdict → List AskedRule → Type 0
+IsOnWrites old now session writes verdict asked =
+    IsWriteVerdict (scene_at old now session) (tree_with old now writes) (map location writes) verdict
+    × (asked ≡ asked_to_write (scene_at old now session) (tree_with old now writes) (map location writes) verdict)
 
--- the same on the writes of an update in some order, which makes no difference
-abbrev IsOnUpdate : State → ℕ → ℕ → List Write → Verdict → Type 0
-IsOnUpdate old now session writes verdict = (ordered : List Write) × (IsPermutation writes ordered × IsOnWrites old now session ordered verdict)
+-- the same of the writes of an update in some order, which makes no difference to the verdict
+abbrev IsOnUpdate : State → ℕ → ℕ → List Write → Verdict → List AskedRule → Type 0
+IsOnUpdate old now session writes verdict asked = (ordered : List Write) × (IsPermutation writes ordered × IsOnWrites old now session ordered verdict asked)
 
--- the verdict of the rules in force on an event of the session: on what it reads, or on the writes that it makes or establishes. No other event has one. (Guide "Core syntax"; disconnect actions: this project's profile.)
-abbrev pub IsOnEvent : State → ℕ → ℕ → Event → Verdict → Type 0
-IsOnEvent old now session (Get path query) verdict = IsOnRead old now session path query verdict
-IsOnEvent old now session (Listen id path query) verdict = IsOnRead old now session path query verdict
-IsOnEvent old now session (Set write) verdict = IsOnWrites old now session (write ∷ []) verdict
-IsOnEvent old now session (OnSet write) verdict = IsOnWrites old now session (write ∷ []) verdict
-IsOnEvent old now session (Remove path) verdict = IsOnWrites old now session (removal path ∷ []) verdict
-IsOnEvent old now session (OnRemove path) verdict = IsOnWrites old now session (removal path ∷ []) verdict
-IsOnEvent old now session (Update writes) verdict = IsOnUpdate old now session writes verdict
-IsOnEvent old now session (OnUpdate writes) verdict = IsOnUpdate old now session writes verdict
-IsOnEvent old now session Open verdict = ⊥
-IsOnEvent old now session Close verdict = ⊥
-IsOnEvent old now session (SignIn who) verdict = ⊥
-IsOnEvent old now session SignOut verdict = ⊥
-IsOnEvent old now session (Unlisten id) verdict = ⊥
-IsOnEvent old now session Poll verdict = ⊥
-IsOnEvent old now session Tick verdict = ⊥
-IsOnEvent old now session (Deploy rules) verdict = ⊥
-IsOnEvent old now session (OnCancel path) verdict = ⊥
-IsOnEvent old now session Leave verdict = ⊥
-IsOnEvent old now session RunNext verdict = ⊥
+-- what the rules in force say of an event of the session: of what it reads, or of the writes that it makes or establishes. They say nothing of any other. (Guide "Core syntax"; disconnect actions: this project's profile.)
+abbrev pub IsOnEvent : State → ℕ → ℕ → Event → Verdict → List AskedRule → Type 0
+IsOnEvent old now session (Get path query) verdict asked = IsOnRead old now session path query verdict asked
+IsOnEvent old now session (Listen id path query) verdict asked = IsOnRead old now session path query verdict asked
+IsOnEvent old now session (Set write) verdict asked = IsOnWrites old now session (write ∷ []) verdict asked
+IsOnEvent old now session (OnSet write) verdict asked = IsOnWrites old now session (write ∷ []) verdict asked
+IsOnEvent old now session (Remove path) verdict asked = IsOnWrites old now session (removal path ∷ []) verdict asked
+IsOnEvent old now session (OnRemove path) verdict asked = IsOnWrites old now session (removal path ∷ []) verdict asked
+IsOnEvent old now session (Update writes) verdict asked = IsOnUpdate old now session writes verdict asked
+IsOnEvent old now session (OnUpdate writes) verdict asked = IsOnUpdate old now session writes verdict asked
+IsOnEvent old now session Open verdict asked = ⊥
+IsOnEvent old now session Close verdict asked = ⊥
+IsOnEvent old now session (SignIn who) verdict asked = ⊥
+IsOnEvent old now session SignOut verdict asked = ⊥
+IsOnEvent old now session (Unlisten id) verdict asked = ⊥
+IsOnEvent old now session Poll verdict asked = ⊥
+IsOnEvent old now session Tick verdict asked = ⊥
+IsOnEvent old now session (Deploy rules) verdict asked = ⊥
+IsOnEvent old now session (OnCancel path) verdict asked = ⊥
+IsOnEvent old now session Leave verdict asked = ⊥
+IsOnEvent old now session RunNext verdict asked = ⊥
 
 -- these writes, in some order, overlap, which is refused before any rule is asked
 abbrev Overlap : List Write → Type 0
 Overlap writes = (ordered : List Write) × (IsPermutation writes ordered × (overlaps ordered ≡ true))
 
--- no rule is asked for the event: it neither reads nor writes, or its writes overlap, which one write never does
+-- the event asks for no read and no write of its own, or its writes overlap, which one write never does. (What a run makes was asked for when it was established.)
 abbrev pub IsUnasked : Event → Type 0
 IsUnasked (Get path query) = ⊥
 IsUnasked (Listen id path query) = ⊥

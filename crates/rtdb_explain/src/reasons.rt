@@ -1,14 +1,12 @@
 //! The explanation of an event by the rules in force.
 ghost use Rattle.std.specs.Prelude.{◌≡◌, ◌≤◌, map, true, IfOk, IfSome, IfNone};
-ghost use Rattle.tree_model.specs.Put.{location, overlaps};
+ghost use Rattle.tree_model.specs.Put.{overlaps};
 ghost use Rattle.path_capture.specs.Write.{tree_or_null};
 ghost use Rattle.evaluator.specs.declared.env.TheConstants.{MAX_MOMENT};
 ghost use Rattle.judge.specs.Question.{scene_of};
-ghost use Rattle.judge.specs.Judging.{IsReadVerdict, IsWriteVerdict};
 ghost use Rattle.rtdb_model.specs.State.{scene_at};
-ghost use Rattle.rtdb_model.specs.Step.{tree_with};
-ghost use Rattle.rtdb_model.specs.Rejudged.{asked_for};
-ghost use Rattle.rtdb_explain.specs.Explained.{IsOnEvent, IsUnasked};
+ghost use Rattle.request_explainer.specs.Asked.{asked_of};
+ghost use Rattle.rtdb_explain.specs.Explained.{IsOnRead, IsOnWrites, IsOnEvent, IsUnasked};
 
 use arena_snapshot::{overlaps, overlay};
 use bumpalo::Bump;
@@ -33,7 +31,7 @@ pub(crate) fn explained<'a>(
     event: &'a Event,
 ) -> Result<Option<Explanation<'a>>, NoMemory>
     requires { stamp.now ≤ MAX_MOMENT }
-    ensures verdict { IfOk result (λ found. IfSome found (λ it. IsOnEvent core.now stamp.now stamp.session event.now it.verdict)) }
+    ensures says { IfOk result (λ found. IfSome found (λ it. IsOnEvent core.now stamp.now stamp.session event.now it.verdict (map asked_of it.rules.items))) }
     ensures unasked { IfOk result (λ found. IfNone found (IsUnasked event.now)) }
 {
     let scene = arena.try_alloc(core.scene(stamp.now, stamp.session))?;
@@ -73,7 +71,7 @@ impl<'a> Step<'a> {
     ) -> Result<Option<Explanation<'a>>, NoMemory>
         requires { scene_of self.scene.now ≡ scene_at self.core.now self.stamp.now self.stamp.session }
         ensures found { IfOk result (λ found. IfNone found ⊥) }
-        ensures verdict { IfOk result (λ found. IfSome found (λ it. IsReadVerdict (scene_at self.entry.core.now self.entry.stamp.now self.entry.stamp.session) (asked_for query.now) path.now it.verdict)) }
+        ensures says { IfOk result (λ found. IfSome found (λ it. IsOnRead self.entry.core.now self.entry.stamp.now self.entry.stamp.session path.now query.now it.verdict (map asked_of it.rules.items))) }
     {
         let asked = match query {
             Some(query) => query.asked(),
@@ -88,7 +86,7 @@ impl<'a> Step<'a> {
         requires moment { self.stamp.now ≤ MAX_MOMENT }
         requires scene { scene_of self.scene.now ≡ scene_at self.core.now self.stamp.now self.stamp.session }
         ensures overlapping { IfOk result (λ found. IfNone found (overlaps writes.now ≡ true)) }
-        ensures verdict { IfOk result (λ found. IfSome found (λ it. IsWriteVerdict (scene_at self.entry.core.now self.entry.stamp.now self.entry.stamp.session) (tree_with self.entry.core.now self.entry.stamp.now writes.now) (map location writes.now) it.verdict)) }
+        ensures says { IfOk result (λ found. IfSome found (λ it. IsOnWrites self.entry.core.now self.entry.stamp.now self.entry.stamp.session writes.now it.verdict (map asked_of it.rules.items))) }
     {
         if overlaps(writes) {
             return Ok(None);

@@ -9,7 +9,8 @@ use Rattle.judge.proofs.Coming.{is_proposed, tree_or_null-non_null}
 use Rattle.rtdb_model.specs.State.{scene_at}
 use Rattle.rtdb_model.specs.Step.{tree_with}
 use Rattle.rtdb_model.proofs.Filling.{moment_is_whole}
-use Rattle.rtdb_explain.proofs.Said.{same_verdict}
+use Rattle.request_explainer.specs.Asked.{asked_of}
+use Rattle.rtdb_explain.proofs.Said.{same_said}
 use Rattle.rtdb_explain.proofs.reasons.Step.writes.Goals as goal
 
 pub overlay-requires-clause-moment : goal.overlay-requires-clause-moment
@@ -21,13 +22,14 @@ explain_writes-requires c =
     ∙ is_proposed c.tree.result (option_map (λ (node : Bor Tree). node.now) c.tree.result) c.in_ok-coming.coming c.args.writes.now c.args.self.stamp.now refl c.in_ok-coming.ensures
     ∙ (λ i. proposed ((ap tree_or_null c.tree.ensures.tree ∙ tree_or_null-non_null c.args.self.core.now.tree ∙ sym (ap (λ (scene : Scene). scene.old) c.requires.scene)) i) c.args.writes.now (sym (ap (λ (scene : Scene). scene.moment) c.requires.scene) i))
 
-pub returns-clause-verdict : goal.returns-clause-verdict
-returns-clause-verdict c =
-    same_verdict (scene_of c.args.self.scene.now) (scene_at c.args.self.core.now c.args.self.stamp.now c.args.self.stamp.session)
+pub returns-clause-says : goal.returns-clause-says
+returns-clause-says c =
+    same_said (scene_of c.args.self.scene.now) (scene_at c.args.self.core.now c.args.self.stamp.now c.args.self.stamp.session)
     (tree_or_null c.in_ok-coming-2.coming.now) (tree_with c.args.self.core.now c.args.self.stamp.now c.args.writes.now)
-    (map location c.args.writes.now) c.in_ok-found.found.verdict
+    (map location c.args.writes.now) c.in_ok-found.found.verdict (map asked_of c.in_ok-found.found.rules.items)
     c.requires.scene
     (ap tree_or_null c.in_ok-coming-2.ensures
     ∙ is_proposed c.tree.result (option_map (λ (node : Bor Tree). node.now) c.tree.result) c.in_ok-coming.coming c.args.writes.now c.args.self.stamp.now refl c.in_ok-coming.ensures
     ∙ (λ i. proposed ((ap tree_or_null c.tree.ensures.tree ∙ tree_or_null-non_null c.args.self.core.now.tree) i) c.args.writes.now c.args.self.stamp.now))
     c.in_ok-found.ensures.verdict
+    c.in_ok-found.ensures.rules
