@@ -8,8 +8,7 @@
 //
 // Requests go out in the order in which they are made, and those made before the connection stands wait for it. After a loss
 // the client connects again, signs in and listens again. A read that was not answered is asked again; a write is rejected as
-// `ConnectionLost`, since nobody knows whether the server has made it. Disconnect actions end with the connection: whoever
-// still wants them establishes them again.
+// `ConnectionLost`, since nobody knows whether the server has made it. Disconnect actions end with the connection.
 
 /** @typedef {null | boolean | number | string | { [key: string]: Value }} Value  what is read: there are no arrays */
 /** @typedef {{ [path: string]: unknown }} Values */
@@ -49,13 +48,11 @@ export function connect(url, onState = () => {}) {
 
 /** Stands in a written value for the moment at which the server writes it. */
 export const serverTimestamp = () => ({ ".sv": "timestamp" });
+let lastMoment = 0; // of the newest key
 
-let lastMoment = 0;
-
-/** A key for a new child. One that this page makes later sorts behind it, as the keys of Firebase's push do; keys of several pages sort by their clocks. */
+/** A key for a new child. One that this page makes later sorts behind it, as the keys of Firebase's push do; those of others, by their clocks. */
 export function newKey() {
-  lastMoment = Math.max(Date.now(), lastMoment + 1);
-  const moment = lastMoment.toString(36).padStart(9, "0");
+  const moment = (lastMoment = Math.max(Date.now(), lastMoment + 1)).toString(36).padStart(9, "0");
   const random = Array.from(crypto.getRandomValues(new Uint8Array(11)), (it) => (it % 36).toString(36));
   return `-${moment}${random.join("")}`;
 }
