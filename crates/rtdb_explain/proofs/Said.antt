@@ -1,5 +1,5 @@
 -- Of equal scenes and trees the rules say the same.
-use Rattle.std.proofs.Common.{◌≡◌, ◌∙◌, ◌×◌, subst, List}
+use Rattle.std.proofs.Common.{◌≡◌, ◌∙◌, subst, List}
 use Rattle.tree_model.specs.Path.{Path}
 use Rattle.tree_model.specs.Tree.{Tree}
 use Rattle.judge.specs.Question.{Scene}

@@ -1,5 +1,5 @@
 -- What an explanation owes the event that it explains.
-use Rattle.std.specs.Prelude.{◌≡◌, ◌×◌, ℕ, List, [], ◌∷◌, map, true, Option, ⊤}
+use Rattle.std.specs.Prelude.{◌≡◌, ℕ, List, [], ◌∷◌, map, true, Option, ⊤}
 use Rattle.std.specs.List.Sorted.{IsPermutation}
 use Rattle.tree_model.specs.Path.{Path}
 use Rattle.tree_model.specs.Put.{location, overlaps}
