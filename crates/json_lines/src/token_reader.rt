@@ -11,8 +11,8 @@ use crate::plain_tokens::PlainTokens;
 use json::{Reader, Scratch, Token};
 use std::marker::Model;
 
-/// What hands out the tokens of a text one after another, and gives up only where a token is invalid, or for want of
-/// memory. Contracts see the tokens that are still to come.
+/// Returns the tokens of a text one after another, and fails only if a token is invalid or memory runs out. Contracts
+/// see the tokens that are still to come.
 #[derive(Drop)]
 pub(crate) struct TokenReader<'a> {
     plain: PlainTokens<'a>,

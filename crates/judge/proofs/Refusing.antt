@@ -179,7 +179,7 @@ not_here ask from d ls h = find_same _ _ ls (each ls)
 pub refused_none : (ask : Ask) (from : Path) (d : ℕ) (ls : List Path) → holds (ask from) ≡ false → Refuses (granted_below ask from) (names_below ask from) d ls None → Refuses (granted_from ask from) (names_from ask from) d ls None
 refused_none ask from d ls h none = not_here ask from d ls h ∙ none
 
--- no rule stands there that does not hold: the denial names none there
+-- there is no rule at this place, so the denial names none of it
 pub refused_unnamed : (ask : Ask) (from : Path) (d : ℕ) (ls : List Path) (o : Option Denial) → holds (ask from) ≡ false → failing (ask from) ≡ None → Refuses (granted_below ask from) (names_below ask from) d ls o → Refuses (granted_from ask from) (names_from ask from) d ls o
 refused_unnamed ask from d ls None h is g = refused_none ask from d ls h g
 refused_unnamed ask from d ls (Some denial) h is g = (

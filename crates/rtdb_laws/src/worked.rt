@@ -17,7 +17,7 @@ ghost use Rattle.rtdb_laws.specs.Worked.{at_the_root, one_session, root_alone};
 
 /// Under `{"rules":{".read":false,".write":true}}` each read of session 1 is denied, and the rule of the
 /// root is named, since it means false; where it is `null`, since it errs. Under a `.read` that is true
-/// it is answered by what stands there. Session 2 is answered that it is not open. It does nothing.
+/// it returns what is stored there. Session 2 is not open, and is refused by `NoSession`. It does nothing.
 pub fn what_reads_are_answered()
     ensures is_false { (tree : Tree) (now : ℕ) (path : Path) → Step (one_session (at_the_root False True) tree) now 1 (Event.Get path None) (Reply.Refused (Refusal.ReadDenied (root_alone No))) (one_session (at_the_root False True) tree) }
     ensures is_error { (tree : Tree) (now : ℕ) (path : Path) → Step (one_session (at_the_root Null True) tree) now 1 (Event.Get path None) (Reply.Refused (Refusal.ReadDenied (root_alone Erred))) (one_session (at_the_root Null True) tree) }
