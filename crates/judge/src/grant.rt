@@ -1,7 +1,7 @@
 //! Who may: the first location that no rule grants, and the rules that were asked for it.
 //!
-//! A walk over locations hands back whether all are granted. Where one is not, it reports the denial in a place
-//! that the caller provides: so what is handed back goes in registers, and where all are granted nothing is made
+//! A walk over locations returns whether all are granted. Where one is not, it reports the denial in a place
+//! that the caller provides: so what is returned goes in registers, and where all are granted nothing is made
 //! of a denial.
 ghost use Rattle.std.specs.List.{cons_option};
 ghost use Rattle.std.specs.Prelude.{◌≡◌, ◌+◌, ◌++◌, ◌≤◌, ◌<◌, [], None, is_none, length, option_map, option_and_then, IfOk, OnOk};

@@ -1,7 +1,7 @@
 //! Validation: the first failing place.
 //!
-//! A walk hands back whether each `.validate` holds. Where one does not, it reports the failure in a place that
-//! the caller provides: so what is handed back goes in registers, and where all hold nothing is made of a failure.
+//! A walk returns whether each `.validate` holds. Where one does not, it reports the failure in a place that
+//! the caller provides: so what is returned goes in registers, and where all hold nothing is made of a failure.
 ghost use Rattle.std.specs.Prelude.{◌≡◌, ◌≤◌, ◌<◌, length, map, reverse, None, is_none, IfOk, OnOk};
 ghost use Rattle.tree_model.specs.declared.limits.TheConstants.{MAX_DEPTH as most_keys};
 ghost use Rattle.tree_model.specs.Tree.{IsLawful};

@@ -32,7 +32,7 @@ impl Outgoing {
         })
     }
 
-    /// Hands what is kept to whoever writes behind it, and gets it back by [`Outgoing::put_back`].
+    /// Passes what is kept to what writes behind it; [`Outgoing::put_back`] takes it back.
     pub fn lend(&mut self, alloc: Global) -> Vec<u8>
         ensures lent { result.items ≡ self.old.bytes.items }
         ensures none { self.new.bytes.items ≡ [] }
