@@ -2,21 +2,38 @@
 
 import os
 import subprocess
+import sys
 
-from scratch import ROOT, output_of, stop
+from scratch import output_of, stop
 
-# It goes before the C library. It refuses the growth of one number, counted from 1, and tells how many there were.
+# It goes before the C library. It refuses the growth of one number, counted from 1. How many there were stands in a file from the
+# first one on, so that it can be read while the program runs, and however that ends.
 REFUSING = """
 #define _GNU_SOURCE
 #include <dlfcn.h>
-#include <stdio.h>
+#include <fcntl.h>
 #include <stdlib.h>
+#include <sys/mman.h>
+#include <unistd.h>
 
-static long made, refused = -1;
+static long own, refused, *made;
+
+/* Before the program, which may begin threads, or with the first growth of what is begun still earlier. */
+__attribute__((constructor)) static void begin(void) {
+    int file;
+    void *room = MAP_FAILED;
+    if (made) return;
+    file = open(getenv("GROWTHS"), O_RDWR | O_CREAT | O_TRUNC, 0600);
+    refused = atol(getenv("REFUSED_GROWTH"));
+    if (file >= 0 && ftruncate(file, sizeof(long)) == 0)
+        room = mmap(NULL, sizeof(long), PROT_READ | PROT_WRITE, MAP_SHARED, file, 0);
+    made = room == MAP_FAILED ? &own : room;
+    close(file);
+}
 
 static int is_refused(void) {
-    if (refused < 0) refused = atol(getenv("REFUSED_GROWTH"));
-    return ++made == refused;
+    if (!made) begin();
+    return __atomic_add_fetch(made, 1, __ATOMIC_RELAXED) == refused;
 }
 
 void *malloc(size_t size) {
@@ -30,30 +47,7 @@ void *realloc(void *old, size_t size) {
     if (!given) given = (void *(*)(void *, size_t))dlsym(RTLD_NEXT, "realloc");
     return is_refused() ? NULL : given(old, size);
 }
-
-__attribute__((destructor)) static void tell(void) {
-    long count = made;
-    FILE *file = fopen(getenv("GROWTHS"), "w");
-    if (file) { fprintf(file, "%ld", count); fclose(file); }
-}
-
-/* A test that has begun a thread ends without destructors. */
-void _exit(int status) {
-    void (*given)(int) = (void (*)(int))dlsym(RTLD_NEXT, "_exit");
-    tell();
-    given(status);
-    __builtin_unreachable();
-}
 """
-
-
-def built_program():
-    """The program, proved and built."""
-    folder = ROOT / "crates" / "rtdb"
-    status, said = output_of(["rt", "run"], folder)
-    if status:
-        stop(f"the program is not proved, or does not run:\n{said[-2000:]}")
-    return folder / "out" / "rtdb"
 
 
 def built_refusing(room):
@@ -66,14 +60,19 @@ def built_refusing(room):
     return library
 
 
-def run_refusing(words, room, library, number, given=None):
+def refusing(room, library, number):
+    """The environment in which a program has the growth of this number refused (none: 0)."""
+    return {**os.environ, "LD_PRELOAD": str(library), "REFUSED_GROWTH": str(number), "GROWTHS": str(room / "growths")}
+
+
+def run_refusing(words, room, library, number, given=b""):
     """Runs a command with the growth of this number refused (none: 0), over these bytes: what became of it."""
-    said = {"LD_PRELOAD": str(library), "REFUSED_GROWTH": str(number), "GROWTHS": str(room / "growths")}
-    how = {"cwd": room, "env": {**os.environ, **said}, "timeout": 60}
-    how.update({"stdin": subprocess.DEVNULL} if given is None else {"input": given})
-    return subprocess.run(words, capture_output=True, check=False, **how)
+    # From a file: a pipe gives them in pieces, which differ from run to run, and with them how many growths there are.
+    (room / "given").write_bytes(given)
+    with open(room / "given", "rb") as source:
+        return subprocess.run(words, stdin=source, cwd=room, env=refusing(room, library, number), capture_output=True, timeout=60, check=False)
 
 
 def growths_made(room):
-    """How many growths the last run made."""
-    return int((room / "growths").read_text(encoding="ascii"))
+    """How many growths the last run has made so far."""
+    return int.from_bytes((room / "growths").read_bytes(), sys.byteorder)
