@@ -24,10 +24,12 @@ use files::SystemFiles;
 use printing::Printing;
 use scripts::{Reading, Writing};
 use std::process::ExitCode;
-use std::{env, io};
+use std::{env, io, thread};
 
+// All is done on a second thread. The stack of the first grows as it is used, and where the system refuses that, the
+// program is killed: a stranger's rules file that nests deep could do so. The stack of the second is there from the start.
 fn main(rt: HostRuntime) -> ExitCode {
-    let status = match words_of(&rt) {
+    let obeyed = || match words_of(&rt) {
         Ok(words) => command(
             &rt,
             rt.alloc(),
@@ -42,6 +44,7 @@ fn main(rt: HostRuntime) -> ExitCode {
             _ => refuse(&rt),
         },
     };
+    let (status, ()) = thread::join(&rt, obeyed, || ());
     ExitCode::from(status)
 }
 
