@@ -88,12 +88,20 @@ IsPlaceOf text TooManyRules place = IsPlaceOfSomeRule text place
 IsPlaceOf text (BadRule rule fault) place = IsPlaceOfRule text (texts rule.pattern) rule.kind fault place
 IsPlaceOf text NoMemory place = ⊥
 
+-- the place where a fault shows that a member or a rule has: a bad member is always shown at its name
+abbrev pub IsPlaceOfOne : List ℕ → RulesFault → ℕ → Type 0
+IsPlaceOfOne text BadRulesJson place = ⊥
+IsPlaceOfOne text (BadRulesShape at) place = IsPlaceOfMember text (texts at) place
+IsPlaceOfOne text TooManyRules place = ⊥
+IsPlaceOfOne text (BadRule rule fault) place = IsPlaceOfRule text (texts rule.pattern) rule.kind fault place
+IsPlaceOfOne text NoMemory place = ⊥
+
 -- ---- what is found
 
 -- a fault of the text, with its place, where one is named
 pub record IsRight (text : List ℕ) (finding : Finding) : Type 0 where
   pub right : HasFault text finding.fault
-  pub placed : IfSome finding.place (IsPlaceOf text finding.fault)
+  pub placed : IfSome finding.place (IsPlaceOfOne text finding.fault)
 
 -- faults of the plain text of a file, with their places, where such are named
 pub record AreFindings (file : List ℕ) (findings : List Finding) : Type 0 where

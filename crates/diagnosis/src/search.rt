@@ -8,7 +8,7 @@ ghost use Rattle.serde_json.specs.Data.{string};
 ghost use Rattle.rules_reader.specs.File.{json_of, is_sound_member};
 ghost use Rattle.rules_reader.specs.Book.{kind_name};
 ghost use Rattle.diagnosis.specs.Written.{text_at, IsNamedAt};
-ghost use Rattle.diagnosis.specs.Finding.{path_of, member_path, IsPlaceOf, IsPlaceOfRule, IsPlaceOfMember, HasFault, HasRival, IsRight};
+ghost use Rattle.diagnosis.specs.Finding.{path_of, member_path, IsPlaceOf, IsPlaceOfOne, IsPlaceOfRule, IsPlaceOfMember, HasFault, HasRival, IsRight};
 
 use crate::advice::{advice_on_fault, advice_on_member, advice_on_rival, advice_on_rule};
 use crate::all_faults::MAX_FINDINGS;
@@ -215,7 +215,7 @@ impl<'a> Search<'a> {
         spot: Spot,
     ) -> Result<Option<usize>, NoMemory>
         requires { json_of self.now.text.now ≡ Some (view self.now.value.now) }
-        ensures { IfOk result (λ place. IfSome place (IsPlaceOf self.now.text.now fault.now)) }
+        ensures { IfOk result (λ place. IfSome place (IsPlaceOfOne self.now.text.now fault.now)) }
     {
         match fault {
             RulesFault::BadRulesShape(pattern) => self.place_of_bad(pattern, member, spot),
