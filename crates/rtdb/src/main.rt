@@ -26,8 +26,9 @@ use scripts::{Reading, Writing};
 use std::process::ExitCode;
 use std::{env, io, thread};
 
-// All is done on a second thread. The stack of the first grows as it is used, and where the system refuses that, the
-// program is killed: a stranger's rules file that nests deep could do so. The stack of the second is there from the start.
+// All is done on a second thread, where the system gives one. The stack of the first grows as it is used, and where the
+// system refuses that, the program is killed: a stranger's rules file that nests deep could do so. The stack of the second
+// is there from the start.
 fn main(rt: HostRuntime) -> ExitCode {
     let obeyed = || match words_of(&rt) {
         Ok(words) => command(
