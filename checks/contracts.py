@@ -87,6 +87,7 @@ class Function:
     def __init__(self, file, path, start, end, source):
         self.file, self.path, self.start, self.end = file, path, start, end
         self.name = path.split("::")[-1]
+        self.lines = source.count("\n", start, end) + 1
         self.words = set(re.findall(r"\w+", source[start:end])) - {self.name}
 
 
