@@ -11,6 +11,8 @@ import random
 import re
 
 dice = random.Random()
+# A new seed is smaller, so that it is soon typed.
+SEEDS = 1_000_000
 
 KEYS = ["a", "b", "c", "n", "1", "2", "10", "01", "-3", "ann", "bob", "é"]
 ODD_KEYS = ["-0", "+1", "2147483648", "-2147483648", "2147483647", "-2147483649", "00000000000001", "a b", "𝄞", "k" * 768, "é" * 384]
@@ -24,6 +26,11 @@ UIDS = ["ann", "bob", "1", ""]
 # Keys under which mostly one type stands, so that what reads them mostly means something.
 TYPED = {"n": "number", "1": "number", "ann": "text", "c": "text", "bob": "boolean"}
 CLAIMS = ["staff", "level", "val", "matches", "length", "admin"]
+
+
+def new_seed():
+    """A seed that nobody has chosen."""
+    return random.SystemRandom().randrange(SEEDS)
 
 
 def chance(probability):
