@@ -14,8 +14,6 @@ mod literal;
 mod members;
 mod search;
 mod sentence;
-#[cfg(test)]
-mod tests;
 
 pub use all_findings::lint;
 pub use finding::{Demand, Finding, Member, Reason};

@@ -8,8 +8,6 @@
 #![tactic(auto)]
 
 mod command;
-#[cfg(test)]
-mod commands;
 mod contents;
 mod explain;
 mod files;

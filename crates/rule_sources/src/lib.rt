@@ -10,8 +10,6 @@ mod origins;
 mod source;
 mod spans;
 mod spot;
-#[cfg(test)]
-mod tests;
 
 pub use file::rule_sources;
 pub use source::RuleSource;

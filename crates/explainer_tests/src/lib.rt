@@ -1,5 +1,0 @@
-//! The tests of `explainer`.
-#![tactic(auto)]
-
-#[cfg(test)]
-mod explained;
