@@ -1,4 +1,5 @@
-//! The tests of calls of the libraries that no script makes. All others are cases that the built program is asked.
+//! The tests of libraries below the machine: calls that no program makes, and faults in words, which none prints. All else is
+//! asked of the built programs, by `cases` and `checks`.
 #![tactic(auto)]
 
 #[cfg(test)]
