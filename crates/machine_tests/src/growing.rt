@@ -197,7 +197,7 @@ fn is_refused(place: &mut Place, step: &Row, limit: usize) -> Result<bool, Troub
     } else if said.as_slice() == NO_MEMORY.as_bytes() {
         Ok(true)
     } else {
-        Err(Trouble::OtherAnswer(step.0))
+        Err(step.0)
     }
 }
 

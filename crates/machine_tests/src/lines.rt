@@ -11,14 +11,11 @@ use tokens::Tokens;
 /// A line, and its answer.
 pub(crate) type Row = (&'static str, &'static str);
 
-/// Why a test does not go on.
-#[derive(Clone, Copy, Debug)]
-pub(crate) enum Trouble {
-    /// Memory was wanting beside the step that a test is about.
-    NoMemory,
-    /// This line was answered otherwise than it should be.
-    OtherAnswer(&'static str),
-}
+/// Why a test does not go on: a line that was answered otherwise than it should be, or want of memory.
+pub(crate) type Trouble = &'static str;
+
+/// Memory was wanting beside the step that a test is about.
+pub(crate) const WANT_OF_MEMORY: Trouble = "NoMemory";
 
 /// All is granted.
 pub(crate) const OPEN: &str = r#"{"rules":{".read":true,".write":true}}"#;
@@ -39,15 +36,13 @@ const TOKENS: &str =
 pub(crate) fn two_tokens(alloc: Global) -> Result<Tokens, Trouble> {
     Tokens::read(alloc, TOKENS.as_bytes())
         .ok()
-        .ok_or(Trouble::NoMemory)
+        .ok_or(WANT_OF_MEMORY)
 }
 
 /// A database under these rules, without a tree and without a session.
 pub(crate) fn core_under(alloc: Global, file: &str) -> Result<Core, Trouble> {
-    let rules = compile(alloc, file.as_bytes())
-        .ok()
-        .ok_or(Trouble::NoMemory)?;
-    Core::new(alloc, rules, None).ok().ok_or(Trouble::NoMemory)
+    let rules = compile(alloc, file.as_bytes()).ok().ok_or(WANT_OF_MEMORY)?;
+    Core::new(alloc, rules, None).ok().ok_or(WANT_OF_MEMORY)
 }
 
 /// What a line asks. Each line of these tests asks something.
@@ -56,20 +51,18 @@ pub(crate) fn asked(alloc: Global, tokens: &Tokens, line: &str) -> Result<Asked,
 {
     match read_asked(alloc, tokens, line.as_bytes(), Form::Script) {
         Ok(asked) => Ok(asked),
-        Err(_) => Err(Trouble::NoMemory),
+        Err(_) => Err(WANT_OF_MEMORY),
     }
 }
 
 /// The text of a reply.
 pub(crate) fn text_of(alloc: Global, reply: &Reply) -> Result<Vec<u8>, Trouble> {
-    write_reply(alloc, reply).ok().ok_or(Trouble::NoMemory)
+    write_reply(alloc, reply).ok().ok_or(WANT_OF_MEMORY)
 }
 
 /// A text with a piece in the place of each sign `@`.
 pub(crate) fn filled(alloc: Global, text: &str, piece: &str) -> Result<String, Trouble> {
-    with_pieces(alloc, text, piece)
-        .ok()
-        .ok_or(Trouble::NoMemory)
+    with_pieces(alloc, text, piece).ok().ok_or(WANT_OF_MEMORY)
 }
 
 fn with_pieces(alloc: Global, text: &str, piece: &str) -> Result<String, AllocError> {

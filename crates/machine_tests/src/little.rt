@@ -161,7 +161,7 @@ fn ask(alloc: Global, question: &Question) -> Result<(), Trouble> {
     if said.as_slice() == question.row.1.as_bytes() {
         Ok(())
     } else {
-        Err(Trouble::OtherAnswer(question.row.0))
+        Err(question.row.0)
     }
 }
 

@@ -38,7 +38,7 @@ impl Place {
         if self.say(arena, row.0)?.as_slice() == row.1.as_bytes() {
             Ok(())
         } else {
-            Err(Trouble::OtherAnswer(row.0))
+            Err(row.0)
         }
     }
 

@@ -4,7 +4,7 @@ ghost use Rattle.sessions.specs.Traffic.{IsOpen};
 use crate::frames::{
     BINARY, BINARY_BEGINS, CLOSE, Frame, LAST_PART, PING, TEXT, bytes_of, texts_in,
 };
-use crate::lines::{Trouble, two_tokens};
+use crate::lines::{Trouble, WANT_OF_MEMORY, two_tokens};
 use crate::streams::{Course, open_hall, serve, serve_as};
 use crate::wire::{Last, Wire};
 use bumpalo::Bump;
@@ -94,7 +94,7 @@ fn is_cut_well<R: Wait>(
     last: Last,
 ) -> Result<bool, Trouble> {
     let front = bytes.get(..length).unwrap_or(bytes);
-    let front = front.to_vec(alloc).ok().ok_or(Trouble::NoMemory)?;
+    let front = front.to_vec(alloc).ok().ok_or(WANT_OF_MEMORY)?;
     let left = serve(rt, alloc, Wire::new(alloc, front, last, ALL), TURNS)?;
     let end = match last {
         Last::Stops => SessionEnd::PeerFault,
@@ -124,7 +124,7 @@ fn is_refused_well<R: Wait>(
     bytes: &[u8],
     writes: u64,
 ) -> Result<bool, Trouble> {
-    let bytes = bytes.to_vec(alloc).ok().ok_or(Trouble::NoMemory)?;
+    let bytes = bytes.to_vec(alloc).ok().ok_or(WANT_OF_MEMORY)?;
     let stream = Wire::new(alloc, bytes, Last::Waits, writes);
     let left = serve(rt, alloc, stream, TURNS)?;
     let Course { read, answered, .. } = left.course;
@@ -211,7 +211,7 @@ const ROUNDS: [Round; 4] = [
 
 // Whether a round ends and leaves what it should.
 fn is_round<R: Wait>(rt: &R, alloc: Global, round: &Round) -> Result<bool, Trouble> {
-    let bytes = bytes_of(alloc, round.frames).ok().ok_or(Trouble::NoMemory)?;
+    let bytes = bytes_of(alloc, round.frames).ok().ok_or(WANT_OF_MEMORY)?;
     let stream = Wire::new(alloc, bytes, Last::Waits, ALL);
     let left = serve(rt, alloc, stream, round.turns)?;
     let Course { read, answered, .. } = left.course;
@@ -247,7 +247,7 @@ fn answer_and_serve<R: Wait, P: Peer>(
     let (hall, mut seat) = open_hall(alloc)?;
     drop(hall.call(rt, &mut seat, &mut arena, 1, 1, Event::Open));
     let said = answer(rt, alloc, &hall, &mut seat, &mut arena, tokens, 1, 5, GET);
-    let said = said.ok().ok_or(Trouble::NoMemory)?;
+    let said = said.ok().ok_or(WANT_OF_MEMORY)?;
     let course = serve_as(rt, alloc, &hall, &mut seat, &mut arena, tokens, peer, TURNS);
     Ok((said, course.end))
 }

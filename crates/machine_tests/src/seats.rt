@@ -1,14 +1,14 @@
 //! Lines of every kind, said to a hall at several seats, and what each is answered, whatever the other seats do.
-ghost use Rattle.std.specs.Prelude.{◌≡◌, IfOk};
+ghost use Rattle.std.specs.Prelude.{◌≡◌, ◌≤◌, IfOk};
 
-use crate::lines::{OK, Row, Trouble, asked, filled, text_of, two_tokens};
+use crate::lines::{OK, Row, Trouble, WANT_OF_MEMORY, asked, filled, text_of, two_tokens};
 use crate::streams::open_hall;
 use crate::threads::work_as_many;
 use bumpalo::Bump;
 use json_tree::{Node, to_json};
 use locked_server::{Hall, Seat};
 use requests::Asked;
-use rtdb_core::{Core, Event};
+use rtdb_core::{Core, Event, MAX_MOMENT, Reply};
 use std::alloc::Global;
 use std::sync::Wait;
 use std::test::Fail;
@@ -138,7 +138,17 @@ const ROWS: [Row; 38] = [
 const TREE: &str =
     r#"{"w1":{"a":2,"c":1},"w2":{"a":2,"c":1},"w3":{"a":2,"c":1},"w4":{"a":2,"c":1},"w5":{"a":2,"c":1},"w6":{"a":2,"c":1},"w7":{"a":2,"c":1},"w8":{"a":2,"c":1}}"#;
 
-// What a hall answers to a line at a seat.
+// What a hall replies at a seat.
+fn reply_of<R: Wait>(rt: &R, hall: &Hall, seat: &mut Seat, arena: &mut Bump, asked: Asked) -> Reply
+    requires hall { seat.old.hall ≡ hall.now }
+    requires moment { asked.stamp.now ≤ MAX_MOMENT }
+    ensures { seat.new.hall ≡ hall.now }
+{
+    let Asked { stamp, event } = asked;
+    hall.call(rt, seat, arena, stamp.now, stamp.session, event)
+}
+
+// What it answers to a line.
 fn say<R: Wait>(
     rt: &R,
     alloc: Global,
@@ -151,8 +161,8 @@ fn say<R: Wait>(
     requires { seat.old.hall ≡ hall.now }
     ensures { seat.new.hall ≡ hall.now }
 {
-    let Asked { stamp, event } = asked(alloc, tokens, line)?;
-    let reply = hall.call(rt, seat, arena, stamp.now, stamp.session, event);
+    let asked = asked(alloc, tokens, line)?;
+    let reply = reply_of(rt, hall, seat, arena, asked);
     text_of(alloc, &reply)
 }
 
@@ -175,7 +185,7 @@ fn hear<R: Wait>(
     if said.as_slice() == row.1.as_bytes() {
         Ok(())
     } else {
-        Err(Trouble::OtherAnswer(row.0))
+        Err(row.0)
     }
 }
 
@@ -211,7 +221,7 @@ fn make_round<R: Wait>(
     ensures { seat.new.hall ≡ hall.now }
 {
     let tokens = two_tokens(alloc)?;
-    let number = number.to_string(alloc).ok().ok_or(Trouble::NoMemory)?;
+    let number = number.to_string(alloc).ok().ok_or(WANT_OF_MEMORY)?;
     make_rows(rt, alloc, hall, seat, arena, &tokens, number.as_str())
 }
 
@@ -224,9 +234,10 @@ pub(crate) enum Stop {
 
 impl Stop {
     fn of(trouble: Trouble) -> Stop {
-        match trouble {
-            Trouble::NoMemory => Stop::NoMemory,
-            Trouble::OtherAnswer(_) => Stop::OtherAnswer,
+        if trouble == WANT_OF_MEMORY {
+            Stop::NoMemory
+        } else {
+            Stop::OtherAnswer
         }
     }
 }
@@ -254,8 +265,8 @@ pub(crate) fn make_rounds<R: Wait>(
 
 /// The JSON text of a tree.
 pub(crate) fn text_of_tree(alloc: Global, tree: Option<&Node>) -> Result<String, Trouble> {
-    let value = to_json(alloc, tree).ok().ok_or(Trouble::NoMemory)?;
-    value.to_string(alloc).ok().ok_or(Trouble::NoMemory)
+    let value = to_json(alloc, tree).ok().ok_or(WANT_OF_MEMORY)?;
+    value.to_string(alloc).ok().ok_or(WANT_OF_MEMORY)
 }
 
 // Whether all sessions have gone and left what they should.

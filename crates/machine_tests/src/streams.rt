@@ -3,7 +3,7 @@ ghost use Rattle.std.specs.Prelude.{◌≡◌, IfOk};
 ghost use Rattle.sessions.specs.Traffic.{IsOpen};
 
 use crate::frames::texts_in;
-use crate::lines::{OPEN, Trouble, core_under, two_tokens};
+use crate::lines::{OPEN, Trouble, WANT_OF_MEMORY, core_under, two_tokens};
 use crate::seats::text_of_tree;
 use crate::wire::Wire;
 use bumpalo::Bump;
@@ -78,7 +78,7 @@ pub(crate) struct Left {
 
 impl Left {
     fn of(alloc: Global, course: Course, output: &[u8], core: &Core) -> Result<Left, Trouble> {
-        let texts = texts_in(alloc, output).ok().ok_or(Trouble::NoMemory)?;
+        let texts = texts_in(alloc, output).ok().ok_or(WANT_OF_MEMORY)?;
         let tree = text_of_tree(alloc, core.tree())?;
         let sessions = core.sessions();
         Ok(Left {
@@ -102,7 +102,7 @@ pub(crate) fn open_hall(alloc: Global) -> Result<(Hall, Seat), Trouble>
     let core = core_under(alloc, OPEN)?;
     match Hall::new(alloc, core) {
         Ok(made) => Ok(made),
-        Err(_) => Err(Trouble::NoMemory),
+        Err(_) => Err(WANT_OF_MEMORY),
     }
 }
 
