@@ -3,7 +3,7 @@ use Rattle.std.proofs.Common.{◌≡◌, ◌⊎◌, inl, inr, ℕ, List, Option,
 use Rattle.scripts.specs.declared.header.Opened.{Opened}
 use Rattle.rtdb.specs.Command.{AreRead, HasServed, IsServed}
 use Rattle.rtdb.specs.Opening.{Begins, FileBytes}
-use Rattle.rtdb.specs.Order.{Served}
+use Rattle.command_line.specs.Order.{Served}
 use Rattle.rtdb.specs.Status.{done, failed, no_memory}
 
 pub has_served : (known : List ℕ → Option (List ℕ)) (options : Served) (files : FileBytes) (opened : Opened) (before after : Option (List ℕ)) (status : ℕ) → AreRead known options files → Begins files (Ok opened)

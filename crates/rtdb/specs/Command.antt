@@ -16,7 +16,7 @@ use Rattle.locked_server.specs.Known.{Known}
 use Rattle.server.specs.Served.{HasServed as HasPrinted}
 use Rattle.rtdb.specs.declared.contents.TheConstants.{MOST_BYTES}
 use Rattle.rtdb.specs.Opening.{FileBytes, Begins}
-use Rattle.rtdb.specs.Order.{Wanted, Served, checks, runs, serves}
+use Rattle.command_line.specs.Order.{Wanted, Served, checks, runs, serves}
 use Rattle.rtdb.specs.Status.{done, refused, failed, no_memory, status_of}
 
 -- ---- to check a file

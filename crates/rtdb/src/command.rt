@@ -3,19 +3,18 @@ ghost use Rattle.std.specs.Prelude.{◌≡◌, ◌≢◌, ◌<◌, ◌⊎◌, []
 ghost use Rattle.std.specs.Io.KnownBytes.{Appends};
 ghost use Rattle.clap.specs.Words.{fault_of};
 ghost use Rattle.scripts.specs.Said.{as_line};
-ghost use Rattle.rtdb.specs.Order.{the_program, Wanted, AreOrder};
+ghost use Rattle.command_line.specs.Order.{the_program, Wanted, AreOrder};
 ghost use Rattle.rtdb.specs.Status.{bad_line, failed, no_memory, status_of};
 ghost use Rattle.rtdb.specs.Command.{IsChecked, HasChecked, HasRun, HasDone};
 ghost use Rattle.rtdb.specs.Working.{IsTooLong};
 
 use crate::explain::explain_rules;
 use crate::files::{Files, ReadFault};
-use crate::line::order;
 use crate::printing::Printing;
 use crate::serve::serve;
-use crate::wanted::{LineFault, Order};
 use answers::{write_accepted, write_rules_fault};
 use bumpalo::Bump;
+use command_line::{LineFault, Order, order};
 use json_tree::NoMemory;
 use rules_reader::{MAX_FILE_BYTES, compile};
 use scripts::{ScriptEnd, Sink, Source, run_last_script, send_text};

@@ -2,13 +2,13 @@
 ghost use Rattle.std.specs.Prelude.{◌≡◌, ◌⊎◌, IfOk, IfErr, option_map};
 ghost use Rattle.rtdb.specs.Command.{AreRead, IsFront, IsFrontOf};
 ghost use Rattle.rtdb.specs.Opening.{bytes_of};
-ghost use Rattle.rtdb.specs.Order.{served_by};
+ghost use Rattle.command_line.specs.Order.{served_by};
 ghost use Rattle.rtdb.specs.Status.{failed, no_memory};
 
 use crate::command::{FAILED, out_of_memory};
 use crate::files::{Files, ReadFault};
 use crate::opening::Contents;
-use crate::wanted::ServeOptions;
+use command_line::ServeOptions;
 use rules_reader::MAX_FILE_BYTES;
 use std::alloc::Global;
 use std::io;

@@ -2,7 +2,7 @@
 
 use crate::command::REFUSED;
 use crate::opening::Contents;
-use crate::wanted::ServeOptions;
+use command_line::ServeOptions;
 use diagnosis::{diagnose, report, report_data, report_tokens};
 use json_lines::MessageFault;
 use json_tree::NoMemory;

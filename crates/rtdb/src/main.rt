@@ -11,11 +11,9 @@ mod command;
 mod contents;
 mod explain;
 mod files;
-mod line;
 mod opening;
 mod printing;
 mod serve;
-mod wanted;
 
 use command::{BAD_LINE, command, out_of_memory};
 use files::SystemFiles;

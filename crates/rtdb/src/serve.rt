@@ -2,7 +2,7 @@
 ghost use Rattle.std.specs.Prelude.{◌≡◌, ◌⊎◌, true, false, IfOk, OnOk, ◌++◌};
 ghost use Rattle.scripts.specs.Said.{as_line, header_fault_text};
 ghost use Rattle.rtdb.specs.Command.{HasServed, IsServed};
-ghost use Rattle.rtdb.specs.Order.{served_by};
+ghost use Rattle.command_line.specs.Order.{served_by};
 ghost use Rattle.rtdb.specs.Status.{done, failed, no_memory, refused};
 ghost use Rattle.rtdb.specs.Working.{IsTold};
 
@@ -12,8 +12,8 @@ use crate::explain::explain_fault;
 use crate::files::Files;
 use crate::opening::open_contents;
 use crate::printing::Printing;
-use crate::wanted::ServeOptions;
 use answers::AnswerWriter;
+use command_line::ServeOptions;
 use json_tree::NoMemory;
 use locked_server::Hall;
 use rtdb_core::Refusal;

@@ -8,24 +8,12 @@
 //! without a script is certain is the contract of [`lint`](lint::lint).
 #![tactic(auto)]
 
-mod coverage;
-mod decided;
-mod errors;
-mod findings;
-mod html;
 mod line;
-mod marks;
-mod page;
 mod reasons;
-mod records;
 mod replay;
-mod report;
-mod rules_file;
-mod values;
 
-use findings::findings_in_words;
+use explanation_texts::{Records, findings_in_words};
 use line::{LineFault, Options, Task, order};
-use records::Records;
 use replay::explain_script;
 use rules_reader::{MAX_FILE_BYTES, RulesFault, compile};
 use std::alloc::Global;

@@ -5,9 +5,8 @@ ghost use Rattle.rtdb_model.specs.Filled.{IsFilled};
 
 use crate::line::Options;
 use crate::reasons::explained;
-use crate::records::Records;
-use crate::report::Fate;
 use bumpalo::Bump;
+use explanation_texts::{Fate, Records};
 use json_lines::{MessageFault, read_value};
 use json_tree::NoMemory;
 use requests::{Asked, Form, LineFault, MessageReader, Stamp, Wanted};
@@ -64,7 +63,12 @@ impl Replay {
             alloc,
             reader: MessageReader::new(alloc),
             opened,
-            records: Records::new(alloc, options, rules_of_header(alloc, line)?)?,
+            records: Records::new(
+                alloc,
+                options.all,
+                options.page.is_some(),
+                rules_of_header(alloc, line)?,
+            )?,
         }))
     }
 

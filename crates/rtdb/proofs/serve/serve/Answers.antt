@@ -1,5 +1,5 @@
 use Rattle.rtdb.specs.Opening.{bytes_of}
-use Rattle.rtdb.specs.Order.{served_by}
+use Rattle.command_line.specs.Order.{served_by}
 use Rattle.rtdb.proofs.Serving.{has_served}
 use Rattle.rtdb.proofs.serve.serve.Goals as goal
 

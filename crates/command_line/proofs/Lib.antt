@@ -1,0 +1,5 @@
+pub mod Described
+pub mod Found
+pub mod Named
+pub mod Reading
+pub mod Walked

@@ -1,5 +1,0 @@
-use Rattle.rtdb.proofs.Named.{some_order}
-use Rattle.rtdb.proofs.line.faultless_words_are_an_order.Goals as goal
-
-pub returns : goal.returns
-returns c = some_order
