@@ -21,6 +21,8 @@ from scratch import ROOT, begin, edits_in, end_all, lanes, stop, wait_for
 
 # What a check takes in processor seconds: to load the libraries, and for each line of code, its proof included; as measured.
 LOADING, A_LINE = 20, 0.3
+# What an edit comes to with which a crate is proved.
+STAYS = "STAYS PROVED"
 # How many edits one check tries at most.
 MOST = 12
 # A check that takes so many times what was expected of it is ended.
@@ -199,7 +201,7 @@ def try_alone(sample, crate, edit, changed_by):
     sample.budget.settle(cost, taken)
     refused = status == 1 and re.search(r"^logic=not-proved", said, re.M)
     bad = re.search(r"\berror\[[\w-]+\]", said) and not refused
-    sample.note(crate, edit, "refused" if refused else "STAYS PROVED" if status == 0 else "BAD EDIT: it does not compile" if bad else "not decided")
+    sample.note(crate, edit, "refused" if refused else STAYS if status == 0 else "BAD EDIT: it does not compile" if bad else "not decided")
 
 
 def work(sample, try_group, changed_by):
@@ -231,7 +233,7 @@ def work(sample, try_group, changed_by):
 
 
 def sample_edits(minutes, seed, turned_by, reached_from, try_group, changed_by):
-    """Tries edits drawn at random within so many processor minutes. The status is 1 where one stays proved or does not compile."""
+    """Tries edits drawn at random within so many processor minutes. The status is 1 where one stays proved, or none is refused."""
     crates = libraries_by_crate()
     names = [it for it in crates if edits_in(ROOT / "crates" / it / "planted") and has_libraries(it, crates)]
     if not names:
@@ -250,7 +252,9 @@ def sample_edits(minutes, seed, turned_by, reached_from, try_group, changed_by):
     finally:
         end_all()
     found = list(sample.judged.values())
-    refused, undecided = found.count("refused"), sum(it.startswith("not decided") for it in found)
-    print(f"{60 * minutes - sample.budget.left:.0f} processor seconds in {time.monotonic() - began:.0f} seconds; {undecided} not decided")
-    print(f"{refused} passed, {len(found) - refused - undecided} failed")
-    return 1 if refused + undecided < len(found) or not refused else 0
+    refused, stays = found.count("refused"), found.count(STAYS)
+    bad = sum(it.startswith("BAD EDIT") for it in found)
+    print(f"{60 * minutes - sample.budget.left:.0f} processor seconds in {time.monotonic() - began:.0f} seconds")
+    print(f"{len(found) - refused - stays - bad} not decided, {bad} to be mended")
+    print(f"{refused} passed, {stays} failed")
+    return 1 if stays or not refused else 0
