@@ -7,7 +7,7 @@ use Rattle.rtdb_model.specs.declared.event.Event.{Event}
 use Rattle.rtdb_model.specs.declared.event.Event.TheVariants.{Leave, RunNext, Close}
 use Rattle.rtdb_model.specs.declared.reply.Reply.{Reply}
 use Rattle.sessions.specs.Traffic.{Adds}
-use Rattle.sessions.specs.Calls.{Gains, entered}
+use Rattle.sessions.specs.Calls.{Gains, called}
 use Rattle.sessions.specs.Turns.{Deeds, both, calling}
 use Rattle.sessions.specs.Departure.{Run, runs_in, found_none, AreRun}
 use Rattle.sessions.specs.Serving.{world}
@@ -17,9 +17,9 @@ use Rattle.sessions.proofs.Going.{goes_nothing, goes_both, goes_calling, both-no
 
 -- ---- what goes by without the peer
 
-pub quiet_calling : (now session : ℕ) (event : Event) (reply : Reply) (k l : Known) (m n : Option (List ℕ)) → Adds m (now ∷ []) n → Gains k (entered now session event reply) l
+pub quiet_calling : (now session : ℕ) (event : Event) (reply : Reply) (k l : Known) (m n : Option (List ℕ)) → Adds m (now ∷ []) n → Gains k (called now session event reply) l
     → Quietly k m (calling now session event reply) l n
-quiet_calling now session event reply k l m n reads gains = λ p. goes_calling k l m n p p now (entered now session event reply) [] reads gains (moves_none p p refl refl)
+quiet_calling now session event reply k l m n reads gains = λ p. goes_calling k l m n p p now (called now session event reply) [] reads gains (moves_none p p refl refl)
 
 quiet_both : (k l o : Known) (m n q : Option (List ℕ)) (d e : Deeds) → Quietly k m d l n → Quietly l n e o q → Quietly k m (both d e) o q
 quiet_both k l o m n q d e x y = λ p. goes_both (world k m p) (world l n p) (world o q p) [] [] d e (x p) (y p)
@@ -47,13 +47,13 @@ one_run : (r : Run) → found_none r.reply ≡ false → All (λ run. found_none
 one_run r h zero d lt = h
 one_run r h (suc k) d lt = absurd (omega arith)
 
-quiet_more : (session now : ℕ) (reply : Reply) (rs : List Run) (k l o : Known) (m n q : Option (List ℕ)) → Quietly k m (runs_in session rs) l n → Adds n (now ∷ []) q → Gains l (entered now session RunNext reply) o
+quiet_more : (session now : ℕ) (reply : Reply) (rs : List Run) (k l o : Known) (m n q : Option (List ℕ)) → Quietly k m (runs_in session rs) l n → Adds n (now ∷ []) q → Gains l (called now session RunNext reply) o
     → Quietly k m (runs_in session (rs ++ record { moment = now; reply = reply } ∷ [])) o q
 quiet_more session now reply rs k l o m n q x reads gains =
     subst (λ (d : Deeds). Quietly k m d o q) (sym (runs_in-snoc session rs (record { moment = now; reply = reply })))
     (quiet_both k l o m n q (runs_in session rs) (calling now session RunNext reply) x (quiet_calling now session RunNext reply l o n q reads gains))
 
-pub runs_more : (session c now : ℕ) (reply : Reply) (k l o : Known) (m n q : Option (List ℕ)) → RunsSoFar session c k m l n → Adds n (now ∷ []) q → Gains l (entered now session RunNext reply) o
+pub runs_more : (session c now : ℕ) (reply : Reply) (k l o : Known) (m n q : Option (List ℕ)) → RunsSoFar session c k m l n → Adds n (now ∷ []) q → Gains l (called now session RunNext reply) o
     → found_none reply ≡ false → RunsSoFar session (c + 1) k m o q
 runs_more session c now reply k l o m n q s reads gains some = record {
   runs = s.runs ++ record { moment = now; reply = reply } ∷ [];
@@ -62,7 +62,7 @@ runs_more session c now reply k l o m n q s reads gains some = record {
   quietly = quiet_more session now reply s.runs k l o m n q s.quietly reads gains;
 }
 
-pub runs_end : (session c now : ℕ) (reply : Reply) (k l o : Known) (m n q : Option (List ℕ)) → c < MAX_RUNS → RunsSoFar session c k m l n → Adds n (now ∷ []) q → Gains l (entered now session RunNext reply) o
+pub runs_end : (session c now : ℕ) (reply : Reply) (k l o : Known) (m n q : Option (List ℕ)) → c < MAX_RUNS → RunsSoFar session c k m l n → Adds n (now ∷ []) q → Gains l (called now session RunNext reply) o
     → found_none reply ≡ true → RunsActions session k m o q
 runs_end session c now reply k l o m n q less s reads gains none = (
   s.runs ++ record { moment = now; reply = reply } ∷ [],
@@ -75,8 +75,8 @@ runs_over session c k l m n most s = (s.runs, inl (s.some, s.count ∙ most), s.
 
 -- ---- all of it
 
-pub departs : (session now then : ℕ) (leave close : Reply) (k l o q : Known) (m n r s : Option (List ℕ)) → Adds m (now ∷ []) n → Gains k (entered now session Leave leave) l
-    → RunsActions session l n o r → Adds r (then ∷ []) s → Gains o (entered then session Close close) q → DepartsBy session k m q s
+pub departs : (session now then : ℕ) (leave close : Reply) (k l o q : Known) (m n r s : Option (List ℕ)) → Adds m (now ∷ []) n → Gains k (called now session Leave leave) l
+    → RunsActions session l n o r → Adds r (then ∷ []) s → Gains o (called then session Close close) q → DepartsBy session k m q s
 departs session now then leave close k l o q m n r s reads gains (runs, are, quietly) reads_too gains_too = (
   both (calling now session Leave leave) (both (runs_in session runs) (calling then session Close close)),
   (now, then, leave, close, runs, are, refl),

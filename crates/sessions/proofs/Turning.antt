@@ -15,7 +15,7 @@ use Rattle.rtdb_model.specs.declared.reply.Reply.{Reply}
 use Rattle.rtdb_model.specs.declared.reply.Reply.TheVariants.{Done}
 use Rattle.answers.specs.AnswerText.{text, line_fault_text}
 use Rattle.sessions.specs.Traffic.{Traffic, Adds, Moves, IsOpen}
-use Rattle.sessions.specs.Calls.{Answered, Gains, entered}
+use Rattle.sessions.specs.Calls.{Answered, Gains, called}
 use Rattle.sessions.specs.Turns.{Deeds, nothing, both, unsent, calling, IsAnswered, Answers, Pushes, push_of, Turn, IsWhole, IsCut, got_in, deeds_in}
 use Rattle.sessions.specs.Serving.{World, world, Goes, Fits, EndsAs, Visits, Serves}
 use Rattle.sessions.specs.Working.{RepliesOr, AnswersOr, PushesOr, TurnsOr, HasTurns, DepartsBy, replying}
@@ -26,12 +26,20 @@ use Rattle.sessions.proofs.Going.{goes_nothing, goes_both, goes_on, goes_by, goe
 -- ---- a message
 
 pub asks_event : (tokens : Tokens) (now session : ℕ) (message : List ℕ) (asked : Asked) (reply : Reply) → IsAsked tokens (Socket (record { now = now; session = session })) message (Ok asked)
-    → IsAnswered tokens now session message (text reply) (entered now session asked.event reply)
+    → IsAnswered tokens now session message (text reply) (called now session asked.event reply)
 asks_event tokens now session message asked reply h = inl (asked, h, (reply, refl, refl))
 
 pub asks_nothing : (tokens : Tokens) (now session : ℕ) (message : List ℕ) (fault : LineFault) → IsAsked tokens (Socket (record { now = now; session = session })) message (Err fault)
     → IsAnswered tokens now session message (line_fault_text fault) []
 asks_nothing tokens now session message fault h = inr (fault, h, refl, refl)
+
+-- the answer was written, and sent or not
+pub replied : (tokens : Tokens) (session now : ℕ) (message said written : List ℕ) (made : List Answered) (k l : Known) (m n : Option (List ℕ)) (p q : Traffic) (end : Option SessionEnd) → Adds m (now ∷ []) n
+    → Gains k made l → IsAnswered tokens now session message said made → written ≡ said
+    → MatchOption end (Moves p [] (written ∷ []) q × IsOpen q) (λ e. Moves p [] [] q × Fits e q) → RepliesOr tokens session message (world k m p) (world l n q) end
+replied tokens session now message said written made k l m n p q None reads gains answered is sent =
+    (now, said, made, answered, goes_calling k l m n p q now made (said ∷ []) reads gains (subst (λ (t : List ℕ). Moves p [] (t ∷ []) q) is sent.0), sent.1)
+replied tokens session now message said written made k l m n p q (Some e) reads gains answered is sent = (now, said, made, answered, goes_calling k l m n p q now made [] reads gains sent.0, sent.1)
 
 -- ---- the first half of a turn
 
@@ -58,12 +66,12 @@ hears_message tokens session k l m n p q r message given end moves same replies 
 
 -- ---- the second half of a turn
 
-pub pushes : (session now : ℕ) (k l : Known) (m n : Option (List ℕ)) (p q : Traffic) (reply : Reply) (end : Option SessionEnd) → Adds m (now ∷ []) n → Gains k (entered now session Poll reply) l
+pub pushes : (session now : ℕ) (k l : Known) (m n : Option (List ℕ)) (p q : Traffic) (reply : Reply) (end : Option SessionEnd) → Adds m (now ∷ []) n → Gains k (called now session Poll reply) l
     → MatchOption end (Moves p [] (push_of reply) q × IsOpen q) (λ e. Moves p [] [] q × Fits e q) → PushesOr session (world k m p) (world l n q) end
 pushes session now k l m n p q reply None reads gains sent =
-    (record (calling now session Poll reply) { texts = push_of reply }, (now, reply, refl), goes_calling k l m n p q now (entered now session Poll reply) (push_of reply) reads gains sent.0, sent.1)
+    (record (calling now session Poll reply) { texts = push_of reply }, (now, reply, refl), goes_calling k l m n p q now (called now session Poll reply) (push_of reply) reads gains sent.0, sent.1)
 pushes session now k l m n p q reply (Some e) reads gains sent =
-    (record (calling now session Poll reply) { texts = push_of reply }, (now, reply, refl), goes_calling k l m n p q now (entered now session Poll reply) [] reads gains sent.0, sent.1)
+    (record (calling now session Poll reply) { texts = push_of reply }, (now, reply, refl), goes_calling k l m n p q now (called now session Poll reply) [] reads gains sent.0, sent.1)
 
 -- ---- both halves
 
@@ -142,10 +150,10 @@ attends tokens session most now a b c l n end opens (turns, goes, ends_so) (depa
     )
 
 -- the session was turned away
-pub turns_away : (tokens : Tokens) (session most now : ℕ) (k l : Known) (m n : Option (List ℕ)) (p q : Traffic) (reply : Reply) → reply ≢ Done → Adds m (now ∷ []) n → Gains k (entered now session Open reply) l
+pub turns_away : (tokens : Tokens) (session most now : ℕ) (k l : Known) (m n : Option (List ℕ)) (p q : Traffic) (reply : Reply) → reply ≢ Done → Adds m (now ∷ []) n → Gains k (called now session Open reply) l
     → Moves p [] [] q ⊎ Moves p [] (text reply ∷ []) q → Visits tokens session most (world k m p) ends.NotOpened (world l n q)
-turns_away tokens session most now k l m n p q reply refused reads gains (inl x) = inl (now, reply, [], refused, inl refl, goes_calling k l m n p q now (entered now session Open reply) [] reads gains x, refl)
-turns_away tokens session most now k l m n p q reply refused reads gains (inr x) = inl (now, reply, text reply ∷ [], refused, inr refl, goes_calling k l m n p q now (entered now session Open reply) (text reply ∷ []) reads gains x, refl)
+turns_away tokens session most now k l m n p q reply refused reads gains (inl x) = inl (now, reply, [], refused, inl refl, goes_calling k l m n p q now (called now session Open reply) [] reads gains x, refl)
+turns_away tokens session most now k l m n p q reply refused reads gains (inr x) = inl (now, reply, text reply ∷ [], refused, inr refl, goes_calling k l m n p q now (called now session Open reply) (text reply ∷ []) reads gains x, refl)
 
 -- the server finishes with its peer, and nothing else changes
 finished : World → World

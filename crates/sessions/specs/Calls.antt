@@ -1,5 +1,6 @@
 -- The calls that a session makes. (This project's profile.)
-use Rattle.std.specs.Prelude.{◌≡◌, ℕ, Bool, true, false, if◌then◌else◌, List, [], ◌∷◌, ◌++◌, map}
+use Rattle.std.specs.Prelude.{◌≡◌, ◌≤◌, ◌^◌, ℕ, Bool, true, false, not, List, [], ◌∷◌, ◌++◌, map, filter, length}
+use Rattle.std.specs.List.{list_any}
 use mathlib.Core.List.{IsPrefix}
 use Rattle.rtdb_model.specs.declared.event.Event.{Event}
 use Rattle.rtdb_model.specs.declared.reply.Reply.{Reply}
@@ -28,12 +29,21 @@ abbrev pub is_spent : Reply → Bool
 is_spent (Refused Spent) = true
 is_spent reply = false
 
--- what a call adds to the history: itself, with its reply, and nothing once as many events were answered as may be
-abbrev pub entered : ℕ → ℕ → Event → Reply → List Answered
-entered now session event reply = if is_spent reply then [] else record { call = record { now = now; session = session; event = event }; reply = reply } ∷ []
+-- a call, with its reply
+abbrev pub called : ℕ → ℕ → Event → Reply → List Answered
+called now session event reply = record { call = record { now = now; session = session; event = event }; reply = reply } ∷ []
 
--- the seat has made these calls since, and no others, and has seen all that it had seen
-pub record Gains (k : Known) (made : List Answered) (l : Known) : Type 0 where
+-- those of these calls that are entries of the history: all but those that were answered that it is as long as it may be
+abbrev pub entries_of : List Answered → List Answered
+entries_of asked = filter (λ (a : Answered). not (is_spent a.reply)) asked
+
+-- one of these calls was answered that the history is as long as it may be
+abbrev pub HasSpent : List Answered → Type 0
+HasSpent asked = list_any (λ (a : Answered). is_spent a.reply) asked ≡ true
+
+-- the seat has asked these calls since, and no others, and has seen all that it had seen; where one was answered that the history is as long as it may be, the seat has seen that it is
+pub record Gains (k : Known) (asked : List Answered) (l : Known) : Type 0 where
   pub same : IsSameSeat k l
   pub begins : IsPrefix k.seen l.seen
-  pub more : calls l ≡ calls k ++ made
+  pub more : calls l ≡ calls k ++ entries_of asked
+  pub full : HasSpent asked → 2 ^ 62 ≤ length l.seen

@@ -10,7 +10,7 @@ use Rattle.requests.specs.declared.ask.Asked.{Asked}
 use Rattle.requests.specs.declared.ask.LineFault.{LineFault}
 use Rattle.requests.specs.Ask.{IsAsked}
 use Rattle.answers.specs.AnswerText.{text, line_fault_text, pushed_text}
-use Rattle.sessions.specs.Calls.{Answered, entered}
+use Rattle.sessions.specs.Calls.{Answered, called}
 
 -- ---- what is done
 
@@ -34,7 +34,7 @@ unsent d = record d { texts = [] }
 
 -- a call at the moment that the clock says
 abbrev pub calling : ℕ → ℕ → Event → Reply → Deeds
-calling now session event reply = record { moments = now ∷ []; calls = entered now session event reply; texts = [] }
+calling now session event reply = record { moments = now ∷ []; calls = called now session event reply; texts = [] }
 
 -- ---- a message, and its answer
 
@@ -42,7 +42,7 @@ calling now session event reply = record { moments = now ∷ []; calls = entered
 abbrev pub AsksEvent : Tokens → ℕ → ℕ → List ℕ → List ℕ → List Answered → Type 0
 AsksEvent tokens now session message said made =
     (asked : Asked) × IsAsked tokens (Socket (record { now = now; session = session })) message (Ok asked)
-    × ((reply : Reply) × (said ≡ text reply) × (made ≡ entered now session asked.event reply))
+    × ((reply : Reply) × (said ≡ text reply) × (made ≡ called now session asked.event reply))
 
 -- the message asks nothing: it has a fault, nobody has its secret, its rules file is refused, or memory is wanting; it makes no call, and the answer is the text of that fault
 abbrev pub AsksNothing : Tokens → ℕ → ℕ → List ℕ → List ℕ → List Answered → Type 0

@@ -1,6 +1,6 @@
 //! One message of a client, and its answer.
 ghost use Rattle.std.specs.Prelude.{◌≡◌, ◌≤◌, ℕ, List, [], IfOk, OnOk};
-ghost use Rattle.sessions.specs.Calls.{Answered, Gains, entered};
+ghost use Rattle.sessions.specs.Calls.{Answered, Gains, called};
 ghost use Rattle.sessions.specs.Turns.{IsAnswered};
 
 use answers::AnswerWriter;
@@ -56,7 +56,7 @@ pub(crate) fn ask<R: Wait>(
     requires hall { seat.old.hall ≡ place.now.hall.now }
     requires moment { now ≤ MAX_MOMENT }
     ensures hall { seat.new.hall ≡ place.now.hall.now }
-    ensures gains { Gains seat.old (entered now place.now.session event result) seat.new }
+    ensures gains { Gains seat.old (called now place.now.session event result) seat.new }
 {
     place
         .hall

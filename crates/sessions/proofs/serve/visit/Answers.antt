@@ -1,7 +1,7 @@
 use Rattle.std.proofs.Common.{[], refl}
 use Rattle.rtdb_model.specs.declared.event.Event.TheVariants.{Open}
 use Rattle.rtdb_model.specs.declared.reply.Reply.TheVariants.{Done}
-use Rattle.sessions.specs.Calls.{entered}
+use Rattle.sessions.specs.Calls.{called}
 use Rattle.sessions.specs.Serving.{world}
 use Rattle.sessions.proofs.Going.{goes_calling, moves_none}
 use Rattle.sessions.proofs.Turning.{attends}
@@ -13,6 +13,6 @@ returns-in-Done-clause-visits g c =
     attends c.args.place.now.tokens.now c.args.place.now.session c.args.turns c.now-now.result (world c.args.seat.now (g.C.Clock.moments c.args.clock.now) (g.P.Peer.traffic c.args.peer.now))
     (world c.ask.new.seat (g.C.Clock.moments c.now-now.new.self) (g.P.Peer.traffic c.args.peer.now))
     (world c.take_turns-end.new.seat (g.C.Clock.moments c.take_turns-end.new.clock) (g.P.Peer.traffic c.take_turns-end.new.peer)) c.depart.new.seat (g.C.Clock.moments c.depart.new.clock) c.take_turns-end.result
-    (goes_calling c.args.seat.now c.ask.new.seat (g.C.Clock.moments c.args.clock.now) (g.C.Clock.moments c.now-now.new.self) p p c.now-now.result (entered c.now-now.result c.args.place.now.session Open Done) []
+    (goes_calling c.args.seat.now c.ask.new.seat (g.C.Clock.moments c.args.clock.now) (g.C.Clock.moments c.now-now.new.self) p p c.now-now.result (called c.now-now.result c.args.place.now.session Open Done) []
     c.now-now.ensures.given c.in-Done.ensures.gains (moves_none p p refl refl))
     c.take_turns-end.ensures.turns c.depart.ensures.departs
