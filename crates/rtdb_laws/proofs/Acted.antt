@@ -1,7 +1,7 @@
 -- What becomes of actions, step by step.
-use Rattle.std.proofs.Common.{◌≡◌, ◌<◌, ◌&&◌, ℕ, zero, suc, Bool, true, false, not, cond, eqb, leb, List, [], ◌∷◌, ◌++◌, map, drop, length, get_or, Option, Some, None, is_some, inl, inr, refl, sym, ap, subst, ◌∙◌, arith}
+use Rattle.std.proofs.Common.{◌≡◌, ◌<◌, ◌≤◌, ◌&&◌, ℕ, zero, suc, Bool, true, false, not, cond, eqb, leb, List, [], ◌∷◌, ◌++◌, map, drop, length, get_or, Option, Some, None, is_some, inl, inr, refl, sym, ap, subst, ◌∙◌, arith}
 use Rattle.std.proofs.lemmas.Bool.{false≢true, eq-eqb, eqb-true}
-use Rattle.std.proofs.lemmas.List.{map-append}
+use Rattle.std.proofs.lemmas.List.{map-append, length-append, length-map}
 use Rattle.std.proofs.lemmas.List.Elements.{filter-append}
 use Rattle.std.specs.Prelude.{◌==◌, filter}
 use Rattle.std.specs.FinMap as map_of
@@ -286,7 +286,7 @@ module _ (old : State) (now n : ℕ) (steps : List Taken) (before : AreWaiting o
 abbrev Acts : State → Call → List Taken → Reply → State → Type 0
 Acts old call steps reply new = AreWaiting new (record { old = old; call = call; reply = reply; new = new } ∷ steps)
 
-step_acts : (old : State) (call : Call) (reply : Reply) (new : State) (steps : List Taken) → AreWaiting old steps → Step old call.now call.session call.event reply new → Acts old call steps reply new
+pub step_acts : (old : State) (call : Call) (reply : Reply) (new : State) (steps : List Taken) → AreWaiting old steps → Step old call.now call.session call.event reply new → Acts old call steps reply new
 unfolding Step
 step_acts old call reply new steps before (inl h) = subst (λ (o : Outcome). Acts old call steps o.reply o.after) h by_outcome
   where
@@ -365,15 +365,15 @@ done_stays : (b : Bool) (es fs : List Established) → StaysAt es fs → StaysAt
 done_stays true es fs h = h
 done_stays false es fs h = nothing_stays es
 
-run_stays : (reply : Reply) (es : List Established) → StaysAt es (run_in reply es)
-run_stays Done es = nothing_stays es
-run_stays (Value tree) es = nothing_stays es
-run_stays (News notices) es = nothing_stays es
-run_stays (Refused refusal) es = nothing_stays es
-run_stays (Ran Empty) es = nothing_stays es
-run_stays (Ran Applied) es = first_stays made es
-run_stays (Ran (Skipped refusal)) es = first_stays (skipped refusal) es
-run_stays (Closed left) es = nothing_stays es
+ran_stays : (reply : Reply) (es : List Established) → StaysAt es (run_in reply es)
+ran_stays Done es = nothing_stays es
+ran_stays (Value tree) es = nothing_stays es
+ran_stays (News notices) es = nothing_stays es
+ran_stays (Refused refusal) es = nothing_stays es
+ran_stays (Ran Empty) es = nothing_stays es
+ran_stays (Ran Applied) es = first_stays made es
+ran_stays (Ran (Skipped refusal)) es = first_stays (skipped refusal) es
+ran_stays (Closed left) es = nothing_stays es
 
 event_stays : (event : Event) (reply : Reply) (es : List Established) → StaysAt es (established_by event reply es)
 event_stays Open reply es = nothing_stays es
@@ -394,7 +394,7 @@ event_stays (OnRemove path) reply es = done_stays (is_done reply) es _ (more_sta
 event_stays (OnUpdate writes) reply es = done_stays (is_done reply) es _ (more_stays _ es)
 event_stays (OnCancel path) reply es = done_stays (is_done reply) es _ (map_stays (cancelled_at path) (cancelled_stays path) es)
 event_stays Leave reply es = nothing_stays es
-event_stays RunNext reply es = run_stays reply es
+event_stays RunNext reply es = ran_stays reply es
 
 pub step_stays : (session : ℕ) (t : Taken) (earlier : List Taken) → StaysAt (established session earlier) (established session (t ∷ earlier))
 step_stays session t earlier = by_number (t.call.session == session)
@@ -402,6 +402,61 @@ step_stays session t earlier = by_number (t.call.session == session)
     by_number : (b : Bool) → StaysAt (established session earlier) (cond b (established_by t.call.event t.reply (established session earlier)) (established session earlier))
     by_number true = event_stays t.call.event t.reply (established session earlier)
     by_number false = nothing_stays (established session earlier)
+
+-- ---- and no later step of a run changes it
+
+-- as many were established, or more
+as_long : (es : List Established) → length es ≤ length es
+as_long es = omega arith
+
+first_length : (fate : Fate) (es : List Established) → length (first_ended_by fate es) ≡ length es
+first_length fate [] = refl
+first_length fate (e ∷ es) = by_fate (is_waiting e.fate) (first_length fate es)
+  where
+    by_fate : (b : Bool) → length (first_ended_by fate es) ≡ length es → length (cond b (ended_by fate e ∷ es) (e ∷ first_ended_by fate es)) ≡ length (e ∷ es)
+    by_fate true rest = refl
+    by_fate false rest = ap suc rest
+
+done_length : (b : Bool) (es fs : List Established) → length es ≤ length fs → length es ≤ length (cond b fs es)
+done_length true es fs h = h
+done_length false es fs h = as_long es
+
+more_length : (e : Established) (es : List Established) → length es ≤ length (es ++ e ∷ [])
+more_length e es = omega (arith, length-append es (e ∷ []))
+
+map_length : (f : Established → Established) (es : List Established) → length es ≤ length (map f es)
+map_length f es = omega (arith, length-map es f)
+
+ran_length : (reply : Reply) (es : List Established) → length es ≤ length (run_in reply es)
+ran_length (Ran Applied) es = omega (arith, first_length made es)
+ran_length (Ran (Skipped refusal)) es = omega (arith, first_length (skipped refusal) es)
+ran_length reply es = as_long es
+
+event_length : (event : Event) (reply : Reply) (es : List Established) → length es ≤ length (established_by event reply es)
+event_length Close reply es = done_length (is_done reply) es _ (map_length (ended_by dropped) es)
+event_length (OnSet write) reply es = done_length (is_done reply) es _ (more_length _ es)
+event_length (OnRemove path) reply es = done_length (is_done reply) es _ (more_length _ es)
+event_length (OnUpdate writes) reply es = done_length (is_done reply) es _ (more_length _ es)
+event_length (OnCancel path) reply es = done_length (is_done reply) es _ (map_length (cancelled_at path) es)
+event_length RunNext reply es = ran_length reply es
+event_length event reply es = as_long es
+
+step_length : (session : ℕ) (t : Taken) (earlier : List Taken) → length (established session earlier) ≤ length (established session (t ∷ earlier))
+step_length session t earlier = by_number (t.call.session == session)
+  where
+    by_number : (b : Bool) → length (established session earlier) ≤ length (cond b (established_by t.call.event t.reply (established session earlier)) (established session earlier))
+    by_number true = event_length t.call.event t.reply (established session earlier)
+    by_number false = as_long (established session earlier)
+
+pub run_stays : (session : ℕ) (earlier : List Taken) (old : State) (calls : List Call) (replies : List Reply) (new : State) (run : Run old calls replies new) → StaysAt (established session earlier) (established session (steps_after earlier old calls replies new run))
+run_stays session earlier old [] [] new run i d low over = refl
+run_stays session earlier old [] (reply ∷ replies) new run i d low over = absurd run
+run_stays session earlier old (call ∷ calls) [] new run i d low over = absurd run
+run_stays session earlier old (call ∷ calls) (reply ∷ replies) new run i d low over =
+    let t : Taken = record { old = old; call = call; reply = reply; new = run.0 } in
+    let same : get_or (established session (t ∷ earlier)) i d ≡ get_or (established session earlier) i d = step_stays session t earlier i d low over in
+    let long : length (established session earlier) ≤ length (established session (t ∷ earlier)) = step_length session t earlier in
+    run_stays session (t ∷ earlier) run.0 calls replies new run.2 i d (omega (arith, low, long)) (ap (λ (e : Established). is_waiting e.fate) same ∙ over) ∙ same
 
 -- ---- what is made
 

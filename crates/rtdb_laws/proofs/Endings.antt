@@ -31,19 +31,19 @@ use Rattle.rtdb_laws.proofs.Goings.{step_goes}
 filter_le : {X : Type 0} (p : X → Bool) (xs : List X) → length (filter p xs) ≤ length xs
 filter_le p xs = omega (arith, length-filter p xs, count_by-le-length p xs)
 
-few_after : (n : ℕ) (id : List ℕ) (t : Taken) → Goes n id t → length (under n id t.old) ≤ 1 → length (under n id t.new) ≤ 1
+pub few_after : (n : ℕ) (id : List ℕ) (t : Taken) → Goes n id t → length (under n id t.old) ≤ 1 → length (under n id t.new) ≤ 1
 few_after n id t (Began l anew e) few = omega (arith, ap length e)
 few_after n id t (Stays f fades silent e) few = omega (arith, ap length e, length-map (under n id t.old) f)
 few_after n id t (Lessens p quiet silent e) few = omega (arith, ap length e, filter_le p (under n id t.old))
 few_after n id t (Polled f fades tells e) few =
     omega (arith, ap length e, length-map (filter (λ l. l.live) (map f (under n id t.old))) unmarked, filter_le (λ (l : Listener). l.live) (map f (under n id t.old)), length-map (under n id t.old) f)
 
-few_at_first : (rules : Book) (tree : Tree) (n : ℕ) (id : List ℕ) → length (under n id (opening rules tree)) ≤ 1
+pub few_at_first : (rules : Book) (tree : Tree) (n : ℕ) (id : List ℕ) → length (under n id (opening rules tree)) ≤ 1
 few_at_first rules tree n id =
     let none : under n id (opening rules tree) ≡ [] = ap (λ o. with_id id (listeners_in o)) (map_of.get-empty nat_cmp n) in
     omega (arith, ap length none)
 
-few_along : (n : ℕ) (id : List ℕ) (old : State) (calls : List Call) (replies : List Reply) (new : State) → Run old calls replies new → length (under n id old) ≤ 1 → length (under n id new) ≤ 1
+pub few_along : (n : ℕ) (id : List ℕ) (old : State) (calls : List Call) (replies : List Reply) (new : State) → Run old calls replies new → length (under n id old) ≤ 1 → length (under n id new) ≤ 1
 few_along n id old [] [] new run few = subst (λ (s : State). length (under n id s) ≤ 1) (sym run) few
 few_along n id old (call ∷ calls) (reply ∷ replies) new run few = few_along n id run.0 calls replies new run.2 (few_after n id (record { old = old; call = call; reply = reply; new = run.0 }) (step_goes n id old call reply run.0 run.1) few)
 few_along n id old [] (reply ∷ replies) new run few = absurd run
@@ -155,7 +155,7 @@ not_anew n id t j = by_event (is_accepted t.reply) t.call.event j
     by_event true RunNext h = refl
 
 -- the one listener under its id
-found : (ls : List Listener) → All (λ l. length (with_id l.id ls) ≤ 1 → with_id l.id ls ≡ l ∷ []) ls
+pub found : (ls : List Listener) → All (λ l. length (with_id l.id ls) ≤ 1 → with_id l.id ls ≡ l ∷ []) ls
 found [] = All-nil (λ (l : Listener). length (with_id l.id []) ≤ 1 → with_id l.id [] ≡ l ∷ [])
 found (x ∷ xs) = All-cons (λ (l : Listener). length (with_id l.id (x ∷ xs)) ≤ 1 → with_id l.id (x ∷ xs) ≡ l ∷ []) x xs first (λ k d lt. later (slice_index_or xs k d) (found xs k d lt))
   where

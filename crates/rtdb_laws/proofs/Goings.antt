@@ -46,7 +46,7 @@ about id notices = filter (λ (notice : Notice). bytes_eq id notice.id) notices
 abbrev pub KeepsId : (Listener → Listener) → Type 0
 KeepsId f = (l : Listener) → (f l).id ≡ l.id
 
-with_id-map : (id : List ℕ) (f : Listener → Listener) → KeepsId f → (ls : List Listener) → with_id id (map f ls) ≡ map f (with_id id ls)
+pub with_id-map : (id : List ℕ) (f : Listener → Listener) → KeepsId f → (ls : List Listener) → with_id id (map f ls) ≡ map f (with_id id ls)
 with_id-map id f same [] = refl
 with_id-map id f same (l ∷ ls) =
     ap (λ (k : List ℕ). cond (bytes_eq id k) (f l ∷ with_id id (map f ls)) (with_id id (map f ls))) (same l)
@@ -82,7 +82,7 @@ about_one tree id l ns = by_cases l.live l.marked (bytes_eq id l.id) refl
     by_cases false marked true e = simp e
     by_cases false marked false e = simp e
 
-about_news : (tree : Tree) (id : List ℕ) (ls : List Listener) → about id (news_of tree ls) ≡ news_of tree (with_id id ls)
+pub about_news : (tree : Tree) (id : List ℕ) (ls : List Listener) → about id (news_of tree ls) ≡ news_of tree (with_id id ls)
 about_news tree id [] = refl
 about_news tree id (l ∷ ls) =
     about_one tree id l (news_of tree ls)
@@ -123,7 +123,7 @@ pub data Goes (n : ℕ) (id : List ℕ) (t : Taken) : Type 0 where
   Lessens : (p : Listener → Bool) → judges n t ≡ false → told_of n id t.call t.reply ≡ [] → under n id t.new ≡ filter p (under n id t.old) → Goes n id t
   Polled : (f : Listener → Listener) → Fades n t f → told_of n id t.call t.reply ≡ news_of t.new.tree (map f (under n id t.old)) → under n id t.new ≡ taken (map f (under n id t.old)) → Goes n id t
 
-again-id : (old : Tree) (mid : State) (now : ℕ) (who : Option Identity) → KeepsId (judged_again old mid now who)
+pub again-id : (old : Tree) (mid : State) (now : ℕ) (who : Option Identity) → KeepsId (judged_again old mid now who)
 again-id old mid now who l = ap (λ (k : Listener). k.id) (judged_is (hears (scene_for mid now who) l.path l.query) (moves old mid.tree l.path l.query) l)
 
 module _ (old : State) (call : Call) (id : List ℕ) where

@@ -17,3 +17,9 @@ pub mod Polls
 pub mod Goings
 pub mod Endings
 pub mod Acted
+pub mod Listening
+pub mod Presence
+pub mod Establishing
+pub mod WorkedLeaving
+pub mod Silence
+pub mod Storing

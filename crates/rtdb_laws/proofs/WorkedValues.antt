@@ -83,7 +83,7 @@ module _ (x y : Expression) where
   none_below [] part e = false≢true (sym (ap (list_any (is_prefix (part ∷ []))) keys_are) ∙ e)
   none_below (first ∷ before) part e = false≢true (sym (ap (list_any (is_prefix (first ∷ before ++ part ∷ []))) keys_are) ∙ e)
 
-  one : HasOneCapture rules
+  pub one : HasOneCapture rules
   one = record { one = λ before a b ca cb ea eb. absurd (none_below before a ea) }
 
   -- ---- what is asked of it
@@ -101,12 +101,12 @@ module _ (x y : Expression) where
     stands_root [] path h = refl
     stands_root (part ∷ p) path h = absurd (false≢true (sym (ap (λ (b : Book). map_of.contains_key b (part ∷ p)) same ∙ ap is_some (below_none part p)) ∙ h.listed))
 
-    states_so : (kind : Kind) (path : Path) (pattern : Pattern) (a : Outcome) (h : Answers q kind path pattern a) → stated_for kind stated ≡ Some h.rule
+    pub states_so : (kind : Kind) (path : Path) (pattern : Pattern) (a : Outcome) (h : Answers q kind path pattern a) → stated_for kind stated ≡ Some h.rule
     states_so kind path pattern a h =
         sym (ap (λ (b : Book). option_and_then (stated_for kind) (map_of.get b [])) same ∙ ap (option_and_then (stated_for kind)) at_root)
         ∙ ap (λ (p : Pattern). option_and_then (stated_for kind) (map_of.get q.scene.book p)) (sym (stands_root pattern path h.stands)) ∙ h.states
 
-    granted_by : (kind : Kind) (rule : Checked) → stated_for kind stated ≡ Some rule → ((env : Env) → outcome rule.tree env ≡ Yes) → (path : Path) → IsGranted q kind path
+    pub granted_by : (kind : Kind) (rule : Checked) → stated_for kind stated ≡ Some rule → ((env : Env) → outcome rule.tree env ≡ Yes) → (path : Path) → IsGranted q kind path
     granted_by kind rule h is path = record {
       place = [];
       above = refl;

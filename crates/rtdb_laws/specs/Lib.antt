@@ -1,2 +1,7 @@
 pub mod Runs
+pub mod Subscriptions
+pub mod Presence
+pub mod Writes
+pub mod Stored
+pub mod Effects
 pub mod Worked

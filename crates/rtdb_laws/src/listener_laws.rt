@@ -14,12 +14,21 @@ ghost use Rattle.rtdb_model.specs.Rejudged.{asked_for, hears, selected_at, moves
 ghost use Rattle.rtdb_model.specs.Step.{Call, Step, Run};
 ghost use Rattle.rtdb_model.specs.Marks.{Taken, steps_after, judges, grants, IsHistory};
 ghost use Rattle.rtdb_model.specs.Ends.{IsStep, IsEnd, IsUntouched, handed_out};
+ghost use Rattle.rtdb_laws.specs.Subscriptions.{subscription_of, listened_to};
 
 /// Whatever calls come from the opening on, each listener is what its history says: live exactly where
 /// it was granted at each step since its listen that judged it again, and marked exactly where it is
 /// live and what it selects has moved since its listen or its session's last poll.
 pub fn marks_are_history()
     ensures { (rules : Book) (tree : Tree) (calls : List Call) (replies : List Reply) (new : State) (run : Run (opening rules tree) calls replies new) (session : ℕ) → All (λ l. IsHistory session l (steps_after [] (opening rules tree) calls replies new run)) (listeners_of new session) }
+{}
+
+/// Whatever calls come from the opening on, a session listens to what it has begun to listen to and nothing has ended
+/// since, in the order in which it began: neither was it taken back by an unlisten that was done, nor has a poll
+/// reported that it is gone, nor was the session closed. So a listener whose read is no longer granted is among these
+/// until a poll reports it.
+pub fn what_is_listened_to_is_what_was_begun()
+    ensures { (rules : Book) (tree : Tree) (calls : List Call) (replies : List Reply) (new : State) → Run (opening rules tree) calls replies new → (session : ℕ) → map subscription_of (listeners_of new session) ≡ listened_to session calls replies }
 {}
 
 /// A poll hands out what is selected by each listener that was marked before it and is granted at it, in

@@ -1,10 +1,15 @@
 //! Laws of the runs of a database.
-ghost use Rattle.std.specs.Prelude.{◌≡◌, ℕ, List, ◌∷◌, ◌++◌};
+ghost use Rattle.std.specs.Prelude.{◌≡◌, ℕ, List, [], ◌∷◌, ◌++◌};
+ghost use Rattle.tree_model.specs.Tree.{Tree};
+ghost use Rattle.rules_reader.specs.Book.{Book};
 ghost use Rattle.rules_reader.specs.Place.{HasOneCapture};
 ghost use Rattle.rtdb_model.specs.declared.reply.Reply.{Reply};
-ghost use Rattle.rtdb_model.specs.State.{State, identity_of};
+ghost use Rattle.rtdb_model.specs.State.{State, opening, is_open, is_leaving, identity_of};
 ghost use Rattle.rtdb_model.specs.Step.{Call, Run};
 ghost use Rattle.rtdb_model.specs.Headline.{rules_after, identity_after, DeployFiles, IsJudgedAmong};
+ghost use Rattle.rtdb_model.specs.Marks.{steps_after};
+ghost use Rattle.rtdb_laws.specs.Stored.{stored};
+ghost use Rattle.rtdb_laws.specs.Presence.{open_after, leaving_after};
 ghost use Rattle.rtdb_laws.specs.Runs.{WantNone, WantAlike};
 
 /// Whatever state a database is in and whatever calls come, there is a run over them in which nothing wants
@@ -38,4 +43,17 @@ pub fn a_run_changes_the_rules_by_deployments()
 /// step, of this session or another.
 pub fn a_run_changes_identities_by_their_sessions()
     ensures { (old new : State) (calls : List Call) (replies : List Reply) → Run old calls replies new → (session : ℕ) → identity_of new session ≡ identity_after session (identity_of old session) calls replies }
+{}
+
+/// A session is open from its opening to its closing, and leaving from its leave to its closing; no other step, of
+/// this session or another, changes that.
+pub fn a_run_changes_presence_by_its_sessions()
+    ensures opened { (old new : State) (calls : List Call) (replies : List Reply) → Run old calls replies new → (session : ℕ) → is_open new session ≡ open_after session (is_open old session) calls replies }
+    ensures leaving { (old new : State) (calls : List Call) (replies : List Reply) → Run old calls replies new → (session : ℕ) → is_leaving new session ≡ leaving_after session (is_leaving old session) calls replies }
+{}
+
+/// Whatever calls come from the opening on, the tree is what was written: each write that was done, and each action
+/// that was made, has put there what it writes, at its moment, and no other step has changed anything.
+pub fn what_is_stored_is_what_was_written()
+    ensures { (rules : Book) (tree : Tree) (calls : List Call) (replies : List Reply) (new : State) (run : Run (opening rules tree) calls replies new) → new.tree ≡ stored tree (steps_after [] (opening rules tree) calls replies new run) }
 {}

@@ -1,5 +1,6 @@
 //! Laws of the steps of a database.
-ghost use Rattle.std.specs.Prelude.{◌≡◌, ◌≢◌, ℕ, true};
+ghost use Rattle.std.specs.Prelude.{◌≡◌, ◌≢◌, ℕ, List, true};
+ghost use Rattle.tree_model.specs.Path.{Path};
 ghost use Rattle.rules_reader.specs.Place.{HasOneCapture};
 ghost use Rattle.rtdb_model.specs.declared.event.Event.{Event};
 ghost use Rattle.rtdb_model.specs.declared.reply.Refusal.{Refusal};
@@ -18,6 +19,15 @@ pub fn a_refused_event_changes_nothing()
 /// actions back.
 pub fn what_takes_no_memory_is_answered()
     ensures { (old new : State) (now session : ℕ) (event : Event) (reply : Reply) → takes_no_memory old session event ≡ true → Step old now session event reply new → reply ≢ Reply.Refused Refusal.NoMemory }
+{}
+
+/// To leave, to close, to end a listener and to take actions back takes no memory, whatever the state: none of these
+/// is answered by want of it.
+pub fn what_ends_takes_no_memory()
+    ensures leave { (old new : State) (now session : ℕ) (reply : Reply) → Step old now session Event.Leave reply new → reply ≢ Reply.Refused Refusal.NoMemory }
+    ensures close { (old new : State) (now session : ℕ) (reply : Reply) → Step old now session Event.Close reply new → reply ≢ Reply.Refused Refusal.NoMemory }
+    ensures unlisten { (old new : State) (now session : ℕ) (id : List ℕ) (reply : Reply) → Step old now session (Event.Unlisten id) reply new → reply ≢ Reply.Refused Refusal.NoMemory }
+    ensures cancel { (old new : State) (now session : ℕ) (path : Path) (reply : Reply) → Step old now session (Event.OnCancel path) reply new → reply ≢ Reply.Refused Refusal.NoMemory }
 {}
 
 /// No step answers that as many events were answered as may be: who asks on many threads alone is answered so.
