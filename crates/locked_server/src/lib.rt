@@ -18,6 +18,13 @@ mod view;
 
 pub use entry::Entry;
 pub use hall::Hall;
-pub use history_laws::{a_history_goes_on_at_its_end, every_entry_is_judged_by_the_rules_in_force};
+pub use history_laws::{
+    a_grant_that_fails_at_an_entry_is_the_end, a_history_goes_on_at_its_end,
+    a_poll_hands_out_what_the_entries_marked, each_listener_is_what_its_history_says,
+    entries_change_presence_by_their_sessions, every_entry_is_judged_by_the_rules_in_force,
+    no_entry_changes_what_became_of_an_action, the_entries_that_change_something_are_a_history,
+    what_is_listened_to_is_what_the_entries_began, what_is_stored_is_what_the_entries_wrote,
+    what_waits_is_what_the_entries_established,
+};
 pub use seat::Seat;
 pub use turns::MAX_ENTRIES;
