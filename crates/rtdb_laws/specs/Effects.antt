@@ -19,19 +19,19 @@ is_effective (Ran Applied) = true
 is_effective (Ran (Skipped refusal)) = true
 is_effective (Closed dropped) = true
 
--- an event that is answered so changes more than listeners: an unlisten and a tick change nothing else
+-- an event that is answered so may change more than listeners: an unlisten and a tick never do, and any other does where its reply is effective
 abbrev pub changes : Event → Reply → Bool
 changes (Unlisten id) reply = false
 changes Tick reply = false
 changes event reply = is_effective reply
 
--- those of these calls that change more than listeners, as they were answered
+-- those of these calls that may change more than listeners, as they were answered
 abbrev pub changing : List Call → List Reply → List Call
 changing [] replies = []
 changing (call ∷ calls) [] = []
 changing (call ∷ calls) (reply ∷ replies) = if changes call.event reply then call ∷ changing calls replies else changing calls replies
 
--- what those were answered
+-- the replies to those, in their order
 abbrev pub effective : List Call → List Reply → List Reply
 effective [] replies = []
 effective (call ∷ calls) [] = []

@@ -50,7 +50,7 @@ ends_under id event reply = false
 abbrev pub ends_of : ℕ → List ℕ → Call → Reply → Bool
 ends_of session id call reply = call.session == session && ends_under id call.event reply
 
--- one of these calls does
+-- one of these calls, which were answered so, ends what the session listens to under the id
 abbrev pub is_ended : ℕ → List ℕ → List Call → List Reply → Bool
 is_ended session id [] replies = false
 is_ended session id (call ∷ calls) [] = false
