@@ -1,5 +1,6 @@
 //! A hall: a database that many threads call, one after another.
 ghost use Rattle.std.specs.Prelude.{◌≡◌, ◌≢◌, ◌≤◌, ◌++◌, [], length, IfOk};
+ghost use Rattle.rules_reader.specs.Place.{HasOneCapture};
 ghost use Rattle.locked_server.specs.Known.{Closes, IsSameSeat, Made, Met, Missed, SeesLegal, SeesMore, own};
 
 use crate::content::{Content, Slot};
@@ -38,10 +39,13 @@ impl Model for Hall {
 
 impl Hall {
     /// A hall whose history is empty, and its first seat. It takes three growths, of which two stay, for the database
-    /// and for the words that all seats share. Where one is refused, the database is given up.
+    /// and for the words that all seats share. Where one is refused, the database is given up. The rules that it opens
+    /// with have at most one capture in each object, as those of each [`Core`] do.
     pub fn new(alloc: Global, core: Core) -> Result<(Hall, Seat), NoMemory>
-        ensures { IfOk result (λ r. (r.1.hall ≡ r.0) × (r.1.opening ≡ core) × (r.1.seen ≡ [])) }
+        ensures seat { IfOk result (λ r. (r.1.hall ≡ r.0) × (r.1.opening ≡ core) × (r.1.seen ≡ [])) }
+        ensures one { HasOneCapture core.rules }
     {
+        let _rules = core.rules();
         let opening = Snapshot::of(&core);
         let mut slots = Vec::new(alloc);
         let content = Content { core, last: None };

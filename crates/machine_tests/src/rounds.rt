@@ -247,9 +247,9 @@ fn answer_and_serve<R: Wait, P: Peer>(
     let (hall, mut seat) = open_hall(alloc)?;
     drop(hall.call(rt, &mut seat, &mut arena, 1, 1, Event::Open));
     let said = answer(rt, alloc, &hall, &mut seat, &mut arena, tokens, 1, 5, GET);
-    let said = said.ok().ok_or(WANT_OF_MEMORY)?;
     let course = serve_as(rt, alloc, &hall, &mut seat, &mut arena, tokens, peer, TURNS);
-    Ok((said, course.end))
+    drop(hall.close(rt, seat));
+    Ok((said.ok().ok_or(WANT_OF_MEMORY)?, course.end))
 }
 
 #[test]

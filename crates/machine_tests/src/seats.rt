@@ -1,5 +1,5 @@
 //! Lines of every kind, said to a hall at several seats, and what each is answered, whatever the other seats do.
-ghost use Rattle.std.specs.Prelude.{◌≡◌, ◌≤◌, IfOk};
+ghost use Rattle.std.specs.Prelude.{◌≡◌, ◌≤◌};
 
 use crate::lines::{OK, Row, Trouble, WANT_OF_MEMORY, asked, filled, text_of, two_tokens};
 use crate::streams::open_hall;
@@ -247,20 +247,19 @@ pub(crate) fn make_rounds<R: Wait>(
     rt: &R,
     alloc: Global,
     hall: &Hall,
-    mut seat: Seat,
+    seat: &mut Seat,
     number: u64,
-) -> Result<Seat, Stop>
-    requires { seat.hall ≡ hall.now }
-    ensures { IfOk result (λ seat. seat.hall ≡ hall.now) }
+) -> Result<(), Stop>
+    requires { seat.old.hall ≡ hall.now }
+    ensures { seat.new.hall ≡ hall.now }
 {
     let mut arena = Bump::new(alloc);
     for _round in 0..ROUNDS {
-        match make_round(rt, alloc, hall, &mut seat, &mut arena, number) {
-            Ok(()) => {}
-            Err(trouble) => return Err(Stop::of(trouble)),
+        if let Err(trouble) = make_round(rt, alloc, hall, seat, &mut arena, number) {
+            return Err(Stop::of(trouble));
         }
     }
-    Ok(seat)
+    Ok(())
 }
 
 /// The JSON text of a tree.
@@ -278,12 +277,13 @@ fn is_left(alloc: Global, core: &Core) -> Result<bool, Trouble> {
 #[test]
 fn eight_seats_are_answered_as_if_each_were_alone(rt: HostRuntime) -> Result<(), Fail> {
     let alloc = rt.alloc();
-    let (hall, seat) = open_hall(alloc)?;
-    let mut seat = work_as_many(&rt, alloc, &hall, seat, 1, SEATS)?;
+    let (hall, mut seat) = open_hall(alloc)?;
+    let said = work_as_many(&rt, alloc, &hall, &mut seat, 1, SEATS);
     let calls = hall.news(&mut seat);
     let core = hall.close(&rt, seat);
     let left = is_left(alloc, &core);
     drop(core);
+    said?;
     assert_eq!(rt; calls, SEATS * ROUNDS * LINES);
     assert!(rt; left?);
     Ok(())
@@ -295,6 +295,9 @@ fn news_come_without_a_meeting(rt: HostRuntime) -> Result<(), Fail> {
     let mut other = hall.split(&mut seat);
     let mut arena = Bump::new(rt.alloc());
     drop(hall.call(&rt, &mut seat, &mut arena, 1, 1, Event::Open));
-    assert_eq!(rt; hall.news(&mut other), 1);
+    let news = hall.news(&mut other);
+    hall.meet(&mut seat, other);
+    drop(hall.close(&rt, seat));
+    assert_eq!(rt; news, 1);
     Ok(())
 }

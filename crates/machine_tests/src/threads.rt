@@ -1,45 +1,44 @@
 //! Seats on threads of their own.
-ghost use Rattle.std.specs.Prelude.{◌≡◌, ◌+◌, ◌<◌, ◌≤◌, IfOk};
+ghost use Rattle.std.specs.Prelude.{◌≡◌, ◌+◌, ◌<◌, ◌≤◌};
 ghost use Rattle.std.specs.Thread.{IsSync};
 
 use crate::seats::{Stop, make_rounds};
 use locked_server::{Hall, Seat};
 use std::alloc::Global;
 use std::sync::Wait;
-use std::thread::{Threads, join};
+use std::thread::{Threads, join_mut};
 
-/// Says the lines as so many seats, each on a thread of its own; the seats have the numbers from `first` on. All of them have
-/// met in the one that is left.
+/// Says the lines as so many seats, each on a thread of its own; the seats have the numbers from `first` on. The given one
+/// has taken all others in when they have ended.
 pub(crate) fn work_as_many<R: Threads + Wait + Sync>(
     rt: &R,
     alloc: Global,
     hall: &Hall,
-    mut seat: Seat,
+    seat: &mut Seat,
     first: u64,
     count: u64,
-) -> Result<Seat, Stop>
+) -> Result<(), Stop>
     requires sync { IsSync R.row }
-    requires hall { seat.hall ≡ hall.now }
+    requires hall { seat.old.hall ≡ hall.now }
     requires few { first + count < 100 }
-    ensures { IfOk result (λ seat. seat.hall ≡ hall.now) }
+    ensures { seat.new.hall ≡ hall.now }
 {
     if count < 2 {
         return make_rounds(rt, alloc, hall, seat, first);
     }
     let half = count / 2;
-    let other = hall.split(&mut seat);
-    let (one, two) = join(
+    let mut other = hall.split(seat);
+    let (said, said_there) = join_mut(
         rt,
-        || -> Result<Seat, Stop>
-            requires { IsSync R.row × (seat.hall ≡ hall.now) × (first + half < 100) }
-            ensures { IfOk result (λ seat. seat.hall ≡ hall.entry.now) }
+        &mut || -> Result<(), Stop>
+            requires { IsSync R.row × (seat.now.hall ≡ hall.now) × (first + half < 100) }
+            ensures { seat.exit.now.hall ≡ hall.entry.now }
         { work_as_many(rt, alloc, hall, seat, first, half) },
-        || -> Result<Seat, Stop>
+        &mut || -> Result<(), Stop>
             requires { IsSync R.row × (other.hall ≡ hall.now) × (first + count < 100) × (half ≤ count) }
-            ensures { IfOk result (λ seat. seat.hall ≡ hall.entry.now) }
-        { work_as_many(rt, alloc, hall, other, first + half, count - half) },
+            ensures { other.exit.hall ≡ hall.entry.now }
+        { work_as_many(rt, alloc, hall, &mut other, first + half, count - half) },
     );
-    let mut one = one?;
-    hall.meet(&mut one, two?);
-    Ok(one)
+    hall.meet(seat, other);
+    said.and(said_there)
 }

@@ -13,7 +13,8 @@ use Rattle.answers.specs.AnswerText.{accepted_text, rules_fault_text}
 use Rattle.scripts.specs.Ends.{SourceTells, Ends}
 use Rattle.scripts.specs.Said.{as_line, header_fault_text}
 use Rattle.locked_server.specs.Known.{Known}
-use Rattle.server.specs.Served.{HasServed as HasPrinted}
+use Rattle.server.specs.Served.{HasServed as HasPrinted, IsCutShort}
+use Rattle.server.specs.declared.shifts.Shifts.{Shifts}
 use Rattle.rtdb.specs.declared.contents.TheConstants.{MOST_BYTES}
 use Rattle.rtdb.specs.Opening.{FileBytes, Begins}
 use Rattle.command_line.specs.Order.{Wanted, Served, checks, runs, serves}
@@ -81,20 +82,39 @@ abbrev pub IsRefused : (List ℕ → Option (List ℕ)) → Served → Option (L
 IsRefused known options before after =
     (files : FileBytes) × (fault : HeaderFault) × AreRead known options files × Begins files (Err fault) × Appends before after (as_line (header_fault_text fault))
 
--- a database was served, from its opening on: it was printed where it is served, and how many entries its legal history has
-abbrev pub IsServed : Opened → Option (List ℕ) → Option (List ℕ) → Type 0
-IsServed opened before after = (seat : Known) × (seat.opening ≡ opened.core) × (seat.seen ≡ []) × HasPrinted seat before after
+-- how much a server does that is to serve so
+abbrev pub shifts_of : Served → Shifts
+shifts_of options = record { workers = options.workers; rounds = options.rounds }
 
--- a server's files opened a database, which was served
-abbrev pub IsOpened : (List ℕ → Option (List ℕ)) → Served → Option (List ℕ) → Option (List ℕ) → Type 0
-IsOpened known options before after =
-    (files : FileBytes) × (opened : Opened) × AreRead known options files × Begins files (Ok opened) × IsServed opened before after
+-- a database was served, from its opening on, by the workers and for the rounds that were asked for, to clients who sign in by its tokens: it was printed where it is served, and how many entries its legal history has
+abbrev pub IsServed : Served → Opened → Option (List ℕ) → Option (List ℕ) → Type 0
+IsServed options opened before after = (seat : Known) × (seat.opening ≡ opened.core) × (seat.seen ≡ []) × HasPrinted opened.tokens (shifts_of options) options.port seat before after
 
--- what was to be served is refused, or was served, or there is a reason why not
-abbrev pub HasServed : (List ℕ → Option (List ℕ)) → Served → Option (List ℕ) → Option (List ℕ) → ℕ → Type 0
-HasServed known options before after status =
+-- a server's files opened this database
+abbrev pub IsOpened : (List ℕ → Option (List ℕ)) → Served → Opened → Type 0
+IsOpened known options opened = (files : FileBytes) × AreRead known options files × Begins files (Ok opened)
+
+-- a file that is named has bytes that are not known
+abbrev pub IsUnknown : (List ℕ → Option (List ℕ)) → Option (List ℕ) → Type 0
+IsUnknown known None = ⊥
+IsUnknown known (Some name) = known name ≡ None
+
+-- one of a server's files could not be read
+abbrev pub IsUnread : (List ℕ → Option (List ℕ)) → Served → Type 0
+IsUnread known options = IsUnknown known (Some options.rules_file) ⊎ (IsUnknown known options.data_file ⊎ IsUnknown known options.tokens_file)
+
+-- a server failed: nothing was printed, since one of its files could not be read, or since its port could not be had once its files had opened a database; or the output has failed
+abbrev pub IsFailed : (List ℕ → Option (List ℕ)) → Served → Option (List ℕ) → Option (List ℕ) → Bool → Type 0
+IsFailed known options before after has_failed =
+    (Appends before after [] × (IsUnread known options ⊎ ((opened : Opened) × IsOpened known options opened))) ⊎ (has_failed ≡ true)
+
+-- what was to be served is refused, or was served, or the server failed, or memory was wanted before its last line was printed
+abbrev pub HasServed : (List ℕ → Option (List ℕ)) → Served → Option (List ℕ) → Option (List ℕ) → Bool → ℕ → Type 0
+HasServed known options before after has_failed status =
     ((status ≡ refused) × IsRefused known options before after)
-    ⊎ (((status ≡ done) × IsOpened known options before after) ⊎ ((status ≡ failed) ⊎ (status ≡ no_memory)))
+    ⊎ (((status ≡ done) × ((opened : Opened) × IsOpened known options opened × IsServed options opened before after))
+    ⊎ (((status ≡ failed) × IsFailed known options before after has_failed)
+    ⊎ ((status ≡ no_memory) × IsCutShort options.port before after)))
 
 -- ---- what is reported of the streams
 
@@ -116,4 +136,4 @@ HasRun streams status =
 abbrev pub HasDone : (List ℕ → Option (List ℕ)) → Wanted → Streams → ℕ → Type 0
 HasDone known (checks name) streams status = HasChecked (known name) streams.before streams.after streams.has_failed status
 HasDone known runs streams status = HasRun streams status
-HasDone known (serves options) streams status = HasServed known options streams.before streams.after status
+HasDone known (serves options) streams status = HasServed known options streams.before streams.after streams.has_failed status

@@ -1,10 +1,10 @@
 //! What the program does to serve.
 ghost use Rattle.std.specs.Prelude.{◌≡◌, ◌⊎◌, true, false, IfOk, OnOk, ◌++◌};
 ghost use Rattle.scripts.specs.Said.{as_line, header_fault_text};
-ghost use Rattle.rtdb.specs.Command.{HasServed, IsServed};
+ghost use Rattle.rtdb.specs.Command.{HasServed};
 ghost use Rattle.command_line.specs.Order.{served_by};
-ghost use Rattle.rtdb.specs.Status.{done, failed, no_memory, refused};
-ghost use Rattle.rtdb.specs.Working.{IsTold};
+ghost use Rattle.rtdb.specs.Status.{failed, no_memory, refused};
+ghost use Rattle.rtdb.specs.Working.{IsServedOr, IsTold};
 
 use crate::command::{DONE, FAILED, REFUSED, Told, as_line, no_output, out_of_memory, print};
 use crate::contents::read_contents;
@@ -18,10 +18,10 @@ use json_tree::NoMemory;
 use locked_server::Hall;
 use rtdb_core::Refusal;
 use scripts::{HeaderFault, Opened, Sink};
-use server::{OpenGate, ServerFault, Shifts, serve_on};
+use server::{Listener, OpenGate, ServerFault, Shifts, serve_on};
 use std::alloc::Global;
 use std::io;
-use std::net::{Net, SocketAddr, TcpListener, TcpStream};
+use std::net::{Net, TcpListener, TcpStream};
 use std::sync::Wait;
 use std::thread::Threads;
 use std::time::Clock;
@@ -41,7 +41,7 @@ pub fn serve<
     faults: &mut E,
 ) -> u8
     requires { W.failed output.old.sink ≡ false }
-    ensures served { HasServed (F.bytes files.now) (served_by options.now) (W.written output.old.sink) (W.written output.new.sink) result }
+    ensures served { HasServed (F.bytes files.now) (served_by options.now) (W.written output.old.sink) (W.written output.new.sink) (W.failed output.new.sink) result }
     ensures broken { W.failed output.new.sink ≡ true → result ≡ failed }
 {
     match read_contents(alloc, files, options, faults) {
@@ -70,12 +70,11 @@ fn listen<
     faults: &mut E,
 ) -> u8
     requires { W.failed output.old.sink ≡ false }
-    ensures served { ((result ≡ done) × IsServed opened (W.written output.old.sink) (W.written output.new.sink)) ⊎ ((result ≡ failed) ⊎ (result ≡ no_memory)) }
+    ensures served { IsServedOr opened (served_by options.now) (W.written output.old.sink) (W.written output.new.sink) (W.failed output.new.sink) result }
     ensures broken { W.failed output.new.sink ≡ true → result ≡ failed }
 {
     let Opened { core, tokens } = opened;
-    let address = SocketAddr::from(([127, 0, 0, 1], options.port));
-    let Ok(listener) = TcpListener::bind(rt, address) else {
+    let Ok(listener) = Listener::bind(rt, options.port) else {
         return no_listener(faults);
     };
     let Ok((hall, seat)) = Hall::new(alloc, core) else {
@@ -90,7 +89,6 @@ fn listen<
     );
     match end {
         Ok(()) => DONE,
-        Err(ServerFault::Listener) => no_listener(faults),
         Err(ServerFault::Output) => no_output(faults),
         Err(ServerFault::NoMemory) => out_of_memory(faults),
     }
@@ -112,7 +110,7 @@ fn refuse<W: Sink, E: io::Write>(
     faults: &mut E,
 ) -> u8
     requires { W.failed output.old ≡ false }
-    ensures told { IsTold fault.now (W.written output.old) (W.written output.new) result }
+    ensures told { IsTold fault.now (W.written output.old) (W.written output.new) (W.failed output.new) result }
     ensures broken { W.failed output.new ≡ true → result ≡ failed }
 {
     match refusal(alloc, fault) {

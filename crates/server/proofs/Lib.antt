@@ -1,2 +1,4 @@
 pub mod Crossing
 pub mod Going
+pub mod Shuffling
+pub mod Visiting

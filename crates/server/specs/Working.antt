@@ -1,11 +1,14 @@
--- Words of private contracts.
-use Rattle.std.specs.Prelude.{◌≡◌, List, ◌++◌, All}
-use mathlib.Core.List.{IsPrefix}
+-- Words of private contracts. No public clause names one.
+use Rattle.std.specs.Prelude.{◌≡◌, ℕ, ◌≤◌, List, All, length}
+use Rattle.tokens.specs.Tokens.{Tokens}
 use Rattle.locked_server.specs.Known.{Known}
-use Rattle.server.specs.Served.{GoesOn}
+use Rattle.sessions.specs.Calls.{Answered, Gains}
+use Rattle.server.specs.Served.{AreOfVisit, joined}
 
--- of all these seats the front is left, all at the same hall; the others were taken in, so that what each has seen begins the history that is now seen
-pub record TakesIn (all left : List Known) (k l : Known) : Type 0 where
-  pub goes : GoesOn k l
-  pub there : All (λ s. s.hall ≡ k.hall) left
-  pub taken : (others : List Known) × (all ≡ left ++ others) × All (λ s. IsPrefix s.seen l.seen) others
+-- the seat has made the calls of one visit
+abbrev pub HasVisit : Tokens → ℕ → Known → Known → Type 0
+HasVisit tokens session k l = (asked : List Answered) × AreOfVisit tokens session asked × Gains k asked l
+
+-- the seat has made the calls of at most so many visits, one after another
+abbrev pub HasVisits : Tokens → ℕ → ℕ → Known → Known → Type 0
+HasVisits tokens session rounds k l = (visits : List (List Answered)) × All (AreOfVisit tokens session) visits × (length visits ≤ rounds) × Gains k (joined visits) l

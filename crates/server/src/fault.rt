@@ -3,26 +3,15 @@ ghost use Rattle.std.specs.Prelude.{◌≡◌};
 ghost use Rattle.server.specs.declared.fault.ServerFault.TheVariants.{NoMemory as no_memory, Output as output};
 
 use crate::printer::Unprinted;
-use json_tree::NoMemory;
 use std::alloc::AllocError;
 
 /// Why a server ended before its time.
 #[derive(Clone, Copy, Debug, PartialEq, Eq)]
 pub enum ServerFault {
-    /// The listener does not say where it listens.
-    Listener,
     /// A line could not be printed.
     Output,
-    /// There was no memory for a line, or for the workers.
+    /// There was no memory for a line.
     NoMemory,
-}
-
-impl From<NoMemory> for ServerFault {
-    ghost from_gives = { λ _ fault. fault ≡ no_memory };
-
-    fn from(_refused: NoMemory) -> ServerFault {
-        ServerFault::NoMemory
-    }
 }
 
 impl From<AllocError> for ServerFault {

@@ -2,11 +2,13 @@
 //!
 //! [`serve_on`] starts the workers, each with a seat at the hall, and ends once each has served its rounds. What its
 //! contract says is `HasServed` of `specs/Served`: it has printed where it listens, and how long a legal history of
-//! the hall is. What is said in a session is the contract of [`serve_session`](sessions::serve_session).
+//! the hall is; the calls of its seats are those of the workers' sessions, each as the contract of
+//! [`serve_session`](sessions::serve_session) says, and no others.
 #![tactic(auto)]
 
 mod fault;
 mod gate;
+mod listener;
 mod moments;
 mod printer;
 mod rounds;
@@ -15,6 +17,8 @@ mod shifts;
 
 pub use fault::ServerFault;
 pub use gate::OpenGate;
+pub use listener::Listener;
 pub use printer::{Printer, Unprinted};
+pub use rounds::TURNS;
 pub use serve::serve_on;
 pub use shifts::Shifts;

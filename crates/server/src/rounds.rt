@@ -1,12 +1,14 @@
 //! The rounds of one worker: clients, one after another.
 ghost use Rattle.std.specs.Prelude.{◌≡◌};
+ghost use Rattle.server.specs.Working.{HasVisit, HasVisits};
 
+use crate::listener::Listener;
 use crate::moments::SystemMoments;
 use bumpalo::Bump;
 use locked_server::{Hall, Seat};
 use sessions::{Gate, SocketPeer, serve_session};
 use std::alloc::Global;
-use std::net::{TcpListener, TcpStream};
+use std::net::TcpStream;
 use std::sync::Wait;
 use std::time::{self, Duration};
 use std::{io, thread};
@@ -34,54 +36,65 @@ const MOST_RECEIVED: usize = 2 << 20;
 // How many bytes a socket asks the system for at a time.
 const READ_AT_ONCE: usize = 16 << 10;
 
-// How many turns a session has: more than there is time for.
-const TURNS: u64 = 1_000_000_000;
+/// How many turns a session has: more than there is time for.
+pub const TURNS: u64 = 1_000_000_000;
 
 /// What all workers share, and how many rounds each of them has.
 #[derive(Clone, Copy)]
 pub(crate) struct WorkPlace<'a, R, G> {
     pub(crate) rt: &'a R,
     pub(crate) alloc: Global,
-    pub(crate) listener: &'a TcpListener,
+    pub(crate) listener: &'a Listener,
     pub(crate) hall: &'a Hall,
     pub(crate) tokens: &'a Tokens,
     pub(crate) gate: &'a G,
     pub(crate) rounds: u64,
 }
 
-/// What one worker has for itself: the number of its sessions, and its seat.
-#[derive(Drop)]
-pub(crate) struct Job {
-    pub(crate) session: u64,
-    pub(crate) seat: Seat,
-}
-
-/// Serves the rounds of one worker, and gives its seat back. A connection whose handshake fails is a round too, and so is
-/// an hour in which the system gives none.
-pub(crate) fn work<R: Wait + time::Clock, G: Gate>(place: &WorkPlace<'_, R, G>, job: Job) -> Seat
-    requires { job.seat.hall ≡ place.now.hall.now }
-    ensures { result.hall ≡ place.now.hall.now }
+/// Serves the rounds of one worker, who serves each client as this session. A connection whose handshake fails is a
+/// round too, and so is an hour in which the system gives none.
+pub(crate) fn work<R: Wait + time::Clock, G: Gate>(
+    place: &WorkPlace<'_, R, G>,
+    session: u64,
+    seat: &mut Seat,
+)
+    requires hall { seat.old.hall ≡ place.now.hall.now }
+    ensures hall { seat.new.hall ≡ place.now.hall.now }
+    ensures visits { HasVisits place.now.tokens.now session place.now.rounds seat.old seat.new }
 {
-    let Job { session, mut seat } = job;
     let mut arena = Bump::new(place.alloc);
     for _ in 0..place.rounds {
-        if let Some(socket) = next_client(place.rt, place.alloc, place.listener) {
-            serve_client(place, &mut seat, &mut arena, session, socket);
-        }
+        serve_round(place, session, seat, &mut arena);
     }
-    seat
+}
+
+// Serves the next client, if one comes.
+fn serve_round<R: Wait + time::Clock, G: Gate>(
+    place: &WorkPlace<'_, R, G>,
+    session: u64,
+    seat: &mut Seat,
+    arena: &mut Bump,
+)
+    requires hall { seat.old.hall ≡ place.now.hall.now }
+    ensures hall { seat.new.hall ≡ place.now.hall.now }
+    ensures visit { HasVisits place.now.tokens.now session 1 seat.old seat.new }
+{
+    if let Some(socket) = next_client(place.rt, place.alloc, place.listener) {
+        serve_client(place, session, seat, arena, socket);
+    }
 }
 
 // Serves the session of one client. However it ends, the next client comes.
 fn serve_client<R: Wait + time::Clock, G: Gate>(
     place: &WorkPlace<'_, R, G>,
+    session: u64,
     seat: &mut Seat,
     arena: &mut Bump,
-    session: u64,
     socket: WebSocket<TcpStream, NoMask>,
 )
-    requires { seat.old.hall ≡ place.now.hall.now }
-    ensures { seat.new.hall ≡ place.now.hall.now }
+    requires hall { seat.old.hall ≡ place.now.hall.now }
+    ensures hall { seat.new.hall ≡ place.now.hall.now }
+    ensures visit { HasVisit place.now.tokens.now session seat.old seat.new }
 {
     let mut clock = SystemMoments::new(place.rt);
     let mut peer = SocketPeer::new(place.alloc, socket);
@@ -104,7 +117,7 @@ fn serve_client<R: Wait + time::Clock, G: Gate>(
 fn next_client<R: time::Clock>(
     rt: &R,
     alloc: Global,
-    listener: &TcpListener,
+    listener: &Listener,
 ) -> Option<WebSocket<TcpStream, NoMask>> {
     let stream = next_connection(rt, listener)?;
     set_limits(&stream).ok()?;
@@ -119,9 +132,9 @@ fn next_client<R: time::Clock>(
 
 // The next connection. Where the system gives none, as where this program may open no more files, the worker rests and
 // tries again, until another one has closed some.
-fn next_connection<R: time::Clock>(rt: &R, listener: &TcpListener) -> Option<TcpStream> {
+fn next_connection<R: time::Clock>(rt: &R, listener: &Listener) -> Option<TcpStream> {
     for _ in 0..MOST_RESTS {
-        if let Ok((stream, _)) = listener.accept() {
+        if let Some(stream) = listener.accept() {
             return Some(stream);
         }
         thread::sleep(rt, Duration::from_millis(REST_MS));

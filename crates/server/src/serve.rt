@@ -1,31 +1,33 @@
 //! A server, from its first line to its last.
 ghost use Rattle.std.specs.Prelude.{◌≡◌, ◌↔◌, true, false, string_bytes, IfOk, IsErrOf, OnOk};
-ghost use Rattle.server.specs.Served.{HasServed, listening_text, served_text};
+ghost use Rattle.std.specs.Thread.{IsSync};
+ghost use Rattle.std.specs.Io.KnownBytes.{Appends};
+ghost use Rattle.server.specs.Served.{HasServed, IsCutShort, listening_text, served_text};
 
 use crate::fault::ServerFault;
+use crate::listener::Listener;
 use crate::printer::Printer;
 use crate::rounds::WorkPlace;
 use crate::shifts::{Shifts, work_all};
 use locked_server::{Hall, Seat};
 use sessions::Gate;
 use std::alloc::{AllocError, Global};
-use std::net::TcpListener;
 use std::sync::Wait;
 use std::thread::Threads;
 use std::time;
 use tokens::Tokens;
 
 /// Serves sessions until each worker has served its rounds. It prints `listening 127.0.0.1:P` at the start, where P is
-/// the port of the listener, which listens there, and `served N` once all workers have ended, where N is how many
-/// entries the history of the hall has; it then closes the hall. A connection whose handshake fails is a round too. Where
-/// the system gives no connection, a worker tries again each 100 milliseconds, and an hour of that is a round. Worker w,
-/// from 1, serves its clients as session w. A client may say nothing for 5 seconds in its handshake, may leave what is
-/// sent to it unread for 5 seconds, and sends at most 2 MiB a message; a session has 1,000,000,000 turns, and waits 20
-/// milliseconds in each for a message. With no workers, or no rounds, nobody is served.
+/// the port of the listener, and `served N` once all workers have ended, where N is how many entries the history of the
+/// hall has; it then closes the hall. A connection whose handshake fails is a round too. Where the system gives no
+/// connection, a worker tries again each 100 milliseconds, and an hour of that is a round. Worker w, from 1, serves its
+/// clients as session w. A client may say nothing for 5 seconds in its handshake, may leave what is sent to it unread
+/// for 5 seconds, and sends at most 2 MiB a message; a session has 1,000,000,000 turns, and waits 20 milliseconds in
+/// each for a message. With no workers, or no rounds, nobody is served.
 pub fn serve_on<R: Threads + Wait + time::Clock + Sync, G: Gate + Sync, W: Printer>(
     rt: &R,
     alloc: Global,
-    listener: &TcpListener,
+    listener: &Listener,
     hall: Hall,
     mut seat: Seat,
     tokens: &Tokens,
@@ -35,14 +37,10 @@ pub fn serve_on<R: Threads + Wait + time::Clock + Sync, G: Gate + Sync, W: Print
 ) -> Result<(), ServerFault>
     requires hall { seat.hall ≡ hall }
     requires output { W.failed output.old ≡ false }
-    ensures served { OnOk result (HasServed seat (W.printed output.old) (W.printed output.new)) }
+    ensures served { OnOk result (HasServed tokens.now shifts listener.now seat (W.printed output.old) (W.printed output.new)) }
     ensures failed { IsErrOf result ServerFault.Output ↔ (W.failed output.new ≡ true) }
-    ensures listener { IsErrOf result ServerFault.Listener → W.printed output.new ≡ W.printed output.old }
+    ensures wanting { IsErrOf result ServerFault.NoMemory → IsCutShort listener.now (W.printed output.old) (W.printed output.new) }
 {
-    let Ok(address) = listener.local_addr() else {
-        return Err(ServerFault::Listener);
-    };
-    output.print(listening_line(alloc, address.port())?.as_bytes())?;
     let place = WorkPlace {
         rt,
         alloc,
@@ -52,10 +50,57 @@ pub fn serve_on<R: Threads + Wait + time::Clock + Sync, G: Gate + Sync, W: Print
         gate,
         rounds: shifts.rounds,
     };
-    work_all(&place, &mut seat, shifts.workers)?;
-    let entries = hall.news(&mut seat);
-    output.print(served_line(alloc, entries)?.as_bytes())?;
+    let end = serve_all(&place, &mut seat, shifts.workers, output);
     drop(hall.close(rt, seat));
+    end
+}
+
+// Prints the first line, lets all workers serve, and prints the last line.
+fn serve_all<R: Threads + Wait + time::Clock + Sync, G: Gate + Sync, W: Printer>(
+    place: &WorkPlace<'_, R, G>,
+    seat: &mut Seat,
+    workers: u64,
+    output: &mut W,
+) -> Result<(), ServerFault>
+    requires sync { IsSync R.row × IsSync G.row }
+    requires hall { seat.old.hall ≡ place.now.hall.now }
+    requires output { W.failed output.old ≡ false }
+    ensures hall { seat.new.hall ≡ place.now.hall.now }
+    ensures served { OnOk result (HasServed place.now.tokens.now (record { workers = workers; rounds = place.now.rounds }) place.now.listener.now seat.old (W.printed output.old) (W.printed output.new)) }
+    ensures failed { IsErrOf result ServerFault.Output ↔ (W.failed output.new ≡ true) }
+    ensures wanting { IsErrOf result ServerFault.NoMemory → IsCutShort place.now.listener.now (W.printed output.old) (W.printed output.new) }
+{
+    print_listening(place.alloc, place.listener, output)?;
+    work_all(place, seat, 0, workers);
+    let entries = place.hall.news(seat);
+    print_served(place.alloc, entries, output)
+}
+
+// Prints where the server listens.
+fn print_listening<W: Printer>(
+    alloc: Global,
+    listener: &Listener,
+    output: &mut W,
+) -> Result<(), ServerFault>
+    requires { W.failed output.old ≡ false }
+    ensures printed { OnOk result (Appends (W.printed output.old) (W.printed output.new) (listening_text listener.now) × (W.failed output.new ≡ false)) }
+    ensures failed { IsErrOf result ServerFault.Output ↔ (W.failed output.new ≡ true) }
+    ensures wanting { IsErrOf result ServerFault.NoMemory → W.printed output.new ≡ W.printed output.old }
+{
+    let first_line = listening_line(alloc, listener.port())?;
+    output.print(first_line.as_bytes())?;
+    Ok(())
+}
+
+// Prints how many entries the history has.
+fn print_served<W: Printer>(alloc: Global, entries: u64, output: &mut W) -> Result<(), ServerFault>
+    requires { W.failed output.old ≡ false }
+    ensures printed { OnOk result (Appends (W.printed output.old) (W.printed output.new) (served_text entries)) }
+    ensures failed { IsErrOf result ServerFault.Output ↔ (W.failed output.new ≡ true) }
+    ensures wanting { IsErrOf result ServerFault.NoMemory → W.printed output.new ≡ W.printed output.old }
+{
+    let last_line = served_line(alloc, entries)?;
+    output.print(last_line.as_bytes())?;
     Ok(())
 }
 

@@ -1,15 +1,13 @@
 //! The workers of a server, from their start to the end of the last.
-ghost use Rattle.std.specs.Prelude.{◌≡◌, All, IfOk, OnOk};
-ghost use mathlib.Core.List.{IsPrefix};
-ghost use Rattle.server.specs.Served.{GoesOn};
+ghost use Rattle.std.specs.Prelude.{◌≡◌, ◌+◌, ◌-◌, ◌^◌, ◌<◌, ◌≤◌};
+ghost use Rattle.std.specs.Thread.{IsSync};
+ghost use Rattle.server.specs.Served.{HaveServed};
 
-use crate::rounds::{Job, WorkPlace, work};
-use json_tree::NoMemory;
-use locked_server::{Hall, Seat};
+use crate::rounds::{WorkPlace, work};
+use locked_server::Seat;
 use sessions::Gate;
-use std::alloc::Global;
 use std::sync::Wait;
-use std::thread::{self, Threads};
+use std::thread::{Threads, join_mut};
 use std::time;
 
 /// How much a server does before it ends.
@@ -21,54 +19,39 @@ pub struct Shifts {
     pub rounds: u64,
 }
 
-/// Starts the workers, and takes their seats in when all have ended. The threads are this one and others.
+/// Lets so many workers serve side by side, the first as session `before + 1`. Each has a seat of its own, and the
+/// given one has taken all others in when they have ended. The threads are this one and others. Where none can be made,
+/// workers serve one after another.
 pub(crate) fn work_all<R: Threads + Wait + time::Clock + Sync, G: Gate + Sync>(
     place: &WorkPlace<'_, R, G>,
     seat: &mut Seat,
+    before: u64,
     workers: u64,
-) -> Result<(), NoMemory>
-    requires { seat.old.hall ≡ place.now.hall.now }
-    ensures { OnOk result (GoesOn seat.old seat.new) }
+)
+    requires sync { IsSync R.row × IsSync G.row }
+    requires hall { seat.old.hall ≡ place.now.hall.now }
+    requires numbers { before + workers < 2 ^ 64 }
+    ensures { HaveServed place.now.tokens.now place.now.rounds (before + 1) workers seat.old seat.new }
 {
-    let jobs = deal(place.alloc, place.hall, seat, workers)?;
-    let seats = thread::map_vec(
+    if workers == 0 {
+        return;
+    }
+    if workers == 1 {
+        work(place, before + 1, seat);
+        return;
+    }
+    let half = workers / 2;
+    let mut other = place.hall.split(seat);
+    join_mut(
         place.rt,
-        jobs,
-        &|job: Job| -> Seat
-            requires { job.seat.hall ≡ place.now.hall.now }
-            ensures { result.hall ≡ place.entry.now.hall.now }
-        { work(place, job) },
-    )?;
-    gather(place.hall, seat, seats);
-    Ok(())
-}
-
-// Gives each worker its part. Worker w, from 1, serves as session w.
-fn deal(alloc: Global, hall: &Hall, seat: &mut Seat, workers: u64) -> Result<Vec<Job>, NoMemory>
-    requires { seat.old.hall ≡ hall.now }
-    ensures same { seat.new ≡ seat.old }
-    ensures seats { IfOk result (λ jobs. All (λ job. job.seat.hall ≡ hall.now) jobs.items) }
-{
-    let mut jobs = Vec::new(alloc);
-    for worker in 0..workers {
-        let seat = hall.split(seat);
-        jobs.push(Job {
-            session: worker + 1,
-            seat,
-        })?;
-    }
-    Ok(jobs)
-}
-
-// Takes the seats of the workers in: what each has seen begins the history that is then seen.
-#[tactic(auto, using(crate::proofs::Going::takes_none))]
-fn gather(hall: &Hall, seat: &mut Seat, mut seats: Vec<Seat>)
-    requires hall { seat.old.hall ≡ hall.now }
-    requires seats { All (λ other. other.hall ≡ hall.now) seats.items }
-    ensures goes { GoesOn seat.old seat.new }
-    ensures met { All (λ other. IsPrefix other.seen seat.new.seen) seats.items }
-{
-    while let Some(other) = seats.pop() {
-        hall.meet(seat, other);
-    }
+        &mut ||
+            requires { IsSync R.row × IsSync G.row × (seat.now.hall ≡ place.now.hall.now) × (before + half < 2 ^ 64) }
+            ensures { HaveServed place.entry.now.tokens.now place.entry.now.rounds (before + 1) half seat.entry.now seat.exit.now }
+        { work_all(place, seat, before, half) },
+        &mut ||
+            requires { IsSync R.row × IsSync G.row × (other.hall ≡ place.now.hall.now) × (before + workers < 2 ^ 64) × (half ≤ workers) }
+            ensures { HaveServed place.entry.now.tokens.now place.entry.now.rounds (before + half + 1) (workers - half) other.entry other.exit }
+        { work_all(place, &mut other, before + half, workers - half) },
+    );
+    place.hall.meet(seat, other);
 }

@@ -48,14 +48,14 @@ either_of true b e = inl refl
 either_of false b e = inr e
 
 -- one of two lists of calls has the one that was answered so
-spent_in_either : (a b : List Answered) → HasSpent (a ++ b) → HasSpent a ⊎ HasSpent b
+pub spent_in_either : (a b : List Answered) → HasSpent (a ++ b) → HasSpent a ⊎ HasSpent b
 spent_in_either a b has =
     let p = λ (it : Answered). is_spent it.reply in
     let or : (list_any p a || list_any p b) ≡ true = sym (list_any-append p a b) ∙ has in
     either_of (list_any p a) (list_any p b) or
 
 -- what is as long as it may be stays so
-stays_full : (k l : Known) → IsPrefix k.seen l.seen → 2 ^ 62 ≤ length k.seen → 2 ^ 62 ≤ length l.seen
+pub stays_full : (k l : Known) → IsPrefix k.seen l.seen → 2 ^ 62 ≤ length k.seen → 2 ^ 62 ≤ length l.seen
 stays_full k l begins full = let at_once = sym (length-append k.seen begins.0) ∙ ap length begins.1 in omega (arith, at_once, full)
 
 pub gains_none : (k : Known) → Gains k [] k

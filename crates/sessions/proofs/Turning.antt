@@ -138,22 +138,29 @@ fits_finished ends.NotOpened q h = h
 -- the session was attended
 pub attends : (tokens : Tokens) (session most now : ℕ) (a b c : World) (l : Known) (n : Option (List ℕ)) (end : SessionEnd) → Goes a [] (calling now session Open Done) b → HasTurns tokens session most b end c
     → DepartsBy session c.seat c.moments l n → Visits tokens session most a end (world l n c.traffic)
-attends tokens session most now a b c l n end opens (turns, goes, ends_so) (departure, departs, quietly) =
-    inr (
-      now,
-      turns,
-      departure,
-      departs,
-      goes_both a b (world l n c.traffic) [] (got_in turns) (calling now session Open Done) (both (deeds_in turns) departure) opens
-          (goes_on b c (world l n c.traffic) (got_in turns) (deeds_in turns) departure goes (quietly c.traffic)),
-      ends_so,
-    )
+attends tokens session most now a b c l n end opens (turns, goes, ends_so) (departure, departs, quietly) = (
+  got_in turns,
+  both (calling now session Open Done) (both (deeds_in turns) departure),
+  goes_both a b (world l n c.traffic) [] (got_in turns) (calling now session Open Done) (both (deeds_in turns) departure) opens
+      (goes_on b c (world l n c.traffic) (got_in turns) (deeds_in turns) departure goes (quietly c.traffic)),
+  inr (now, turns, departure, departs, refl, refl, ends_so),
+)
 
 -- the session was turned away
 pub turns_away : (tokens : Tokens) (session most now : ℕ) (k l : Known) (m n : Option (List ℕ)) (p q : Traffic) (reply : Reply) → reply ≢ Done → Adds m (now ∷ []) n → Gains k (called now session Open reply) l
     → Moves p [] [] q ⊎ Moves p [] (text reply ∷ []) q → Visits tokens session most (world k m p) ends.NotOpened (world l n q)
-turns_away tokens session most now k l m n p q reply refused reads gains (inl x) = inl (now, reply, [], refused, inl refl, goes_calling k l m n p q now (called now session Open reply) [] reads gains x, refl)
-turns_away tokens session most now k l m n p q reply refused reads gains (inr x) = inl (now, reply, text reply ∷ [], refused, inr refl, goes_calling k l m n p q now (called now session Open reply) (text reply ∷ []) reads gains x, refl)
+turns_away tokens session most now k l m n p q reply refused reads gains (inl x) = (
+  [],
+  calling now session Open reply,
+  goes_calling k l m n p q now (called now session Open reply) [] reads gains x,
+  inl (refl, (now, reply, [], refused, inl refl, refl, refl)),
+)
+turns_away tokens session most now k l m n p q reply refused reads gains (inr x) = (
+  [],
+  record (calling now session Open reply) { texts = text reply ∷ [] },
+  goes_calling k l m n p q now (called now session Open reply) (text reply ∷ []) reads gains x,
+  inl (refl, (now, reply, text reply ∷ [], refused, inr refl, refl, refl)),
+)
 
 -- the server finishes with its peer, and nothing else changes
 finished : World → World
@@ -169,8 +176,9 @@ ends_finished tokens session most turns q end (inr (earlier, last, is, whole, cu
 
 visits_finished : (tokens : Tokens) (session most : ℕ) (a b : World) (end : SessionEnd) → Visits tokens session most a end b → Visits tokens session most a end (finished b)
 unfolding finished
-visits_finished tokens session most a b end (inl (now, reply, texts, refused, said, goes, is)) = inl (now, reply, texts, refused, said, goes_finished a b [] _ goes, is)
-visits_finished tokens session most a b end (inr (now, turns, departure, departs, goes, ends_so)) = inr (now, turns, departure, departs, goes_finished a b (got_in turns) _ goes, ends_finished tokens session most turns b.traffic end ends_so)
+visits_finished tokens session most a b end (messages, d, goes, inl away) = (messages, d, goes_finished a b messages d goes, inl away)
+visits_finished tokens session most a b end (messages, d, goes, inr (now, turns, departure, departs, got, done, ends_so)) =
+    (messages, d, goes_finished a b messages d goes, inr (now, turns, departure, departs, got, done, ends_finished tokens session most turns b.traffic end ends_so))
 
 pub serves : (tokens : Tokens) (session most : ℕ) (a b : World) (end : SessionEnd) (q : Traffic) → Visits tokens session most a end b → q ≡ record (b.traffic) { finished = true } → Serves tokens session most a end (world b.seat b.moments q)
 unfolding finished

@@ -46,21 +46,25 @@ EndsAs tokens session most turns q end =
     × (length earlier < most) × Fits end q)
 
 -- the session was not opened: its opening was refused, or it could not be asked; at most the text of that was sent
-abbrev pub IsTurnedAway : ℕ → World → SessionEnd → World → Type 0
-IsTurnedAway session before end after =
+abbrev pub IsTurnedAway : ℕ → Deeds → SessionEnd → Type 0
+IsTurnedAway session d end =
     (now : ℕ) × (reply : Reply) × (texts : List (List ℕ)) × (reply ≢ Done) × ((texts ≡ []) ⊎ (texts ≡ text reply ∷ []))
-    × Goes before [] (record (calling now session Open reply) { texts = texts }) after × (end ≡ NotOpened)
+    × (d ≡ record (calling now session Open reply) { texts = texts }) × (end ≡ NotOpened)
 
 -- the session was opened, had its turns, and went: it left, its actions were run, and it was closed
-abbrev pub IsAttended : Tokens → ℕ → ℕ → World → SessionEnd → World → Type 0
-IsAttended tokens session most before end after =
+abbrev pub IsAttended : Tokens → ℕ → ℕ → List (List ℕ) → Deeds → Traffic → SessionEnd → Type 0
+IsAttended tokens session most messages d q end =
     (now : ℕ) × (turns : List Turn) × (departure : Deeds) × Departs session departure
-    × Goes before (got_in turns) (both (calling now session Open Done) (both (deeds_in turns) departure)) after
-    × EndsAs tokens session most turns after.traffic end
+    × (messages ≡ got_in turns) × (d ≡ both (calling now session Open Done) (both (deeds_in turns) departure))
+    × EndsAs tokens session most turns q end
 
--- the session was turned away, or attended
+-- these messages and this are all that was received and done for one client, who leaves this traffic: the session was turned away, or attended
+abbrev pub IsVisit : Tokens → ℕ → ℕ → List (List ℕ) → Deeds → Traffic → SessionEnd → Type 0
+IsVisit tokens session most messages d q end = ((messages ≡ []) × IsTurnedAway session d end) ⊎ IsAttended tokens session most messages d q end
+
+-- one client was there, and nothing else was done
 abbrev pub Visits : Tokens → ℕ → ℕ → World → SessionEnd → World → Type 0
-Visits tokens session most before end after = IsTurnedAway session before end after ⊎ IsAttended tokens session most before end after
+Visits tokens session most before end after = (messages : List (List ℕ)) × (d : Deeds) × Goes before messages d after × IsVisit tokens session most messages d after.traffic end
 
 -- A session was served, with these tokens and at most so many turns: it was turned away or attended, and then the server has finished with its peer.
 abbrev pub Serves : Tokens → ℕ → ℕ → World → SessionEnd → World → Type 0

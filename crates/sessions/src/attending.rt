@@ -58,9 +58,13 @@ pub(crate) fn ask<R: Wait>(
     ensures hall { seat.new.hall ≡ place.now.hall.now }
     ensures gains { Gains seat.old (called now place.now.session event result) seat.new }
 {
-    place
-        .hall
-        .call(place.rt, seat, arena, now, place.session, event)
+    let SessionPlace {
+        rt,
+        hall,
+        session,
+        ..
+    } = *place;
+    hall.call(rt, seat, arena, now, session, event)
 }
 
 /// Answers a message: the text of the answer is then written on the desk. The message is read, and a rules file in it
