@@ -1,10 +1,10 @@
 -- What is established, and what lies below a path.
-use Rattle.std.proofs.Common.{◌≡◌, ◌≢◌, ◌<◌, ◌⊎◌, ◌↔◌, ◌&&◌, ◌||◌, ℕ, Bool, true, false, not, cond, eqb, leb, T, List, [], ◌∷◌, ◌++◌, map, length, Option, Some, None, inl, inr, refl, sym, ap, subst, ◌∙◌, append-nil, arith}
+use Rattle.std.proofs.Common.{◌≡◌, ◌↔◌, ◌&&◌, ◌||◌, ℕ, Bool, true, false, not, cond, leb, T, List, [], ◌∷◌, ◌++◌, map, length, Option, Some, None, inl, inr, refl, sym, ap, subst, ◌∙◌, append-nil, arith}
 use Rattle.std.proofs.lemmas.Bool.{false≢true, eq-eqb, or_parts, and_from}
 use Rattle.std.proofs.lemmas.List.{map-append}
 use Rattle.std.proofs.lemmas.List.Elements.{All-nil, All-cons, All-head, All-tail}
 use Rattle.std.proofs.lemmas.List.Kept.{AllPairs-cons}
-use Rattle.std.specs.Prelude.{◌==◌, All, AllPairs, Contains}
+use Rattle.std.specs.Prelude.{◌==◌, All, AllPairs}
 use Rattle.std.specs.List.{list_any, list_all}
 use Rattle.std.specs.FinMap as map_of
 use Rattle.std.specs.FinMap.{put, find, is_sorted}
@@ -14,7 +14,7 @@ use Rattle.std.specs.Cmp.{first_so, second_so, tied_itself, Equal-is}
 use Rattle.std.specs.declared.cmp.Ordering.{Ordering}
 use Rattle.std.specs.declared.cmp.Ordering.TheVariants.{Less, Equal, Greater}
 use Rattle.tree_model.specs.Path.{Path, path_cmp, is_prefix}
-use Rattle.tree_model.specs.Put.{location, written, do_overlap, overlaps}
+use Rattle.tree_model.specs.Put.{location, do_overlap, overlaps}
 use Rattle.tree_model.specs.Draft.{Draft}
 use Rattle.tree_model.specs.Write.{Write}
 use Rattle.tree_model.proofs.Orders.{paths_total, exact_paths}
@@ -26,10 +26,9 @@ use Rattle.rtdb_model.specs.declared.event.Event.{Event}
 use Rattle.rtdb_model.specs.declared.event.Event.TheVariants.{OnSet, OnRemove, OnUpdate}
 use Rattle.rtdb_model.specs.declared.reply.Refusal.{Refusal}
 use Rattle.rtdb_model.specs.declared.reply.Refusal.TheVariants.{NoSession, EmptyUpdate, Overlap, Leaving, TooManyActions, NoMemory}
-use Rattle.rtdb_model.specs.declared.reply.Reply.{Reply}
 use Rattle.rtdb_model.specs.declared.reply.Reply.TheVariants.{Done, Refused}
 use Rattle.rtdb_model.specs.State.{Action, State, session_in, is_open, is_leaving, actions_of}
-use Rattle.rtdb_model.specs.Step.{Outcome, refused, unless_refused, denial, verdict_on, removal, action_of, writes_of, with_actions, with_action, keeps, is_below, wants_presence, outcome, Step}
+use Rattle.rtdb_model.specs.Step.{Outcome, refused, unless_refused, denial, verdict_on, removal, action_of, writes_of, with_action, keeps, is_below, wants_presence, outcome, Step}
 use Rattle.rtdb_model.proofs.Slots.{actions-put_at}
 use Rattle.rtdb_laws.specs.Writes.{HasWrites}
 

@@ -23,12 +23,11 @@ use Rattle.rtdb_model.specs.declared.news.Notice.{Notice}
 use Rattle.rtdb_model.specs.declared.reply.Refusal.{Refusal}
 use Rattle.rtdb_model.specs.declared.reply.Refusal.TheVariants.{SessionOpen, TooManySessions, NoSession, NotAdmin, EmptyUpdate, Overlap, DuplicateId, TooManyListeners, NoListener, Leaving, TooManyActions, NotLeaving, NoMemory}
 use Rattle.rtdb_model.specs.declared.reply.Reply.{Reply}
-use Rattle.rtdb_model.specs.declared.reply.Reply.TheVariants.{Done, Value, News, Refused, Ran, Closed}
-use Rattle.rtdb_model.specs.declared.reply.Ran.TheVariants.{Empty, Applied, Skipped}
+use Rattle.rtdb_model.specs.declared.reply.Reply.TheVariants.{Done, Value, News, Refused, Closed}
 use Rattle.rtdb_model.specs.News.{gone, selected_now}
 use Rattle.rtdb_model.specs.State.{Action, State, Session, opening, is_open, is_leaving, identity_of, listeners_in, listeners_of, actions_of, is_admin, scene_for}
 use Rattle.rtdb_model.specs.Rejudged.{hears, selected_at, moves, judged_again, all_rejudged}
-use Rattle.rtdb_model.specs.Step.{Outcome, refused, unless_refused, denial, verdict_on, read_refusal, write_refusal, opened, closed, with_session, own_again, signs, tree_with, written_to, removal, told, news_of, writes_of, with_actions, keeps, is_below, departing, run_by, runs_first, wants_presence, unbarred, outcome, Step, Call, Run}
+use Rattle.rtdb_model.specs.Step.{Outcome, refused, unless_refused, denial, verdict_on, read_refusal, write_refusal, opened, closed, with_session, own_again, signs, tree_with, written_to, removal, news_of, writes_of, with_actions, keeps, is_below, departing, run_by, runs_first, wants_presence, unbarred, outcome, Step, Call, Run}
 use Rattle.rtdb_model.specs.Ends.{under}
 use Rattle.rtdb_model.proofs.Slots.{listeners-with, listeners-without, listeners-again, listeners-actions, listeners-departing}
 use Rattle.rtdb_model.proofs.Histories.{judged_is}

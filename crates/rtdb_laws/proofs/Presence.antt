@@ -1,6 +1,6 @@
 -- Which sessions are open, and which are leaving, step by step.
-use Rattle.std.proofs.Common.{◌≡◌, ◌&&◌, ℕ, Bool, true, false, not, cond, eqb, leb, List, [], ◌∷◌, ◌++◌, length, Option, Some, None, is_some, option_map, inl, inr, refl, sym, ap, subst, ◌∙◌}
-use Rattle.std.proofs.lemmas.Bool.{false≢true, eq-eqb, eqb-true}
+use Rattle.std.proofs.Common.{◌≡◌, ◌&&◌, ℕ, Bool, true, false, not, cond, eqb, leb, List, [], ◌∷◌, length, Option, Some, None, is_some, option_map, inl, inr, refl, sym, ap, subst, ◌∙◌}
+use Rattle.std.proofs.lemmas.Bool.{eq-eqb, eqb-true}
 use Rattle.std.specs.Prelude.{◌==◌, filter}
 use Rattle.std.specs.FinMap as map_of
 use Rattle.std.specs.Cmp.{nat_cmp_total}
@@ -16,8 +16,7 @@ use Rattle.rtdb_model.specs.declared.event.Event.TheVariants.{Open, Close, SignI
 use Rattle.rtdb_model.specs.declared.reply.Refusal.{Refusal}
 use Rattle.rtdb_model.specs.declared.reply.Refusal.TheVariants.{SessionOpen, TooManySessions, NoSession, NotAdmin, EmptyUpdate, Overlap, DuplicateId, TooManyListeners, NoListener, Leaving, TooManyActions, NotLeaving, NoMemory}
 use Rattle.rtdb_model.specs.declared.reply.Reply.{Reply}
-use Rattle.rtdb_model.specs.declared.reply.Reply.TheVariants.{Done, Refused, Ran, Closed}
-use Rattle.rtdb_model.specs.declared.reply.Ran.TheVariants.{Applied, Skipped}
+use Rattle.rtdb_model.specs.declared.reply.Reply.TheVariants.{Done, Refused, Closed}
 use Rattle.rtdb_model.specs.State.{Action, State, Session, fresh, session_or_fresh, session_in, is_open, is_leaving, identity_of, listeners_of, actions_of, is_admin}
 use Rattle.rtdb_model.specs.Rejudged.{rejudged, all_rejudged}
 use Rattle.rtdb_model.specs.Step.{Outcome, refused, unless_refused, denial, verdict_on, read_refusal, write_refusal, opened, closed, with_session, own_again, signs, tree_with, written_to, removal, writes_of, with_actions, keeps, is_below, departing, run_by, runs_first, wants_presence, unbarred, outcome, Step, Call, Run}

@@ -30,7 +30,7 @@ use Rattle.rtdb_model.specs.State.{Action, State, Session, Sessions, opening, fr
 use Rattle.rtdb_model.specs.Rejudged.{judged_again, rejudged, all_rejudged}
 use Rattle.rtdb_model.specs.Step.{Outcome, refused, unless_refused, denial, or_full, verdict_on, read_refusal, write_refusal, opened, closed, with_session, own_again, signs, tree_with, written_to, removal, action_of, writes_of, with_actions, with_action, keeps, is_below, departing, run_by, runs_first, wants_presence, unbarred, outcome, Step, Call, Run}
 use Rattle.rtdb_model.proofs.Slots.{put_at, who_in, is_same, get-put_at, get-each, changed}
-use Rattle.rtdb_laws.specs.Effects.{is_effective, changes, changing, effective, unlistening, without_listeners, IsSilent}
+use Rattle.rtdb_laws.specs.Effects.{changes, changing, effective, unlistening, without_listeners, IsSilent}
 
 -- ---- a map whose sessions listen to nothing
 

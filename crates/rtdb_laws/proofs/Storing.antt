@@ -20,7 +20,6 @@ use Rattle.rtdb_model.specs.declared.reply.Reply.TheVariants.{Done, Refused}
 use Rattle.rtdb_model.specs.State.{Action, State, opening, is_open, is_leaving, identity_of, listeners_of, actions_of, is_admin}
 use Rattle.rtdb_model.specs.Step.{Outcome, refused, unless_refused, denial, verdict_on, read_refusal, write_refusal, signs, written_to, removal, writes_of, keeps, run_by, runs_first, wants_presence, unbarred, outcome, Step, Call, Run}
 use Rattle.rtdb_model.specs.Marks.{Taken, steps_after}
-use Rattle.rtdb_model.specs.Actions.{established, waiting}
 use Rattle.rtdb_laws.specs.Stored.{made_by, stored}
 use Rattle.rtdb_laws.proofs.Acted.{AreWaiting, step_acts, opening_acts}
 

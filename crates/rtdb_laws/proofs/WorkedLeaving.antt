@@ -1,12 +1,12 @@
 -- What a session that leaves is answered where rules stand at the root alone.
-use Rattle.std.proofs.Common.{◌≡◌, ◌≢◌, ◌≤◌, ◌<◌, ℕ, pos, Bool, true, false, not, cond, eqb, List, [], ◌∷◌, ◌++◌, length, map, Option, Some, None, is_some, inl, inr, refl, sym, ap, subst, ◌∙◌, arith}
+use Rattle.std.proofs.Common.{◌≡◌, ◌≤◌, ◌<◌, ℕ, pos, Bool, true, false, not, cond, List, [], ◌∷◌, ◌++◌, length, map, Option, Some, None, is_some, inl, refl, sym, ap, subst, ◌∙◌, arith}
 use Rattle.std.proofs.lemmas.Bool.{eq-eqb}
 use Rattle.std.specs.Prelude.{filter}
 use Rattle.std.specs.List.{list_all}
 use Rattle.std.specs.FinMap as map_of
 use Rattle.std.specs.FinMap.{put}
 use Rattle.tree_model.specs.Path.{Path, path_cmp, is_prefix}
-use Rattle.tree_model.specs.Primitive.{Primitive, whole}
+use Rattle.tree_model.specs.Primitive.{whole}
 use Rattle.tree_model.specs.Tree.{Tree, null, lone, count}
 use Rattle.tree_model.specs.Put.{merged}
 use Rattle.tree_model.specs.Draft.{Part, moment, part_at, tree_at}
@@ -23,15 +23,14 @@ use Rattle.evaluator.specs.Holds.{outcome as meaning}
 use Rattle.evaluator.specs.declared.evaluation.Outcome.TheVariants.{Yes}
 use Rattle.judge.specs.Question.{Question, writing}
 use Rattle.rtdb_model.specs.declared.limits.TheConstants.{MAX_LOCATIONS, MAX_ACTIONS}
-use Rattle.rtdb_model.specs.declared.event.Event.{Event}
 use Rattle.rtdb_model.specs.declared.event.Event.TheVariants.{Set, OnSet, OnCancel, Leave, RunNext}
 use Rattle.rtdb_model.specs.declared.reply.Refusal.TheVariants.{NoSession, Leaving, NotLeaving}
 use Rattle.rtdb_model.specs.declared.reply.Reply.{Reply}
 use Rattle.rtdb_model.specs.declared.reply.Reply.TheVariants.{Done, Refused, Ran}
 use Rattle.rtdb_model.specs.declared.reply.Ran.TheVariants.{Empty, Applied}
 use Rattle.rtdb_model.specs.State.{Action, State, Session, fresh, opening, session_or_fresh, session_in, is_open, is_leaving, is_present, actions_of, scene_at}
-use Rattle.rtdb_model.specs.Step.{refused, Step, Call, Run, sets, tree_with, written_to, action_of, writes_of, with_actions, with_action, is_below, without_actions, departing, runs_first}
-use Rattle.rtdb_model.specs.Headline.{IsJudged, GrantsAll, Validates, Fits, MayKeep, MayRun}
+use Rattle.rtdb_model.specs.Step.{refused, Step, Run, sets, tree_with, written_to, action_of, writes_of, with_actions, with_action, is_below, without_actions, departing, runs_first}
+use Rattle.rtdb_model.specs.Headline.{GrantsAll, Validates, Fits, MayKeep, MayRun}
 use Rattle.rtdb_model.proofs.Answers.{some_answer}
 use Rattle.rtdb_model.proofs.Slots.{put_at, get-put_at}
 use Rattle.rtdb_laws.specs.Worked.{at_the_root, one_session, ask, seen, seen_now}
