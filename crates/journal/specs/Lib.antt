@@ -1,0 +1,5 @@
+pub mod Format
+pub mod Found
+pub mod Recovering
+pub mod Recovery
+pub mod Keeping
