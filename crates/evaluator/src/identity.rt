@@ -1,5 +1,5 @@
 //! Who asks: an identity, and its claims.
-ghost use Rattle.std.specs.Prelude.{◌≡◌, ◌++◌, ◌≤◌, [], ◌∷◌, length, option_map, string_bytes, IfOk, OnOk, OnErr};
+ghost use Rattle.std.specs.Prelude.{◌≡◌, ◌++◌, ◌≤◌, [], ◌∷◌, length, option_map, slice_get, string_bytes, IfOk, OnOk, OnErr};
 ghost use Rattle.json_tree.specs.Leaf.{primitive_of};
 ghost use Rattle.evaluator.specs.Identity as identities;
 ghost use Rattle.evaluator.specs.Identity.{claim_named, claimed, AreLawfulClaims, IsLawfulIdentity};
@@ -61,6 +61,14 @@ impl Claims {
         ensures { result ≡ length self.now }
     {
         self.held.len()
+    }
+
+    /// The name and the value of the claim at an index, and `None` from the length on, in constant time.
+    pub fn claim_at(&self, i: usize) -> Option<(&str, &Leaf)>
+        ensures { option_map (λ claim. (claim.0.now, primitive_of claim.1.now)) result ≡ slice_get self.now i }
+    {
+        let claim = self.held.get(i)?;
+        Some((claim.name.as_str(), &claim.value))
     }
 
     /// The value of the first claim of this name, if there is one: time linear in their number, and no
