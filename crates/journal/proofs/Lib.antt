@@ -4,5 +4,6 @@ pub mod Chains
 pub mod Survival
 pub mod Surviving
 pub mod Entries
+pub mod Handing
 pub mod Lines
 pub mod Walking

@@ -1,5 +1,5 @@
 -- How a reader goes from group to group.
-use Rattle.std.proofs.Common.{◌≡◌, inl, inr, ⊎_elim, ℕ, ◌+◌, ◌-◌, ◌≤◌, List, [], ◌∷◌, ◌++◌, length, get_or, take, drop, refl, sym, ◌∙◌, ap, subst, arith, append_assoc, length-append, length-drop, take-append-drop}
+use Rattle.std.proofs.Common.{◌≡◌, inl, inr, ⊎_elim, ℕ, ◌+◌, ◌-◌, ◌^◌, ◌<◌, ◌≤◌, List, [], ◌∷◌, ◌++◌, length, get_or, take, drop, refl, sym, ◌∙◌, ap, subst, arith, append_assoc, length-append, length-drop, take-append-drop}
 use Rattle.std.proofs.lemmas.Bool.{cases_lt}
 use Rattle.std.proofs.lemmas.List.{append-nil, take_at, take_all, drop_at, drop-drop, drop-take, length-take, get_or_append_left, get_or-drop}
 use Rattle.std.specs.List.{AllByRecursion}
@@ -8,10 +8,12 @@ use Rattle.disk.specs.Disk.{StaysSo, TimeGoesOn, AtAnyMoment, Shortened}
 use Rattle.disk.proofs.Moments.{begins, goes_on}
 use Rattle.journal.specs.declared.chain.Chain.{Chain}
 use Rattle.journal.specs.Format.{Group, Link, Fits, AllFit, next as next_link, end_of, opening, digits, header, sum_of, group_text, groups_text, first_line, file_of, entry_text, entries_text}
-use Rattle.journal.specs.Recovery.{IsFileOf, SaysMore, IsNoText}
+use Rattle.journal.specs.Recovery.{Begins, IsFileOf, SaysMore, IsNoText}
+use Rattle.journal.specs.Sinks.{HandsOn}
 use Rattle.journal.specs.Keeping.{Leads}
 use Rattle.journal.specs.Found.{OnlyReads}
-use Rattle.journal.specs.Recovering.{ReadSoFar, IsNext, HasNoNext, HandedOver, PlaceSaysMore, RecoversTheSame, IsRecovered, IsDamagedAt, HasNoEntriesAt, texts_of}
+use Rattle.journal.specs.Recovering.{ReadSoFar, IsNext, HasNoNext, HandedOver, PlaceSaysMore, RecoversTheSame, IsRecovered, HasStopped, IsDamagedAt, HasNoEntriesAt, texts_of}
+use Rattle.journal.proofs.Handing.{hands_on}
 use Rattle.journal.proofs.Texts.{parts, length-group_text}
 use Rattle.journal.proofs.Lines.{identifier_field}
 use Rattle.journal.proofs.Chains.{fit-push, end_of-append, place_of_file, place_is, number_is, length-first_line}
@@ -103,10 +105,14 @@ module _ (file : List ℕ) (chain : Chain) (groups : List Group) (read : ReadSoF
     },
   )
 
+small-append : (xs ys : List (List ℕ)) → AllByRecursion (λ e. length e < 10 ^ 8) xs → AllByRecursion (λ e. length e < 10 ^ 8) ys → AllByRecursion (λ e. length e < 10 ^ 8) (xs ++ ys)
+small-append [] ys small others = others
+small-append (x ∷ xs) ys small others = (small.0, small-append xs ys small.1 others)
+
 -- one group more was handed over
-pub handed_on : {S : Type 0} (taken : S → List (List ℕ)) (file : List ℕ) (chain behind : Chain) (before between after : S) (text : List ℕ) → HandedOver taken file chain before between → IsNext file chain behind text
-    → (entries : List (List ℕ)) → taken after ≡ taken between ++ entries → text ≡ entries_text entries → HandedOver taken file behind before after
-handed_on taken file chain behind before between after text so_far found entries took is =
+pub handed_on : {S : Type 0} (taken : S → List (List ℕ) → Type 0) (file : List ℕ) (chain behind : Chain) (before between after : S) (text : List ℕ) → HandedOver taken file chain before between → IsNext file chain behind text
+    → (entries : List (List ℕ)) → HandsOn taken taken between after entries → text ≡ entries_text entries → AllByRecursion (λ entry. length entry < 10 ^ 8) entries → HandedOver taken file behind before after
+handed_on taken file chain behind before between after text so_far found entries took is small =
     let read = so_far.read in
     let id = chain.identifier in
     let groups = so_far.groups in
@@ -127,8 +133,9 @@ handed_on taken file chain behind before between after text so_far found entries
         fit = subst (λ i. AllFit (opening i) all) back (fit-push (opening id) groups group read.fit (subst (λ l. Fits l group) read.link found.fits));
         link = found.link ∙ ap (λ l. next_link l group) read.link ∙ sym (end_of-append (opening id) groups (group ∷ [])) ∙ ap (λ i. end_of (opening i) all) back;
       };
-      handed_over = took ∙ ap (λ l. l ++ entries) so_far.handed_over ∙ append_assoc (taken before) so_far.entries entries;
+      handed_over = hands_on taken taken taken before between after so_far.entries entries so_far.handed_over took;
       whole = entries-append so_far.entries entries ∙ (λ i. so_far.whole i ++ texts i) ∙ sym (texts-push groups group);
+      small = small-append so_far.entries entries so_far.small small;
     }
 
 -- a file has one identifier
@@ -254,7 +261,7 @@ module _ (file : List ℕ) (chain : Chain) (groups : List Group) (read : ReadSoF
   }
 
 -- what was handed over is recovered, once the disk has just that
-pub finished : {D S : Type 0} (holds may_leave : D → List ℕ → Type 0) (taken : S → List (List ℕ)) (file : List ℕ) (disk : D) (chain : Chain) (before after : S) (so_far : HandedOver taken file chain before after) → HasNoNext file chain
+pub finished : {D S : Type 0} (holds may_leave : D → List ℕ → Type 0) (taken : S → List (List ℕ) → Type 0) (file : List ℕ) (disk : D) (chain : Chain) (before after : S) (so_far : HandedOver taken file chain before after) → HasNoNext file chain
     → holds disk (file_of chain.identifier so_far.groups) → ((left : List ℕ) → may_leave disk left → left ≡ file_of chain.identifier so_far.groups) → IsRecovered holds may_leave taken file disk (record chain { durable = chain.len }) before after
 finished holds may_leave taken file disk chain before after so_far none held just = record {
   groups = so_far.groups;
@@ -264,10 +271,11 @@ finished holds may_leave taken file disk chain before after so_far none held jus
   keeps = record { leads = finished_leads file chain so_far.groups so_far.read none; file = held; crash = λ left may. ([], just left may ∙ sym (append-nil (file_of chain.identifier so_far.groups))) };
   handed_over = so_far.handed_over;
   whole = so_far.whole;
+  small = so_far.small;
 }
 
 -- the next group is whole and has no entries
-pub no_entries_at : {S : Type 0} (taken : S → List (List ℕ)) (file : List ℕ) (chain behind : Chain) (before between : S) (text : List ℕ) → HandedOver taken file chain before between → IsNext file chain behind text → IsNoText text → HasNoEntriesAt file chain.number
+pub no_entries_at : {S : Type 0} (taken : S → List (List ℕ) → Type 0) (file : List ℕ) (chain behind : Chain) (before between : S) (text : List ℕ) → HandedOver taken file chain before between → IsNext file chain behind text → IsNoText text → HasNoEntriesAt file chain.number
 no_entries_at taken file chain behind before between text so_far found none =
     let read = so_far.read in
     let id = chain.identifier in
@@ -284,4 +292,28 @@ no_entries_at taken file chain behind before between text so_far found none =
       fit = fit-push (opening id) groups group read.fit (subst (λ l. Fits l group) read.link found.fits);
       number_is = omega (arith, ap (λ l. l.number) read.link, number_is (opening id) groups);
       no_text = subst IsNoText found.text_is none;
+    }
+
+joined : {A : Type 0} {a b c d : List A} → a ≡ b → c ≡ d → a ++ c ≡ b ++ d
+joined same other = λ i. same i ++ other i
+
+-- the sink has refused an entry of the next group
+pub stopped_at : {S : Type 0} (taken refused : S → List (List ℕ) → Type 0) (file : List ℕ) (chain behind : Chain) (before between after : S) (text : List ℕ) → HandedOver taken file chain before between → IsNext file chain behind text
+    → (entries : List (List ℕ)) → HandsOn taken refused between after entries → Begins (entries_text entries) text → HasStopped taken refused file before after
+stopped_at taken refused file chain behind before between after text so_far found entries took front =
+    let read = so_far.read in
+    let id = chain.identifier in
+    let groups = so_far.groups in
+    let group = found.group in
+    let stands : read.rest ≡ group_text (end_of (opening id) groups) group ++ found.more = sym (rest_is file chain groups read) ∙ found.stands ∙ ap (λ l. group_text l group ++ found.more) read.link in
+    record {
+      identifier = id;
+      groups = groups ++ group ∷ [];
+      rest = found.more;
+      entries = so_far.entries ++ entries;
+      sized = read.sized;
+      same = read.same ∙ ap (λ l. file_of id groups ++ l) stands ∙ sym (append_assoc (file_of id groups) (group_text (end_of (opening id) groups) group) found.more) ∙ ap (λ l. l ++ found.more) (sym (file-push id read.sized groups group));
+      fit = fit-push (opening id) groups group read.fit (subst (λ l. Fits l group) read.link found.fits);
+      first = (front.0, texts-push groups group ∙ joined (sym so_far.whole) (sym found.text_is ∙ front.1) ∙ sym (append_assoc (entries_text so_far.entries) (entries_text entries) front.0) ∙ ap (λ t. t ++ front.0) (sym (entries-append so_far.entries entries)));
+      refused_last = hands_on taken taken refused before between after so_far.entries entries so_far.handed_over took;
     }

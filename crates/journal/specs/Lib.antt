@@ -3,3 +3,4 @@ pub mod Found
 pub mod Recovering
 pub mod Recovery
 pub mod Keeping
+pub mod Sinks

@@ -1,7 +1,9 @@
 //! Who takes the entries of a file, and how a text is cut into them.
-ghost use Rattle.std.specs.Prelude.{◌≡◌, ◌<◌, ◌^◌, ◌++◌, ◌∷◌, [], ℕ, Bool, List, length, OnOk, OnErr, IfSome, IfNone, IsErrOf, IsTrue};
+ghost use Rattle.std.specs.Prelude.{◌≡◌, ◌<◌, ◌^◌, ◌++◌, ◌∷◌, [], ℕ, List, length, OnOk, OnErr, IfSome, IfNone, IsErrOf};
+ghost use Rattle.std.specs.List.{AllByRecursion};
 ghost use Rattle.journal.specs.Format.{entry_text, entries_text};
-ghost use Rattle.journal.specs.Recovery.{IsNoText};
+ghost use Rattle.journal.specs.Recovery.{Begins, IsNoText};
+ghost use Rattle.journal.specs.Sinks.{HandsOn};
 
 use crate::limits::LENGTH_DIGITS;
 use crate::text::number_in;
@@ -12,16 +14,16 @@ pub struct Stopped;
 
 /// Takes the entries of a file, one after another.
 pub trait Sink {
-    /// The entries that were taken so far.
-    ghost taken: { Self → List (List ℕ) };
+    /// It has taken these entries.
+    ghost taken: { Self → List (List ℕ) → Type 0 };
 
-    /// It wants no more.
-    ghost has_stopped: { Self → Bool };
+    /// It has taken these entries but the last, of which it wants no more.
+    ghost refused: { Self → List (List ℕ) → Type 0 };
 
     /// Takes one entry more.
     fn take(&mut self, entry: &[u8]) -> Result<(), Stopped>
-        ensures taken { OnOk result (taken self.new ≡ taken self.old ++ entry.now ∷ []) }
-        ensures stopped { OnErr result (IsTrue (has_stopped self.new)) };
+        ensures taken { OnOk result (HandsOn taken taken self.old self.new (entry.now ∷ [])) }
+        ensures refused { OnErr result (HandsOn taken refused self.old self.new (entry.now ∷ [])) };
 }
 
 /// Why the entries of a text were not all handed over.
@@ -57,19 +59,19 @@ fn first_entry(text: &[u8]) -> Option<(&[u8], &[u8])>
 
 /// Hands over the entries of a text, all of them.
 pub(crate) fn hand_over<S: Sink>(text: &[u8], sink: &mut S) -> Result<(), HandOverFault>
-    ensures stopped { IsErrOf result HandOverFault.Stopped → IsTrue (S.has_stopped sink.new) }
+    ensures stopped { IsErrOf result HandOverFault.Stopped → (entries : List (List ℕ)) × HandsOn S.taken S.refused sink.old sink.new entries × Begins (entries_text entries) text.now }
     ensures no_entry { IsErrOf result HandOverFault.NoEntry → IsNoText text.now }
-    ensures taken { OnOk result ((entries : List (List ℕ)) × (S.taken sink.new ≡ S.taken sink.old ++ entries) × (text.now ≡ entries_text entries)) }
+    ensures taken { OnOk result ((entries : List (List ℕ)) × HandsOn S.taken S.taken sink.old sink.new entries × (text.now ≡ entries_text entries) × AllByRecursion (λ entry. length entry < 10 ^ 8) entries) }
 {
     let mut rest = text;
     while !rest.is_empty() {
         let Some((entry, behind)) = first_entry(rest) else {
             return Err(HandOverFault::NoEntry);
         };
-        if sink.take(entry).is_err() {
-            return Err(HandOverFault::Stopped);
+        match sink.take(entry) {
+            Ok(()) => rest = behind,
+            Err(Stopped) => return Err(HandOverFault::Stopped),
         }
-        rest = behind;
     }
     Ok(())
 }

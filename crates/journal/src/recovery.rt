@@ -5,7 +5,7 @@ ghost use Rattle.journal.specs.declared.recovery.RecoverError.TheVariants.{NoMem
 ghost use Rattle.journal.specs.Format.{Group, first_line};
 ghost use Rattle.journal.specs.Recovery.{Begins, IsFileOf, SaysMore};
 ghost use Rattle.journal.specs.Found.{OnlyReads};
-ghost use Rattle.journal.specs.Recovering.{IsRecovered, RecoversTheSame, ReadSoFar, IsNext, HasNoNext, HandedOver, PlaceSaysMore, IsNamedRightly};
+ghost use Rattle.journal.specs.Recovering.{IsRecovered, HasStopped, RecoversTheSame, ReadSoFar, IsNext, HasNoNext, HandedOver, PlaceSaysMore, IsNamedRightly};
 
 use crate::chain::{Chain, opening_of};
 use crate::found::group_at;
@@ -77,7 +77,7 @@ pub fn recover<D: Disk, S: Sink>(
     ensures left { IfErr result (λ error. (error ≡ RecoverError.Failed → ⊥) → OnlyReads D.holds D.may_leave D.moment D.left_since disk.old disk.new) }
     ensures no_journal { (file : List ℕ) → D.holds disk.old file → IsErrOf result RecoverError.NotAJournal → (identifier : List ℕ) → length identifier ≡ 16 → Begins (first_line identifier) file → ⊥ }
     ensures failed { IsErrOf result RecoverError.Failed → IsTrue (D.has_failed disk.new) }
-    ensures stopped { IsErrOf result RecoverError.Stopped → IsTrue (S.has_stopped sink.new) }
+    ensures stopped { (file : List ℕ) → D.holds disk.old file → IsErrOf result RecoverError.Stopped → HasStopped S.taken S.refused file sink.old sink.new }
 {
     let len = disk.len()?;
     let mut chain = opened(alloc, disk, len)?;
@@ -133,7 +133,7 @@ fn walk<D: Disk, S: Sink>(
     ensures reads { OnlyReads D.holds D.may_leave D.moment D.left_since disk.old disk.new }
     ensures failed { IsErrOf result RecoverError.Failed → IsTrue (D.has_failed disk.new) }
     ensures named { (file : List ℕ) → D.holds disk.old file → length file ≡ len → ReadSoFar file chain.old [] → IfErr result (IsNamedRightly file) }
-    ensures stopped { IsErrOf result RecoverError.Stopped → IsTrue (S.has_stopped sink.new) }
+    ensures stopped { (file : List ℕ) → D.holds disk.old file → length file ≡ len → ReadSoFar file chain.old [] → IsErrOf result RecoverError.Stopped → HasStopped S.taken S.refused file sink.old sink.new }
     ensures a_journal { IsErrOf result RecoverError.NotAJournal → ⊥ }
 {
     'groups: while let Some((behind, text)) = next_group(alloc, disk, chain, len)? {

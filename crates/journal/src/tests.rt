@@ -26,9 +26,9 @@ struct Shelf {
 }
 
 impl Sink for Shelf {
-    ghost taken = { λ shelf. map (λ entry. entry.items) shelf.entries.items };
+    ghost taken = { λ shelf entries. entries ≡ map (λ entry. entry.items) shelf.entries.items };
 
-    ghost has_stopped = { λ shelf. shelf.full };
+    ghost refused = { λ _ _. Unit {0} };
 
     fn take(&mut self, entry: &[u8]) -> Result<(), Stopped> {
         let Ok(copy) = entry.to_vec(self.alloc) else {
