@@ -71,14 +71,14 @@ same_entry x y X Y small_x small_y same =
 
 -- entries that begin the text of others are the first of them
 pub entries_front : (xs ys : List (List ℕ)) (r : List ℕ) → AllByRecursion (λ entry. length entry < 10 ^ 8) xs → AllByRecursion (λ entry. length entry < 10 ^ 8) ys → entries_text xs ++ r ≡ entries_text ys
-    → (more : List (List ℕ)) × AllByRecursion (λ entry. length entry < 10 ^ 8) more × (r ≡ entries_text more)
-entries_front [] ys r small_xs small_ys same = (ys, small_ys, same)
+    → (more : List (List ℕ)) × AllByRecursion (λ entry. length entry < 10 ^ 8) more × (r ≡ entries_text more) × (ys ≡ xs ++ more)
+entries_front [] ys r small_xs small_ys same = (ys, small_ys, same, refl)
 entries_front (x ∷ xs) [] r small_xs small_ys same =
     let some = (has_entry (entry_text x ++ (entries_text xs ++ r)) x (entries_text xs ++ r) refl).long in
     absurd (omega (arith, some, ap length (sym (append_assoc (entry_text x) (entries_text xs) r) ∙ same)))
 entries_front (x ∷ xs) (y ∷ ys) r small_xs small_ys same =
     let first = same_entry x y (entries_text xs ++ r) (entries_text ys) small_xs.0 small_ys.0 (sym (append_assoc (entry_text x) (entries_text xs) r) ∙ same) in
-    entries_front xs ys r small_xs.1 small_ys.1 first.1
+    let rest = entries_front xs ys r small_xs.1 small_ys.1 first.1 in (rest.0, rest.1, rest.2, ap (λ e. e ∷ ys) (sym first.0) ∙ ap (λ l. x ∷ l) rest.3)
 
 -- behind entries stands something that is no entry
 pub no_text : (text rest : List ℕ) (entries : List (List ℕ)) → text ≡ entries_text entries ++ rest → AllByRecursion (λ entry. length entry < 10 ^ 8) entries → 0 < length rest
