@@ -12,6 +12,3 @@ mod memory_disk;
 pub use disk::{Disk, Failed};
 pub use file_disk::{FileDisk, OpenFault};
 pub use memory_disk::MemoryDisk;
-
-#[cfg(test)]
-mod tests;

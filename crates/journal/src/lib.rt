@@ -20,6 +20,3 @@ pub use journal::Journal;
 pub use limits::{MAX_FILE_BYTES, MAX_GROUP_BYTES, MAX_GROUPS};
 pub use recovery::{RecoverError, recover};
 pub use renewal::{add, begin, put_in_place};
-
-#[cfg(test)]
-mod tests;
