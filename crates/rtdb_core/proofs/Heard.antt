@@ -30,6 +30,7 @@ use Rattle.rtdb_model.specs.declared.reply.Refusal.TheVariants.{SessionOpen, Too
 use Rattle.rtdb_model.specs.declared.reply.Reply.{Reply}
 use Rattle.rtdb_model.specs.State.{Action, State, Session, opening, fresh, session_in, is_open, is_leaving, identity_of, listeners_in, listeners_of, actions_of, is_admin, scene_at}
 use Rattle.rtdb_model.specs.Rejudged.{asked_for, hears, moves, judged, judged_again, all_rejudged}
+use Rattle.rtdb_core.specs.Resumed.{going_on, resumed}
 use Rattle.rtdb_model.specs.Step.{Outcome, refused, unless_refused, denial, verdict_on, read_refusal, write_refusal, closed, with_session, own_again, signs, tree_with, written_to, makes, sets, removal, listens, writes_of, with_actions, with_action, keeps, keeps_one, departing, run_by, runs_first, wants_presence, unbarred, outcome, Step}
 use Rattle.rtdb_core.specs.Working.Fates.{scene_by}
 use Rattle.rtdb_core.specs.Working.Heard.{IsHeard, AreHeard, AllHeard}
@@ -214,3 +215,13 @@ step_heard old now session event reply new heard (inr h) = subst AllHeard (sym h
 
 pub opening_heard : (rules : Book) (tree : Tree) → AllHeard (opening rules tree)
 opening_heard rules tree n = subst (AreHeard rules tree (identity_of (opening rules tree) n)) (sym (ap listeners_in (map_of.get-empty nat_cmp n))) (All-nil (IsHeard rules tree (identity_of (opening rules tree) n)))
+
+-- ---- a database that begins again
+
+-- a session that goes on listens to nothing
+pub resumed_heard : (old : State) (n : ℕ) (who : Option Identity) (leaving : Bool) → AllHeard old → AllHeard (resumed old n who leaving)
+resumed_heard old n who leaving heard = put_heard old n (going_on who leaving) heard (All-nil (IsHeard old.rules old.tree who))
+
+-- one that has an action more listens to the same
+pub established_heard : (old : State) (n : ℕ) (writes : List Write) → AllHeard old → AllHeard (with_action old n writes)
+established_heard old n writes heard = actions_heard old n _ heard

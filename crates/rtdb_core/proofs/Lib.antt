@@ -22,3 +22,4 @@ pub mod Finding
 pub mod Selecting
 pub mod Copying
 pub mod Committing
+pub mod GoingOn

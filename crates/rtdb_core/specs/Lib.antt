@@ -8,5 +8,6 @@ pub use Rattle.rtdb_model.specs.Step
 pub use Rattle.rtdb_model.specs.Headline
 pub use Rattle.rtdb_model.specs.Marks
 pub use Rattle.rtdb_model.specs.Ends
+pub mod Resumed
 pub mod Planned
 pub mod Working

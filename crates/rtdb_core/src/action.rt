@@ -14,7 +14,7 @@ use std::marker::Model;
 /// Writes that are made together when their session goes: there is one, and none overlaps another. Contracts see which
 /// draft is put at which location.
 #[derive(Debug, Drop)]
-pub(crate) struct Action {
+pub struct Action {
     writes: Writes,
 }
 
@@ -52,9 +52,10 @@ impl Action {
         Ok(Action::of(Writes::of_vec(writes)))
     }
 
-    /// Its writes, in the order of their locations.
-    pub(crate) fn in_order(&self) -> &[Write]
+    /// Its writes, in the order of their locations, each with the moments that it had when it was established.
+    pub fn in_order(&self) -> &[Write]
         ensures writes { result.now ≡ writes_of self.now }
+        ensures some { result.now ≢ [] }
         ensures apart { overlaps result.now ≡ false }
     {
         self.writes.in_order()

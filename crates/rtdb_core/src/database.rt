@@ -8,19 +8,23 @@ ghost use Rattle.judge.specs.Question.{scene_of};
 ghost use Rattle.rtdb_model.specs.State.{opening, scene_at};
 ghost use Rattle.rtdb_model.specs.Borrowed.{reply_of, refusal_of, is_copied};
 ghost use Rattle.rtdb_model.specs.Filled.{IsFilled};
-ghost use Rattle.rtdb_model.specs.Step.{outcome, Step};
+ghost use Rattle.rtdb_core.specs.Resumed.{resumed, MayResume, MayEstablish};
+ghost use Rattle.rtdb_model.specs.Step.{outcome, with_action, Step};
 ghost use Rattle.rtdb_core.specs.Planned.{IsPlanFor, after_of};
 ghost use Rattle.rtdb_core.specs.Working.Plans.{IsRefusedBy};
 
 use crate::machine::Machine;
 use crate::plan::{Granted, Plan};
+use crate::resuming::ResumeFault;
+use crate::session::Session;
 use bumpalo::Bump;
-use evaluator::MAX_MOMENT;
+use evaluator::{Identity, MAX_MOMENT};
 use json_tree::{NoMemory, Node};
 use judge::Scene;
-use rtdb_model::{BorrowedRefusal, Event, MAX_LOCATIONS, Refusal, Reply};
+use rtdb_model::{BorrowedRefusal, Event, MAX_LOCATIONS, Refusal, Reply, Writes};
 use rules_reader::Rules;
 use std::alloc::Global;
+use std::collections::BTreeMap;
 use std::marker::Model;
 
 /// A database: a tree, the rules in force, and the sessions that are open. It keeps the allocator
@@ -200,6 +204,45 @@ impl Core {
         ensures { result ≡ map_of.len self.now.sessions }
     {
         self.machine.sessions()
+    }
+
+    /// The sessions that are open, in the order of their numbers, in constant time. Of each can be asked what a snapshot
+    /// keeps of it.
+    pub fn open_sessions(&self) -> &BTreeMap<u64, Session>
+        ensures { result.now.entries ≡ map_of.entries self.now.sessions }
+    {
+        self.machine.open_sessions()
+    }
+
+    // ---- a database that begins again
+
+    /// Opens a session as a snapshot has it, for a client that is gone: this is who is signed in on it, and whether it is
+    /// leaving. Nothing is judged. It costs an insertion among the sessions, and takes memory for that alone. Where it
+    /// fails the identity is dropped.
+    pub fn resume(
+        &mut self,
+        session: u64,
+        who: Option<Identity>,
+        is_leaving: bool,
+    ) -> Result<(), ResumeFault>
+        ensures resumed { OnOk result (self.new ≡ resumed self.old session who is_leaving) }
+        ensures may { OnOk result (MayResume self.old session) }
+        ensures unfit { IfErr result (λ fault. (fault ≡ ResumeFault.Unfit) ↔ ¬ (MayResume self.old session)) }
+        ensures unchanged { OnErr result (self.new ≡ self.old) }
+    {
+        self.machine.resume(session, who, is_leaving)
+    }
+
+    /// Gives a session the action that a snapshot has of it, behind those that it has. The rules are not asked, since the
+    /// action was judged when it was established. It costs 2 · n comparisons of paths for n writes and a look-up among
+    /// the sessions, and takes memory for a longer list of actions. Where it fails the writes are dropped.
+    pub fn establish(&mut self, session: u64, writes: Writes) -> Result<(), ResumeFault>
+        ensures established { OnOk result (self.new ≡ with_action self.old session writes) }
+        ensures may { OnOk result (MayEstablish self.old session writes) }
+        ensures unfit { IfErr result (λ fault. (fault ≡ ResumeFault.Unfit) ↔ ¬ (MayEstablish self.old session writes)) }
+        ensures unchanged { OnErr result (self.new ≡ self.old) }
+    {
+        self.machine.establish(session, writes)
     }
 }
 

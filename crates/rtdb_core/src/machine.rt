@@ -210,14 +210,23 @@ impl Machine {
         self.sessions.len()
     }
 
-    fn is_open(&self, session: u64) -> bool
+    /// The sessions that are open, by their numbers.
+    pub(crate) fn open_sessions(&self) -> &BTreeMap<u64, Session>
+        ensures { result.now.entries ≡ map_of.entries self.now.sessions }
+    {
+        self.sessions.iter();
+        &self.sessions
+    }
+
+    /// Whether the session of this number is open.
+    pub(crate) fn is_open(&self, session: u64) -> bool
         ensures { result ≡ is_open self.now session }
     {
         self.sessions.contains_key(&session)
     }
 
-    // The session of this number, if it is open.
-    fn open_session(&self, session: u64) -> Option<&Session>
+    /// The session of this number, if it is open.
+    pub(crate) fn open_session(&self, session: u64) -> Option<&Session>
         ensures open { is_some result ≡ is_open self.now session }
         ensures identity { IfSome result (λ one. one.now.identity ≡ identity_of self.now session) }
         ensures listeners { IfSome result (λ one. one.now.listeners ≡ listeners_of self.now session) }
@@ -878,12 +887,20 @@ impl Machine {
 
     // ---- what is done
 
-    // Adds a session to those that are open.
+    // Adds a session to those that are open, with nobody signed in on it.
     fn add(&mut self, session: u64) -> Result<(), NoMemory>
         ensures ok { OnOk result (self.new ≡ opened self.old session) }
         ensures err { OnErr result (self.new ≡ self.old) }
     {
-        let Ok(_) = self.sessions.insert(session, Session::new(self.alloc)) else {
+        self.put_session(session, Session::new(self.alloc))
+    }
+
+    /// Puts a session among those that are open, in the place of one of its number.
+    pub(crate) fn put_session(&mut self, session: u64, one: Session) -> Result<(), NoMemory>
+        ensures ok { OnOk result (self.new ≡ record self.old { sessions = map_of.insert self.old.sessions session one }) }
+        ensures err { OnErr result (self.new ≡ self.old) }
+    {
+        let Ok(_) = self.sessions.insert(session, one) else {
             return Err(NoMemory);
         };
         Ok(())
@@ -994,8 +1011,8 @@ impl Machine {
         self.keep(session, action)
     }
 
-    // Keeps an action more for when an open session goes.
-    fn keep(&mut self, session: u64, action: Action) -> Result<(), NoMemory>
+    /// Keeps an action more for when an open session goes.
+    pub(crate) fn keep(&mut self, session: u64, action: Action) -> Result<(), NoMemory>
         requires { is_open self.old session ≡ true }
         ensures ok { OnOk result (self.new ≡ with_actions self.old session (actions_of self.old session ++ action ∷ [])) }
         ensures err { OnErr result (self.new ≡ self.old) }

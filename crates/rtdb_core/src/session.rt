@@ -4,6 +4,7 @@ ghost use Rattle.evaluator.specs.Identity.{Identity};
 ghost use Rattle.listeners.specs.Table.{begun, has_id, without_id, taken};
 ghost use Rattle.rtdb_model.specs.declared.limits.TheConstants.{MAX_ACTIONS};
 ghost use Rattle.rtdb_model.specs.State.{fresh, is_admin};
+ghost use Rattle.rtdb_core.specs.Resumed.{going_on};
 ghost use Rattle.rtdb_model.specs.Step.{is_below};
 ghost use Rattle.rtdb_core.specs.Working.Fates.{settled, left_of, with_listeners};
 
@@ -18,9 +19,9 @@ use std::alloc::Global;
 use std::marker::Model;
 
 /// A session that is open: who is signed in on it, if anybody is, what it listens to, what is written when it goes, and
-/// whether it is leaving.
+/// whether it is leaving. Contracts see the four.
 #[derive(Debug, Drop)]
-pub(crate) struct Session {
+pub struct Session {
     identity: Option<Identity>,
     listeners: Table,
     actions: Vec<Action>,
@@ -50,8 +51,20 @@ impl Session {
         }
     }
 
+    /// A session that goes on: this is who is signed in on it, and whether it is leaving. It takes no memory.
+    pub(crate) fn going_on(alloc: Global, who: Option<Identity>, is_leaving: bool) -> Session
+        ensures { result ≡ going_on who is_leaving }
+    {
+        Session {
+            identity: who,
+            listeners: Table::new(alloc),
+            actions: Vec::new(alloc),
+            is_leaving,
+        }
+    }
+
     /// Who is signed in on it.
-    pub(crate) fn identity(&self) -> Option<&Identity>
+    pub fn identity(&self) -> Option<&Identity>
         ensures { option_map (λ who. who.now) result ≡ self.now.identity }
     {
         self.identity.as_ref()
@@ -116,7 +129,7 @@ impl Session {
     }
 
     /// What is written when it goes, in the order in which it was established.
-    pub(crate) fn actions(&self) -> &[Action]
+    pub fn actions(&self) -> &[Action]
         ensures { result.now ≡ self.now.actions }
     {
         self.actions.as_slice()
@@ -130,7 +143,7 @@ impl Session {
     }
 
     /// Whether it is leaving.
-    pub(crate) fn is_leaving(&self) -> bool
+    pub fn is_leaving(&self) -> bool
         ensures { result ≡ self.now.leaving }
     {
         self.is_leaving
