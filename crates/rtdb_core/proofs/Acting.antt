@@ -1,5 +1,5 @@
 -- The writes of an action, in the order of their locations, are those that it was made of.
-use Rattle.std.proofs.Common.{◌≡◌, ◌||◌, ◌&&◌, ◌<◌, ◌+◌, ℕ, zero, suc, Bool, true, false, cond, T, List, [], ◌∷◌, length, get_or, append-nil, map, Option, Some, None, sym, ap, subst, ◌∙◌, refl, arith}
+use Rattle.std.proofs.Common.{◌≡◌, ◌≢◌, ◌||◌, ◌&&◌, ◌<◌, ◌+◌, ℕ, zero, suc, Bool, true, false, cond, T, List, [], ◌∷◌, length, get_or, append-nil, map, Option, Some, None, sym, ap, subst, ◌∙◌, refl, arith}
 use Rattle.std.proofs.lemmas.Bool.{false≢true}
 use Rattle.std.specs.FinMap as map_of
 use Rattle.std.specs.FinMap.{find, is_sorted}
@@ -9,7 +9,7 @@ use Rattle.std.specs.List.Sorted.{IsPermutation, IsSortedBy}
 use Rattle.std.specs.Ordering.{is_lt, ordering_reverse}
 use Rattle.std.specs.declared.cmp.Ordering.{Ordering}
 use Rattle.std.specs.declared.cmp.Ordering.TheVariants.{Less, Equal, Greater}
-use Rattle.std.proofs.lemmas.List.Sorted.{IsPermutation-sym, Contains-permutation}
+use Rattle.std.proofs.lemmas.List.Sorted.{IsPermutation-sym, Contains-permutation, length_permutation}
 use Rattle.tree_model.specs.Draft.{Draft}
 use Rattle.tree_model.specs.Path.{Path, path_cmp, is_prefix}
 use Rattle.tree_model.specs.Put.{location, do_overlap, overlaps}
@@ -140,3 +140,12 @@ writes_are ws xs apart p order =
 pub all_below : (path : Path) (ws : List Write) → list_all (λ w. is_prefix path (location w)) ws ≡ list_all (is_prefix path) (map (λ e. e.0) ws)
 all_below path [] = refl
 all_below path (w ∷ ws) = ap (λ b. is_prefix path (location w) && b) (all_below path ws)
+
+-- ---- that there is a write
+
+pub none_by_length : (ws : List Write) → length ws ≡ zero → ws ≡ []
+none_by_length [] none = refl
+none_by_length (w ∷ ws) none = absurd (omega (arith, none))
+
+pub some_kept : (ws xs : List Write) → IsPermutation ws xs → ws ≢ [] → xs ≢ []
+some_kept ws xs p some none = some (none_by_length ws (sym (length_permutation ws xs p) ∙ ap length none))

@@ -1,5 +1,5 @@
 -- Why reads and writes are refused, from their verdicts.
-use Rattle.std.proofs.Common.{◌≡◌, ◌≤◌, ◌∷◌, [], ℕ, zero, suc, Bool, List, map, true, false, not, cond, Some, None, Option, inl, inr, option_map, sym, ap, subst, refl, arith, ◌∙◌}
+use Rattle.std.proofs.Common.{◌≡◌, ◌≤◌, ◌<◌, ◌∷◌, [], ℕ, zero, suc, Bool, List, map, true, false, not, cond, Some, None, Option, inl, inr, option_map, sym, ap, subst, refl, arith, ◌∙◌}
 use Rattle.std.specs.Prelude.{MatchOption}
 use Rattle.std.specs.Borrow.{Bor}
 use Rattle.tree_model.specs.Path.{Path}
