@@ -1,0 +1,10 @@
+pub mod Fronts
+pub mod Identities
+pub mod Meanings
+pub mod Letters
+pub mod Lists
+pub mod Nesting
+pub mod Pairs
+pub mod Reading
+pub mod Texts
+pub mod Writing
