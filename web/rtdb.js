@@ -81,6 +81,17 @@ function sentenceOf({ code, name, at, rule, rules, byte, what }) {
   return `${place}: ${reasons.join(", ") || `no ${rule} stands at the path or above it`}`;
 }
 
+/** Calls a function of the page. What it throws is an uncaught error of the page's, and keeps nothing else from its turn.
+ *  @template {unknown[]} T
+ *  @param {(...values: T) => void} deed @param {T} values */
+function call(deed, ...values) {
+  try {
+    deed(...values);
+  } catch (error) {
+    queueMicrotask(() => { throw error; });
+  }
+}
+
 /** What this client says by itself, with the code 0.
  *  @param {"ConnectionLost" | "Closed" | "Cancelled"} name */
 function failure(name) {
@@ -183,8 +194,9 @@ export class Database {
     this.#state = "closed";
     this.#listeners.clear();
     [...this.#unanswered.splice(0), ...this.#waiting.splice(0)].forEach((it) => it.reject(failure("Closed")));
-    this.#onState(this.#state, null);
+    const onState = this.#onState;
     this.#onState = () => {};
+    call(onState, this.#state, null);
   }
 
   #open() {
@@ -199,7 +211,7 @@ export class Database {
     this.#state = "connected";
     this.#send();
     this.#timer = setTimeout(() => this.#beat(), SILENCE_MS);
-    this.#onState(this.#state, null);
+    call(this.#onState, this.#state, null);
   }
 
   /** Asks for news now and then: so a connection that broke without a word is found out, and none is cut for being idle. */
@@ -226,13 +238,13 @@ export class Database {
     const [token, listeners, unanswered, waiting] = [this.#token, [...this.#listeners.values()], this.#unanswered, this.#waiting];
     [this.#token, this.#unanswered, this.#waiting] = [null, [], []];
     this.#listeners.clear();
-    if (token !== null) this.signIn(token).catch((refusal) => this.#onState(this.#state, refusal));
+    if (token !== null) this.signIn(token).catch((refusal) => call(this.#onState, this.#state, refusal));
     listeners.forEach((it) => this.#begin(it));
     this.#waiting.push(...unanswered.filter((it) => ASKED_AGAIN.includes(it.verb)), ...waiting);
     unanswered.filter((it) => !ASKED_AGAIN.includes(it.verb)).forEach((it) => it.reject(failure("ConnectionLost")));
     this.#timer = setTimeout(() => this.#open(), this.#pause * (0.5 + Math.random() / 2));
     this.#pause = Math.min(2 * this.#pause, LONGEST_PAUSE_MS);
-    this.#onState(this.#state, error);
+    call(this.#onState, this.#state, error);
   }
 
   /** @type {(message: Message) => Promise<Answer>} */
@@ -268,7 +280,7 @@ export class Database {
     this.#ask({ do: "listen", id, path, query: query ?? undefined }).then((answer) => {
       if (listener.hasEnded) return;
       this.#listeners.set(id, listener);
-      listener.onValue(answer.value);
+      call(listener.onValue, answer.value);
     }, (error) => this.#cancel(listener, error));
   }
 
@@ -277,7 +289,7 @@ export class Database {
     for (const { id, value, cancelled } of news) {
       const listener = this.#listeners.get(id);
       if (listener && cancelled) this.#cancel(listener, failure("Cancelled"));
-      else listener?.onValue(value);
+      else if (listener) call(listener.onValue, value);
     }
   }
 
@@ -286,7 +298,7 @@ export class Database {
     if (listener.hasEnded) return;
     listener.hasEnded = true;
     this.#listeners.delete(listener.id);
-    listener.onCancelled(error);
+    call(listener.onCancelled, error);
   }
 
   /** @type {(listener: Listener) => void} */
