@@ -16,7 +16,10 @@
 /** @typedef {{ orderBy?: string, startAt?: Bound, endAt?: Bound, equalTo?: Bound, limitToFirst?: number, limitToLast?: number }} Query */
 /** @typedef {{ pattern: string, why: string }} NamedRule  why: "false" or "error" */
 /** @typedef {{ at?: string, rules?: NamedRule[], pattern?: string, why?: string, rule?: string, byte?: number, what?: string }} Reasons */
-/** @typedef {{ code: number, name: string } & Reasons} Refusal */
+/** @typedef {{ request?: string, member?: string, how?: string }} Findings  what this client finds: in which member of which request, and how it is wrong */
+/** @typedef {{ code: number, name: string } & Reasons & Findings} Refusal */
+/** @typedef {{ name: keyof typeof FAULT_CODES, member?: string, at?: string, how: string }} Fault */
+/** @typedef {[keys: string[], value: unknown]} Place  of a value: the keys that lead to it, and what is there */
 /** @typedef {{ id: string, value: Value, cancelled?: boolean }} News */
 /** @typedef {Refusal & { ok?: boolean, value: Value, news: News[], push?: News[] }} Answer */
 /** @typedef {{ do: string, [member: string]: unknown }} Message */
@@ -33,11 +36,16 @@ const LONGEST_PAUSE_MS = 10_000;
 const TOO_MANY_SESSIONS = 204; // comes by itself where the server can't open a session, and answers no request
 const ASKED_AGAIN = ["signin", "signout", "get", "listen", "unlisten"];
 const RULE_OF_DENIAL = new Map([[501, ".read"], [502, ".write"], [503, ".validate"]]);
-/** @type {(key: string, value: unknown) => unknown} refuses what JSON would make null, which removes: NaN and infinity */
-const finite = (_key, value) => {
-  if (typeof value === "number" && !Number.isFinite(value)) throw new RangeError(`${value} can't be written`);
-  return value;
-};
+// What the server takes (docs/PROTOCOL.md).
+const MOST_MESSAGE_BYTES = 1_048_576;
+const MOST_NESTING = 127; // of arrays and objects in a message
+const MOST_DEPTH = 32; // of keys
+const MOST_KEY_BYTES = 768;
+const MOST_TEXT_BYTES = 65_536;
+const MOST_LIMIT = 1_000; // of a query
+const FAULT_CODES = { BadJson: 101, BadRequest: 102, BadPath: 103, BadValue: 104, TooDeep: 105, BadQuery: 106, EmptyUpdate: 107, Overlap: 108, TooLarge: 109 };
+const BOUNDS = ["startAt", "endAt", "equalTo"];
+const LIMITS = ["limitToFirst", "limitToLast"];
 
 /** Connects to the server at the address of a WebSocket. `onState` is called at each change of the connection, and where a
  *  session or signing in again was refused.
@@ -57,10 +65,11 @@ export function newKey() {
   return `-${moment}${random.join("")}`;
 }
 
-/** A refusal. Of a denial `rules` are the rules that were asked, each with why it did not hold, and `rule` is their kind. */
+/** A refusal. Of a denial `rules` are the rules that were asked, each with why it did not hold, and `rule` is their kind. Of a
+ *  faulty request, which is not sent, `member` is the faulty member, `request` what was to be done, and `how` what is wrong. */
 export class RtdbError extends Error {
   /** @param {Refusal} refusal */
-  constructor({ code, name, at, rule, rules, pattern, why = "", byte, what }) {
+  constructor({ code, name, at, rule, rules, pattern, why = "", byte, what, request, member, how }) {
     super();
     this.name = name;
     this.code = code;
@@ -69,13 +78,17 @@ export class RtdbError extends Error {
     this.rules = rules ?? (pattern === undefined ? [] : [{ pattern, why }]);
     this.byte = byte;
     this.what = what;
+    this.request = request;
+    this.member = member;
+    this.how = how;
     this.message = sentenceOf(this);
   }
 }
 
 /** @param {RtdbError} error */
-function sentenceOf({ code, name, at, rule, rules, byte, what }) {
+function sentenceOf({ code, name, at, rule, rules, byte, what, request, member, how }) {
   const place = at === undefined ? name : `${name} at ${at}`;
+  if (how !== undefined) return `${place}${request === undefined ? "" : `, ${[member, request].filter(Boolean).join(" of ")}`}: ${how}`;
   if (!RULE_OF_DENIAL.has(code)) return [place, rule, byte !== undefined && `byte ${byte}`, what].filter(Boolean).join(", ");
   const reasons = rules.map((it) => `${rule} of ${it.pattern} ${it.why === "error" ? "errs" : "is false"}`);
   return `${place}: ${reasons.join(", ") || `no ${rule} stands at the path or above it`}`;
@@ -97,6 +110,242 @@ function call(deed, ...values) {
 function failure(name) {
   return new RtdbError({ code: 0, name });
 }
+
+// ---- paths and values
+
+/** @type {(path: string) => string[]} */
+const keysOf = (path) => path.split("/").filter(Boolean);
+/** @type {(keys: string[]) => string} */
+const pathOf = (keys) => `/${keys.join("/")}`;
+/** @type {(value: unknown) => value is { [key: string]: unknown }} */
+const isObject = (value) => typeof value === "object" && value !== null;
+/** @type {(text: string) => number} */
+const bytesOf = (text) => new TextEncoder().encode(text).length;
+/** @type {(value: unknown) => boolean} */
+const isTimestamp = (value) => isObject(value) && value[".sv"] === "timestamp" && Object.keys(value).length === 1;
+/** @type {(value: unknown) => boolean} whether a value is at a place, and not below it */
+const isPrimitive = (value) => isTimestamp(value) || (!isObject(value) && value !== null);
+
+/** The keys of an object; of an array also those where nothing was ever put.
+ *  @type {(value: object) => string[]} */
+const keysIn = (value) => (Array.isArray(value) ? Array.from(value.keys(), String) : Object.keys(value));
+
+/** The members that are there.
+ *  @type {(members: { [name: string]: unknown }) => { [name: string]: unknown }} */
+const optional = (members) => Object.fromEntries(Object.entries(members).filter(([, it]) => it !== undefined && it !== null));
+
+/** All places of a value, each before those below it, as deep as a message may nest.
+ *  @param {unknown} value @returns {Generator<Place, void>} */
+function* placesIn(value) {
+  /** @type {Place[]} */
+  const left = [[[], value]];
+  for (let place = left.pop(); place; place = left.pop()) {
+    yield place;
+    const [keys, it] = place;
+    if (!isObject(it) || isTimestamp(it) || keys.length > MOST_NESTING) continue;
+    left.push(...keysIn(it).reverse().map((key) => /** @type {Place} */ ([[...keys, key], it[key]])));
+  }
+}
+
+/** By bytes of UTF-8, which is by code points, and not by the halves of which JavaScript makes some.
+ *  @type {(a: string, b: string) => number} */
+function compareTexts(a, b) {
+  let at = 0;
+  while (at < a.length && a[at] === b[at]) at += 1;
+  return (a.codePointAt(at) ?? -1) - (b.codePointAt(at) ?? -1);
+}
+
+// ---- the faults of a request, in the order in which the server finds them
+
+/** A request as text.
+ *  @param {Message} message @throws {RtdbError} its first fault */
+function textOf(message) {
+  const found = unsayableIn(message) ?? textFault(message) ?? shapeFault(message) ?? contentFault(message);
+  if (found) throw new RtdbError({ ...found, code: FAULT_CODES[found.name], request: message.do });
+  return JSON.stringify(message);
+}
+
+/** What is no JSON, and would be left out or changed without a word.
+ *  @type {(message: Message) => Fault | null} */
+function unsayableIn(message) {
+  for (const [[member, ...keys], value] of placesIn(message)) {
+    const how = wrongInSayable(value);
+    if (how === null) continue;
+    if (member === "query") return { name: "BadQuery", member: ["query", ...keys].join("."), how };
+    const isValue = member === "value" || member === "values";
+    return { name: isValue ? "BadValue" : "BadRequest", member, at: isValue ? placeBelow(message.path, keys) : undefined, how };
+  }
+  return null;
+}
+
+/** @type {(value: unknown) => string | null} */
+function wrongInSayable(value) {
+  if (value === undefined) return "undefined is no value: leave it out, or write null to remove what is there";
+  if (["function", "symbol", "bigint"].includes(typeof value)) return `a ${typeof value} is no value`;
+  if (typeof value === "number" && !Number.isFinite(value)) return `${value} is no value: numbers are whole`;
+  if (!isObject(value) || Array.isArray(value)) return null;
+  const prototype = Object.getPrototypeOf(value);
+  if (prototype !== null && Object.getPrototypeOf(prototype) !== null) return `a ${prototype.constructor?.name || "class"} is no plain object`;
+  return Object.getOwnPropertySymbols(value).length > 0 ? "the name of a member is a symbol" : null;
+}
+
+/** @type {(path: unknown, keys: string[]) => string | undefined} */
+function placeBelow(path, keys) {
+  return typeof path === "string" ? pathOf([...keysOf(path), ...keys.flatMap(keysOf)]) : undefined;
+}
+
+/** What is wrong with the text of a request.
+ *  @type {(message: Message) => Fault | null} */
+function textFault(message) {
+  const size = sizeOf(message);
+  if (size === null) return { name: "BadJson", how: "an object is within itself" };
+  if (size > MOST_MESSAGE_BYTES) return { name: "TooLarge", how: `it has ${size} bytes, more than ${MOST_MESSAGE_BYTES}` };
+  for (const [keys, value] of placesIn(message)) {
+    const fault = { name: /** @type {const} */ ("BadJson"), member: keys[0] };
+    if (isObject(value) && keys.length >= MOST_NESTING) return { ...fault, how: `objects nest more than ${MOST_NESTING} deep in it` };
+    const broken = [value, keys.at(-1)].find((it) => typeof it === "string" && /\p{Surrogate}/u.test(it));
+    if (broken !== undefined) return { ...fault, how: `${shown(broken)} has half of a UTF-16 pair` };
+  }
+  return null;
+}
+
+/** How many bytes a request has; null where it never ends.
+ *  @type {(message: Message) => number | null} */
+function sizeOf(message) {
+  try {
+    return bytesOf(JSON.stringify(message));
+  } catch {
+    return null;
+  }
+}
+
+/** @type {(value: unknown) => string} */
+function shown(value) {
+  const text = JSON.stringify(value);
+  return text.length <= 60 ? text : `${text.slice(0, 50)}..${text.slice(-1)}`;
+}
+
+/** The members that are not of their kind.
+ *  @type {(message: Message) => Fault | null} */
+function shapeFault(message) {
+  const wrongText = ["path", "token", "rules"].find((it) => it in message && typeof message[it] !== "string");
+  if (wrongText) return { name: "BadRequest", member: wrongText, how: `${shown(message[wrongText])} is no text` };
+  const wrongObject = ["values", "query"].find((it) => it in message && (!isObject(message[it]) || Array.isArray(message[it])));
+  return wrongObject ? { name: "BadRequest", member: wrongObject, how: `${shown(message[wrongObject])} is no object` } : null;
+}
+
+/** @type {(message: Message) => Fault | null} */
+function contentFault({ path, value, values, query }) {
+  if (typeof path !== "string") return null;
+  const fault = pathFault(path, "path");
+  if (fault || value !== undefined) return fault ?? valueFault(keysOf(path), value, "value");
+  if (isObject(values)) return updateFault(path, values);
+  return isObject(query) ? queryFault(query) : null;
+}
+
+/** @type {(path: string, member: string) => Fault | null} */
+function pathFault(path, member) {
+  const how = keysOf(path).map(wrongInKey).find(Boolean);
+  if (how) return { name: "BadPath", member, at: path, how };
+  return keysOf(path).length > MOST_DEPTH ? tooDeep(keysOf(path), member) : null;
+}
+
+/** @type {(keys: string[], member: string) => Fault} */
+function tooDeep(keys, member) {
+  return { name: "TooDeep", member, at: pathOf(keys), how: `it is ${keys.length} keys deep, more than ${MOST_DEPTH}` };
+}
+
+/** What is wrong with a key; empty where nothing is.
+ *  @type {(key: string) => string} */
+function wrongInKey(key) {
+  if (key === "") return "a key is empty";
+  const [found] = /[\0-\x1f\x7f.$#[\]/]/.exec(key) ?? [];
+  if (found) return `the key ${shown(key)} has ${found < " " || found === "\x7f" ? "a control character" : `a ${found}`}`;
+  return bytesOf(key) > MOST_KEY_BYTES ? `the key ${shown(key)} has ${bytesOf(key)} bytes, more than ${MOST_KEY_BYTES}` : "";
+}
+
+/** @type {(above: string[], value: unknown, member: string) => Fault | null} */
+function valueFault(above, value, member) {
+  for (const [keys, it] of placesIn(value)) {
+    const how = (keys.length > 0 && wrongInKey(keys[keys.length - 1])) || wrongInPrimitive(it);
+    if (how) return { name: "BadValue", member, at: pathOf([...above, ...keys]), how };
+  }
+  for (const [keys, it] of placesIn(value)) {
+    if (isPrimitive(it) && above.length + keys.length > MOST_DEPTH) return tooDeep([...above, ...keys], member);
+  }
+  return null;
+}
+
+/** What is wrong with a boolean, a number or a text; empty where nothing is.
+ *  @type {(value: unknown) => string} */
+function wrongInPrimitive(value) {
+  if (typeof value === "string" && bytesOf(value) > MOST_TEXT_BYTES) return `a text has ${bytesOf(value)} bytes, more than ${MOST_TEXT_BYTES}`;
+  if (typeof value !== "number") return "";
+  if (!Number.isInteger(value)) return `${value} is a fraction: numbers are whole`;
+  return Number.isSafeInteger(value) ? "" : `${value} is too large: numbers go from -(2^53 - 1) to 2^53 - 1`;
+}
+
+/** Each member is looked at on its own, in the order of the names.
+ *  @type {(path: string, values: { [path: string]: unknown }) => Fault | null} */
+function updateFault(path, values) {
+  for (const name of Object.keys(values).sort(compareTexts)) {
+    const keys = [...keysOf(path), ...keysOf(name)];
+    const fault = pathFault(name, "values") ?? (keys.length > MOST_DEPTH ? tooDeep(keys, "values") : valueFault(keys, values[name], "values"));
+    if (fault) return fault;
+  }
+  if (Object.keys(values).length === 0) return { name: "EmptyUpdate", member: "values", how: "it has no members" };
+  return overlapIn(path, Object.keys(values).map(keysOf));
+}
+
+/** Two places of an update of which one is at or above the other.
+ *  @type {(path: string, places: string[][]) => Fault | null} */
+function overlapIn(path, places) {
+  const seen = new Set(places.map(pathOf));
+  const above = places.flatMap((keys) => keys.map((_, end) => pathOf(keys.slice(0, end)))).find((it) => seen.has(it));
+  if (above === undefined && seen.size === places.length) return null;
+  const twice = places.map(pathOf).find((it, at, all) => all.indexOf(it) < at);
+  const how = above === undefined ? "it writes there twice" : "it writes there, and below";
+  return { name: "Overlap", member: "values", at: placeBelow(path, [above ?? twice ?? ""]), how };
+}
+
+/** @type {(query: { [member: string]: unknown }) => Fault | null} */
+function queryFault(query) {
+  for (const name of Object.keys(query)) {
+    const how = wrongInQuery(name, query[name], query);
+    if (how) return { name: "BadQuery", member: `query.${name}`, how };
+  }
+  return null;
+}
+
+/** What is wrong with a member of a query, or with having it beside the others; empty where nothing is.
+ *  @type {(name: string, value: unknown, query: { [member: string]: unknown }) => string} */
+function wrongInQuery(name, value, query) {
+  if (name === "orderBy") return wrongInOrder(value);
+  if (BOUNDS.includes(name)) return wrongInBound(name, value, query);
+  if (!LIMITS.includes(name)) return "a query has no such member";
+  if (LIMITS.every((it) => it in query)) return "a query has one limit";
+  const isLimit = typeof value === "number" && Number.isInteger(value) && value >= 1 && value <= MOST_LIMIT;
+  return isLimit ? "" : `${shown(value)} is no limit, which is a whole number from 1 to ${MOST_LIMIT}`;
+}
+
+/** @type {(order: unknown) => string} */
+function wrongInOrder(order) {
+  if (typeof order !== "string") return `${shown(order)} is no order, which is $key, $value or a path below each child`;
+  if (order === "$key" || order === "$value") return "";
+  if (keysOf(order).length === 0) return "the path has no keys";
+  return pathFault(order, "orderBy")?.how ?? "";
+}
+
+/** @type {(name: string, bound: unknown, query: { [member: string]: unknown }) => string} */
+function wrongInBound(name, bound, query) {
+  if (!("orderBy" in query)) return "a bound needs an orderBy";
+  if (name !== "equalTo" && "equalTo" in query) return "beside equalTo there is no other bound";
+  if (isObject(bound) || bound === null) return `${shown(bound)} is no bound, which is true, false, a whole number or a text`;
+  if (query.orderBy === "$key" && typeof bound !== "string") return `${shown(bound)} is no key: a bound by $key is a text`;
+  return wrongInPrimitive(bound);
+}
+
+// ---- the client
 
 export class Database {
   #url;
@@ -139,7 +388,7 @@ export class Database {
 
   /** @type {(path: string, query?: Query | null) => Promise<Value>} */
   async get(path, query) {
-    return (await this.#ask({ do: "get", path, query: query ?? undefined })).value;
+    return (await this.#ask({ do: "get", path, ...optional({ query }) })).value;
   }
 
   /** @type {(path: string, value: unknown) => Promise<void>} */
@@ -251,7 +500,7 @@ export class Database {
   #ask(message) {
     return new Promise((resolve, reject) => {
       if (this.#state === "closed") throw failure("Closed");
-      this.#waiting.push({ verb: message.do, text: JSON.stringify(message, finite), resolve, reject });
+      this.#waiting.push({ verb: message.do, text: textOf(message), resolve, reject });
       if (this.#state === "connected") this.#send();
     });
   }
@@ -277,7 +526,7 @@ export class Database {
   /** @type {(listener: Listener) => void} */
   #begin(listener) {
     const { id, path, query } = listener;
-    this.#ask({ do: "listen", id, path, query: query ?? undefined }).then((answer) => {
+    this.#ask({ do: "listen", id, path, ...optional({ query }) }).then((answer) => {
       if (listener.hasEnded) return;
       this.#listeners.set(id, listener);
       call(listener.onValue, answer.value);
