@@ -6,9 +6,10 @@
 //     await db.onDisconnect("/online/tea/ann/c1").remove();
 //     await db.set("/online/tea/ann/c1", serverTimestamp());
 //
-// Requests go out in the order in which they are made, and those made before the connection stands wait for it. After a loss
-// the client connects again, signs in and listens again. A read that was not answered is asked again; a write is rejected as
-// `ConnectionLost`, since nobody knows whether the server has made it. Disconnect actions end with the connection.
+// Requests go out in the order in which they are made, and those made before the connection stands wait for it. What the server
+// would refuse as faulty is not sent. After a loss the client connects again, signs in, establishes its disconnect actions and
+// listens again. A read that was not answered is asked again; a write is rejected as `ConnectionLost`, since nobody knows
+// whether the server has made it.
 
 /** @typedef {null | boolean | number | string | { [key: string]: Value }} Value  what is read: there are no arrays */
 /** @typedef {{ [path: string]: unknown }} Values */
@@ -23,19 +24,31 @@
 /** @typedef {{ id: string, value: Value, cancelled?: boolean }} News */
 /** @typedef {Refusal & { ok?: boolean, value: Value, news: News[], push?: News[] }} Answer */
 /** @typedef {{ do: string, [member: string]: unknown }} Message */
-/** @typedef {{ verb: string, text: string, resolve: (answer: Answer) => void, reject: (error: unknown) => void }} Request */
+/** @typedef {{ text: string, again: boolean, resolve: (answer: Answer) => void, reject: (error: unknown) => void }} Request */
 /** @typedef {(value: Value) => void} OnValue @typedef {(error: RtdbError) => void} OnCancelled */
 /** @typedef {{ id: string, path: string, query: Query | null, onValue: OnValue, onCancelled: OnCancelled, hasEnded: boolean }} Listener */
+/** @typedef {(key: string, value: Value, previousKey: string | null) => void} OnChild  with the key of the child before it */
+/** @typedef {{ onAdded?: OnChild, onChanged?: OnChild, onRemoved?: (key: string, value: Value) => void }} OnChildren */
 /** @typedef {"connecting" | "connected" | "lost" | "closed"} State */
 /** @typedef {(state: State, error: RtdbError | null) => void} OnState */
 
 // How long nothing may come where something was asked, before the connection is taken as lost.
 const SILENCE_MS = 30_000;
+// How long the server may leave a new connection without an answer, before the page is told so.
+const UNANSWERED_MS = 5_000;
 const FIRST_PAUSE_MS = 500;
 const LONGEST_PAUSE_MS = 10_000;
 const TOO_MANY_SESSIONS = 204; // comes by itself where the server can't open a session, and answers no request
-const ASKED_AGAIN = ["signin", "signout", "get", "listen", "unlisten"];
-const RULE_OF_DENIAL = new Map([[501, ".read"], [502, ".write"], [503, ".validate"]]);
+const ASKED_AGAIN = ["signin", "signout", "get", "listen", "unlisten", "oncancel"];
+const MOST_TRIES = 25; // of `retry`
+const [READ_DENIED, WRITE_DENIED, VALIDATE_DENIED] = [501, 502, 503];
+const FAILURES = {
+  ConnectionLost: "the connection was lost before the server answered, so this was done or not",
+  Closed: "this client was closed",
+  Cancelled: "the server has ended this listener, since its read is no longer granted",
+  NoAnswer: `the server has not answered for ${UNANSWERED_MS / 1_000} seconds: all its workers may be taken, and this client waits`,
+};
+const RULE_OF_DENIAL = new Map([[READ_DENIED, ".read"], [WRITE_DENIED, ".write"], [VALIDATE_DENIED, ".validate"]]);
 // What the server takes (docs/PROTOCOL.md).
 const MOST_MESSAGE_BYTES = 1_048_576;
 const MOST_NESTING = 127; // of arrays and objects in a message
@@ -47,8 +60,8 @@ const FAULT_CODES = { BadJson: 101, BadRequest: 102, BadPath: 103, BadValue: 104
 const BOUNDS = ["startAt", "endAt", "equalTo"];
 const LIMITS = ["limitToFirst", "limitToLast"];
 
-/** Connects to the server at the address of a WebSocket. `onState` is called at each change of the connection, and where a
- *  session or signing in again was refused.
+/** Connects to the server at the address of a WebSocket. `onState` is called at each change of the connection, and with an error
+ *  where a session was refused, where signing in or a disconnect action was refused after a loss, and where no answer comes.
  *  @type {(url: string, onState?: OnState) => Database} */
 export function connect(url, onState = () => {}) {
   return new Database(url, onState);
@@ -85,6 +98,13 @@ export class RtdbError extends Error {
   }
 }
 
+/** False where this is the denial of a read; any other error is thrown.
+ *  @param {RtdbError} error */
+function falseIfDenied(error) {
+  if (error.code !== READ_DENIED) throw error;
+  return false;
+}
+
 /** @param {RtdbError} error */
 function sentenceOf({ code, name, at, rule, rules, byte, what, request, member, how }) {
   const place = at === undefined ? name : `${name} at ${at}`;
@@ -106,9 +126,9 @@ function call(deed, ...values) {
 }
 
 /** What this client says by itself, with the code 0.
- *  @param {"ConnectionLost" | "Closed" | "Cancelled"} name */
+ *  @param {keyof typeof FAILURES} name */
 function failure(name) {
-  return new RtdbError({ code: 0, name });
+  return new RtdbError({ code: 0, name, how: FAILURES[name] });
 }
 
 // ---- paths and values
@@ -153,6 +173,80 @@ function compareTexts(a, b) {
   let at = 0;
   while (at < a.length && a[at] === b[at]) at += 1;
   return (a.codePointAt(at) ?? -1) - (b.codePointAt(at) ?? -1);
+}
+
+/** Whether a place is at another one or below it.
+ *  @type {(keys: string[], above: string[]) => boolean} */
+const isWithin = (keys, above) => above.every((key, at) => key === keys[at]);
+
+/** Where a write writes.
+ *  @type {(message: Message) => string[][]} */
+const writtenBy = ({ path, values }) => Object.keys(values ?? { "": null }).map((name) => keysOf(`${path}/${name}`));
+
+/** Whether two values are the same; what is read has its members in one order.
+ *  @type {(a: Value, b: Value) => boolean} */
+const isSame = (a, b) => JSON.stringify(a) === JSON.stringify(b);
+
+// ---- the order of a query
+
+/** The children of what was read, each with its key, in the order of its query; without one by their keys.
+ *  @type {(value: Value, query?: Query | null) => [key: string, value: Value][]} */
+export function entries(value, query) {
+  const orderBy = query?.orderBy ?? "$key";
+  const rankOf = (/** @type {Value} */ child) => (orderBy === "$key" ? null : orderBy === "$value" ? child : below(child, keysOf(orderBy)));
+  const children = typeof value === "object" && value !== null ? Object.entries(value) : [];
+  const ranked = children.map(([key, child]) => ({ key, child, rank: rankOf(child) }));
+  ranked.sort((a, b) => compareValues(a.rank, b.rank) || compareKeys(a.key, b.key));
+  return ranked.map(({ key, child }) => [key, child]);
+}
+
+/** @type {(value: Value, keys: string[]) => Value} */
+function below(value, keys) {
+  return keys.reduce((/** @type {Value} */ it, key) => (typeof it === "object" && it !== null && Object.hasOwn(it, key) ? it[key] : null), value);
+}
+
+/** @type {(a: Value, b: Value) => number} */
+function compareValues(a, b) {
+  if (typeof a === "number" && typeof b === "number") return a - b;
+  if (typeof a === "string" && typeof b === "string") return compareTexts(a, b);
+  return sortOf(a) - sortOf(b);
+}
+
+/** Nothing comes first, then false, true, numbers, texts, and places with children.
+ *  @type {(value: Value) => number} */
+function sortOf(value) {
+  if (value === null) return 0;
+  return typeof value === "boolean" ? 1 + Number(value) : ["number", "string", "object"].indexOf(typeof value) + 3;
+}
+
+/** Whole numbers of 32 bits come first, by number.
+ *  @type {(a: string, b: string) => number} */
+function compareKeys(a, b) {
+  const [left, right] = [numberOfKey(a), numberOfKey(b)];
+  if (left !== null && right !== null) return left - right || a.length - b.length || compareTexts(a, b);
+  if (left !== null) return -1;
+  return right !== null ? 1 : compareTexts(a, b);
+}
+
+/** @type {(key: string) => number | null} */
+function numberOfKey(key) {
+  const number = Number(key);
+  return /^-?\d+$/.test(key) && number >= -(2 ** 31) && number < 2 ** 31 ? number : null;
+}
+
+/** Tells which children were added, changed and removed from one value to the next.
+ *  @type {(before: Map<string, Value>, after: Map<string, Value>, deeds: OnChildren) => void} */
+function tellChildren(before, after, { onAdded = () => {}, onChanged = () => {}, onRemoved = () => {} }) {
+  for (const [key, value] of before) {
+    if (!after.has(key)) call(onRemoved, key, value);
+  }
+  let previousKey = /** @type {string | null} */ (null);
+  for (const [key, value] of after) {
+    const old = before.get(key);
+    if (old === undefined) call(onAdded, key, value, previousKey);
+    else if (!isSame(old, value)) call(onChanged, key, value, previousKey);
+    previousKey = key;
+  }
 }
 
 // ---- the faults of a request, in the order in which the server finds them
@@ -359,6 +453,8 @@ export class Database {
   #unanswered = [];
   /** @type {Map<string, Listener>} those that the server has granted */
   #listeners = new Map();
+  /** @type {Message[]} the disconnect actions that it has granted, and that are established again after a loss */
+  #actions = [];
   /** @type {string | null} the secret of whoever is signed in */
   #token = null;
   #ids = 0;
@@ -386,7 +482,7 @@ export class Database {
     this.#token = null;
   }
 
-  /** @type {(path: string, query?: Query | null) => Promise<Value>} */
+  /** @param {string} path @param {Query | null} [query] @returns {Promise<Value>} */
   async get(path, query) {
     return (await this.#ask({ do: "get", path, ...optional({ query }) })).value;
   }
@@ -423,17 +519,61 @@ export class Database {
     return () => this.#stop(listener);
   }
 
-  /** What the server writes when this connection ends, however it ends. `cancel` takes back what was to be written at this
-   *  path and below.
-   *  @param {string} path */
-  onDisconnect(path) {
+  /** Tells of each child that is added, changed or removed, from one value of a listener to the next: what is removed first, and
+   *  then the others in the order of the query. At first all children are added.
+   *  @type {(path: string, query: Query | null, deeds: OnChildren, onCancelled?: OnCancelled) => () => void} */
+  listenChildren(path, query, deeds, onCancelled) {
+    /** @type {Map<string, Value>} */
+    let before = new Map();
+    return this.listen(path, query, (value) => {
+      const [old, after] = [before, new Map(entries(value, query))];
+      before = after;
+      tellChildren(old, after, deeds);
+    }, onCancelled);
+  }
+
+  /** Writes what `change` makes of what is at a path, or promises to, and gives that back. Where the rules refuse it, and something else is
+   *  there by then, it begins anew, so a rule that compares `data` with `newData` lets no two clients undo each other's writes.
+   *  Nothing is written where `change` gives undefined.
+   *  @type {(path: string, change: (value: Value) => unknown, mostTries?: number) => Promise<unknown>} */
+  async retry(path, change, mostTries = MOST_TRIES) {
+    const value = await this.get(path);
+    const next = await change(value);
+    if (next === undefined) return value;
+    const refusal = await this.set(path, next).then(() => null, (error) => error);
+    if (!refusal) return next;
+    const isDenied = refusal.code === WRITE_DENIED || refusal.code === VALIDATE_DENIED;
+    if (!isDenied || mostTries <= 1 || isSame(value, await this.get(path))) throw refusal;
+    return this.retry(path, change, mostTries - 1);
+  }
+
+  /** Which of these uids is signed in: the one that may read its place below a path, where the rules let each read its own alone,
+   *  by `"$uid": { ".read": "auth != null && auth.uid == $uid" }`. Null where none of them may, or the rules let others too.
+   *  @type {(path: string, uids: string[]) => Promise<string | null>} */
+  async whoAmI(path, uids) {
+    const keys = [newKey(), ...uids];
+    const answers = await Promise.all(keys.map((key) => this.get(`${path}/${key}`).then(() => true, falseIfDenied)));
+    const readable = keys.filter((_, at) => answers[at]);
+    return readable.length === 1 && readable[0] !== keys[0] ? readable[0] : null;
+  }
+
+  /** What the server writes when this connection ends, however it ends; after a loss it is established again, unless `again` is
+   *  false. `cancel` takes back what was to be written at this path and below.
+   *  @param {string} path @param {{ again?: boolean }} [options] */
+  onDisconnect(path, options) {
+    const again = options?.again ?? true;
     return {
       /** @type {(value: unknown) => Promise<void>} */
-      set: async (value) => void (await this.#ask({ do: "onset", path, value })),
+      set: (value) => this.#establish({ do: "onset", path, value }, again),
       /** @type {(values: Values) => Promise<void>} */
-      update: async (values) => void (await this.#ask({ do: "onupdate", path, values })),
-      remove: async () => void (await this.#ask({ do: "onremove", path })),
-      cancel: async () => void (await this.#ask({ do: "oncancel", path })),
+      update: (values) => this.#establish({ do: "onupdate", path, values }, again),
+      /** @type {() => Promise<void>} */
+      remove: () => this.#establish({ do: "onremove", path }, again),
+      /** @type {() => Promise<void>} */
+      cancel: async () => {
+        await this.#ask({ do: "oncancel", path });
+        this.#actions = this.#actions.filter((it) => !writtenBy(it).every((keys) => isWithin(keys, keysOf(path))));
+      },
     };
   }
 
@@ -442,6 +582,7 @@ export class Database {
     this.#drop();
     this.#state = "closed";
     this.#listeners.clear();
+    this.#actions = [];
     [...this.#unanswered.splice(0), ...this.#waiting.splice(0)].forEach((it) => it.reject(failure("Closed")));
     const onState = this.#onState;
     this.#onState = () => {};
@@ -454,9 +595,11 @@ export class Database {
     socket.onmessage = (event) => this.#heard(JSON.parse(event.data));
     socket.onclose = () => this.#lost(null);
     this.#socket = socket;
+    this.#timer = setTimeout(() => call(this.#onState, this.#state, failure("NoAnswer")), UNANSWERED_MS);
   }
 
   #opened() {
+    clearTimeout(this.#timer);
     this.#state = "connected";
     this.#send();
     this.#timer = setTimeout(() => this.#beat(), SILENCE_MS);
@@ -484,23 +627,41 @@ export class Database {
   #lost(error) {
     this.#drop();
     this.#state = "lost";
-    const [token, listeners, unanswered, waiting] = [this.#token, [...this.#listeners.values()], this.#unanswered, this.#waiting];
-    [this.#token, this.#unanswered, this.#waiting] = [null, [], []];
-    this.#listeners.clear();
-    if (token !== null) this.signIn(token).catch((refusal) => call(this.#onState, this.#state, refusal));
-    listeners.forEach((it) => this.#begin(it));
-    this.#waiting.push(...unanswered.filter((it) => ASKED_AGAIN.includes(it.verb)), ...waiting);
-    unanswered.filter((it) => !ASKED_AGAIN.includes(it.verb)).forEach((it) => it.reject(failure("ConnectionLost")));
+    const [unanswered, waiting] = [this.#unanswered, this.#waiting];
+    [this.#unanswered, this.#waiting] = [[], []];
+    this.#askAgain();
+    this.#waiting.push(...unanswered.filter((it) => it.again), ...waiting);
+    unanswered.filter((it) => !it.again).forEach((it) => it.reject(failure("ConnectionLost")));
     this.#timer = setTimeout(() => this.#open(), this.#pause * (0.5 + Math.random() / 2));
     this.#pause = Math.min(2 * this.#pause, LONGEST_PAUSE_MS);
     call(this.#onState, this.#state, error);
   }
 
-  /** @type {(message: Message) => Promise<Answer>} */
-  #ask(message) {
+  /** Asks a new session for what the lost one had been granted. */
+  #askAgain() {
+    const [token, actions, listeners] = [this.#token, this.#actions, [...this.#listeners.values()]];
+    [this.#token, this.#actions] = [null, []];
+    this.#listeners.clear();
+    const tell = (/** @type {RtdbError} */ refusal) => call(this.#onState, this.#state, refusal);
+    if (token !== null) this.signIn(token).catch(tell);
+    actions.forEach((it) => this.#establish(it, true).catch(tell));
+    listeners.forEach((it) => this.#begin(it));
+  }
+
+  /** The action is kept as it was when it was established, whatever the page makes of the value.
+   *  @type {(message: Message, again: boolean) => Promise<void>} */
+  async #establish(message, again) {
+    const action = JSON.parse(textOf(message));
+    await this.#ask(action, again);
+    if (again) this.#actions.push(action);
+  }
+
+  /** @param {Message} message @param {boolean} [again] whether it is asked again after a loss that came before its answer
+   *  @returns {Promise<Answer>} */
+  #ask(message, again = ASKED_AGAIN.includes(message.do)) {
     return new Promise((resolve, reject) => {
       if (this.#state === "closed") throw failure("Closed");
-      this.#waiting.push({ verb: message.do, text: textOf(message), resolve, reject });
+      this.#waiting.push({ text: textOf(message), again, resolve, reject });
       if (this.#state === "connected") this.#send();
     });
   }
