@@ -15,8 +15,9 @@
 /** @typedef {{ [path: string]: unknown }} Values */
 /** @typedef {boolean | number | string} Bound */
 /** @typedef {{ orderBy?: string, startAt?: Bound, endAt?: Bound, equalTo?: Bound, limitToFirst?: number, limitToLast?: number }} Query */
-/** @typedef {{ pattern: string, why: string }} NamedRule  why: "false" or "error" */
-/** @typedef {{ at?: string, rules?: NamedRule[], pattern?: string, why?: string, rule?: string, byte?: number, what?: string }} Reasons */
+/** @typedef {"false" | "error"} Why  a rule did not hold */
+/** @typedef {{ pattern: string, why: Why }} NamedRule */
+/** @typedef {{ at?: string, rules?: NamedRule[], pattern?: string, why?: Why, rule?: string, byte?: number, what?: string }} Reasons */
 /** @typedef {{ request?: string, member?: string, how?: string }} Findings  what this client finds: in which member of which request, and how it is wrong */
 /** @typedef {{ code: number, name: string } & Reasons & Findings} Refusal */
 /** @typedef {{ name: keyof typeof FAULT_CODES, member?: string, at?: string, how: string }} Fault */
@@ -67,7 +68,8 @@ export function connect(url, onState = () => {}) {
   return new Database(url, onState);
 }
 
-/** Stands in a written value for the moment at which the server writes it. */
+/** Stands in a written value for the moment at which the server writes it.
+ *  @type {() => { ".sv": "timestamp" }} */
 export const serverTimestamp = () => ({ ".sv": "timestamp" });
 let lastMoment = 0; // of the newest key
 
@@ -82,7 +84,7 @@ export function newKey() {
  *  faulty request, which is not sent, `member` is the faulty member, `request` what was to be done, and `how` what is wrong. */
 export class RtdbError extends Error {
   /** @param {Refusal} refusal */
-  constructor({ code, name, at, rule, rules, pattern, why = "", byte, what, request, member, how }) {
+  constructor({ code, name, at, rule, rules, pattern, why = "false", byte, what, request, member, how }) {
     super();
     this.name = name;
     this.code = code;
@@ -532,10 +534,10 @@ export class Database {
     }, onCancelled);
   }
 
-  /** Writes what `change` makes of what is at a path, or promises to, and gives that back. Where the rules refuse it, and something else is
-   *  there by then, it begins anew, so a rule that compares `data` with `newData` lets no two clients undo each other's writes.
-   *  Nothing is written where `change` gives undefined.
-   *  @type {(path: string, change: (value: Value) => unknown, mostTries?: number) => Promise<unknown>} */
+  /** Writes what `change` makes of what is at a path, or promises to make of it, and gives that back. Where the rules refuse it,
+   *  and something else is there by then, it begins anew: so clients whose writes a rule compares with what is there undo nobody
+   *  else's. Nothing is written where `change` gives undefined.
+   *  @type {(path: string, change: (value: Value) => unknown, mostTries?: number) => Promise<any>} */
   async retry(path, change, mostTries = MOST_TRIES) {
     const value = await this.get(path);
     const next = await change(value);
