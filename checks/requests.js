@@ -4,12 +4,13 @@
 
 const text = (length) => "x".repeat(length);
 const keys = (count) => Array.from({ length: count }, (_, at) => `k${at}`);
-const pathOfKeys = (count) => `/${keys(count).join("/")}`;
+const pathOfKeys = (count) => pathOf(keys(count));
 /** A value below so many keys. */
 const below = (count, value) => keys(count).reduceRight((it, key) => ({ [key]: it }), value);
 /** A value in so many arrays. */
 const nested = (count, value) => Array.from({ length: count }).reduce((it) => [it], value);
 const objects = (count) => Array.from({ length: count }).reduce((it) => ({ a: it }), {});
+const pathOf = (them) => `/${them.join("/")}`;
 const now = { ".sv": "timestamp" };
 const set = (path, value) => ({ do: "set", path, value });
 const update = (path, values) => ({ do: "update", path, values });

@@ -268,15 +268,16 @@ function unsayableIn(message) {
     const how = wrongInSayable(value);
     if (how === null) continue;
     if (member === "query") return { name: "BadQuery", member: ["query", ...keys].join("."), how };
-    const isValue = member === "value" || member === "values";
-    return { name: isValue ? "BadValue" : "BadRequest", member, at: isValue ? placeBelow(message.path, keys) : undefined, how };
+    if (member !== "value" && member !== "values") return { name: "BadRequest", member, how };
+    const advice = value === undefined ? ": leave it out, or write null to remove what is there" : "";
+    return { name: "BadValue", member, at: placeBelow(message.path, keys), how: how + advice };
   }
   return null;
 }
 
 /** @type {(value: unknown) => string | null} */
 function wrongInSayable(value) {
-  if (value === undefined) return "undefined is no value: leave it out, or write null to remove what is there";
+  if (value === undefined) return "undefined is no value";
   if (["function", "symbol", "bigint"].includes(typeof value)) return `a ${typeof value} is no value`;
   if (typeof value === "number" && !Number.isFinite(value)) return `${value} is no value: numbers are whole`;
   if (!isObject(value) || Array.isArray(value)) return null;
