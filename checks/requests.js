@@ -222,6 +222,43 @@ const GOOD = [
   { do: "signout" },
 ];
 
+// Requests at random: often faulty, often in several ways, of which the server names the first.
+const pick = (list) => list[Math.floor(Math.random() * list.length)];
+const several = (most, one) => Array.from({ length: Math.floor(Math.random() * (most + 1)) }, one);
+const ODD_KEYS = ["a.b", "$x", "", "#", "\u0007", "x/y", "ß", ".sv", text(768), text(769), "\ud834", "𝄞", "-1", "0", "k1"];
+const ODD_VALUES = [1.5, MOST + 1, MOST, "\udd1e", text(65_536), text(65_537), { ".sv": "x" }, { ".sv": "timestamp", a: null }, [], -1];
+const ODD_PATHS = [pathOfKeys(31), pathOfKeys(32), pathOfKeys(33), 5, null, {}, ["a"]];
+const QUERY_MEMBERS = {
+  orderBy: ["$key", "$value", "a", "a/b", "", "/", "$x", 5, "a.b", pathOfKeys(32), pathOfKeys(33)],
+  startAt: ["a", 5, true, null, 1.5, {}, [], MOST + 1, text(65_537), "\ud834"],
+  endAt: ["a", 5, false, null, -0.5],
+  equalTo: ["a", 5, true, null],
+  limitToFirst: [1, 5, 1_000, 1_001, 0, -1, 1.5, "5", null],
+  limitToLast: [1, 1_000, 0, 2],
+  limit: [1],
+};
+
+const randomKey = () => (Math.random() < 0.8 ? pick(["a", "b", "c"]) : pick(ODD_KEYS));
+const randomPath = () => (Math.random() < 0.1 ? pick(ODD_PATHS) : several(3, randomKey).join("/"));
+const randomQuery = () => Object.fromEntries(several(3, () => pick(Object.keys(QUERY_MEMBERS))).map((name) => [name, pick(QUERY_MEMBERS[name])]));
+const randomValues = () => Object.fromEntries(several(3, () => [String(randomPath()), randomValue(2)]));
+
+function randomValue(depth) {
+  const kind = Math.random();
+  if (depth === 0 || kind < 0.5) return Math.random() < 0.6 ? pick([0, "t", true, null, now, {}]) : pick(ODD_VALUES);
+  if (kind < 0.65) return several(2, () => randomValue(depth - 1));
+  if (kind < 0.75) return below(pick([28, 29, 30, 31, 32, 33, 125, 126]), randomValue(1));
+  return Object.fromEntries(several(2, () => [randomKey(), randomValue(depth - 1)]));
+}
+
+function randomRequest() {
+  const request = { do: pick(["set", "update", "get", "remove", "onset", "onupdate"]), path: randomPath() };
+  if (request.do.endsWith("set")) request.value = randomValue(3);
+  if (request.do.endsWith("update")) request.values = Math.random() < 0.9 ? randomValues() : pick([null, 5, "a", [1]]);
+  if (request.do === "get" && Math.random() < 0.9) request.query = Math.random() < 0.9 ? randomQuery() : pick([5, "a", [1]]);
+  return request;
+}
+
 const ring = { b: {} };
 ring.b.c = ring;
 const holes = [1, 2];
