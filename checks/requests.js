@@ -114,8 +114,9 @@ const BAD = [
   [get("/a", "b"), "query", undefined, "is no object"],
   [get("/a", [1]), "query", undefined, "is no object"],
   [get("/a.", 7), "query", undefined, "7 is no object"],
-  [{ do: "signin", token: 5 }, "token", undefined, "5 is no text"],
-  [{ do: "signin", token: null }, "token", undefined, "null is no text"],
+  [{ do: "signin", token: 5 }, "token", undefined, "the secret is no text"],
+  [{ do: "signin", token: null }, "token", undefined, "the secret is no text"],
+  [{ do: "signin", token: "mine\ud834" }, "token", undefined, "the secret has half"],
   [{ do: "deploy", rules: { rules: {} } }, "rules", undefined, "is no text"],
   [{ do: "deploy", rules: "\ud834" }, "rules", undefined, "UTF-16"],
   // Updates.

@@ -141,8 +141,9 @@ const keysOf = (path) => path.split("/").filter(Boolean);
 const pathOf = (keys) => `/${keys.join("/")}`;
 /** @type {(value: unknown) => value is { [key: string]: unknown }} */
 const isObject = (value) => typeof value === "object" && value !== null;
+const encoder = new TextEncoder();
 /** @type {(text: string) => number} */
-const bytesOf = (text) => new TextEncoder().encode(text).length;
+const bytesOf = (text) => encoder.encode(text).length;
 /** @type {(value: unknown) => boolean} */
 const isTimestamp = (value) => isObject(value) && value[".sv"] === "timestamp" && Object.keys(value).length === 1;
 /** @type {(value: unknown) => boolean} whether a value is at a place, and not below it */
@@ -165,7 +166,7 @@ function* placesIn(value) {
     yield place;
     const [keys, it] = place;
     if (!isObject(it) || isTimestamp(it) || keys.length > MOST_NESTING) continue;
-    left.push(...keysIn(it).reverse().map((key) => /** @type {Place} */ ([[...keys, key], it[key]])));
+    for (const key of keysIn(it).reverse()) left.push([[...keys, key], it[key]]);
   }
 }
 
@@ -301,7 +302,7 @@ function textFault(message) {
     const fault = { name: /** @type {const} */ ("BadJson"), member: keys[0] };
     if (isObject(value) && keys.length >= MOST_NESTING) return { ...fault, how: `objects nest more than ${MOST_NESTING} deep in it` };
     const broken = [value, keys.at(-1)].find((it) => typeof it === "string" && /\p{Surrogate}/u.test(it));
-    if (broken !== undefined) return { ...fault, how: `${shown(broken)} has half of a UTF-16 pair` };
+    if (broken !== undefined) return { ...fault, how: `${shownOf(keys[0], broken)} has half of a UTF-16 pair` };
   }
   return null;
 }
@@ -322,11 +323,15 @@ function shown(value) {
   return text.length <= 60 ? text : `${text.slice(0, 50)}..${text.slice(-1)}`;
 }
 
+/** A value of a member; of a secret nothing is said, since errors are shown and kept.
+ *  @type {(member: string, value: unknown) => string} */
+const shownOf = (member, value) => (member === "token" ? "the secret" : shown(value));
+
 /** The members that are not of their kind.
  *  @type {(message: Message) => Fault | null} */
 function shapeFault(message) {
   const wrongText = ["path", "token", "rules"].find((it) => it in message && typeof message[it] !== "string");
-  if (wrongText) return { name: "BadRequest", member: wrongText, how: `${shown(message[wrongText])} is no text` };
+  if (wrongText) return { name: "BadRequest", member: wrongText, how: `${shownOf(wrongText, message[wrongText])} is no text` };
   const wrongObject = ["values", "query"].find((it) => it in message && (!isObject(message[it]) || Array.isArray(message[it])));
   return wrongObject ? { name: "BadRequest", member: wrongObject, how: `${shown(message[wrongObject])} is no object` } : null;
 }
