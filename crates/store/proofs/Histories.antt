@@ -28,14 +28,16 @@ replay_run (e ∷ es) (c ∷ cs) [] old new text are all run = absurd run
 replay_run (e ∷ es) (c ∷ cs) (r ∷ rs) old new text are all run =
     let deployed = are.0.0 in
     let next = text_behind text deployed in
-    let rest = replay_run es cs rs run.0 new next are.1 all.1 run.2 in
-    (rest.0, (
-      call c deployed,
-      opened next run.0,
-      are.0.1,
-      record { text = text; state = old; reply = r; left = run.0; is_before = refl; step = run.1; effective = all.0; is_after = refl },
-      rest.1,
-    ))
+    let rest = replay_run es cs rs run.0 new next are.1 all.1 run.2 in (
+      rest.0,
+      (
+        call c deployed,
+        opened next run.0,
+        are.0.1,
+        record { text = text; state = old; reply = r; left = run.0; is_before = refl; step = run.1; effective = all.0; is_after = refl },
+        rest.1,
+      ),
+    )
 
 all_change : (calls : List Call) (replies : List Reply) → AllChange (changing calls replies) (effective calls replies)
 all_change [] replies = none replies
@@ -81,7 +83,11 @@ parts old new (c ∷ cs) (r ∷ rs) (e ∷ front) back run are =
     by_change true is kept one other =
         let rest = one kept.1 in
         record {
-          earlier = c ∷ rest.earlier; later = rest.later; answered = r ∷ rest.answered; unanswered = rest.unanswered; left = rest.left;
+          earlier = c ∷ rest.earlier;
+          later = rest.later;
+          answered = r ∷ rest.answered;
+          unanswered = rest.unanswered;
+          left = rest.left;
           calls_are = ap (λ l. c ∷ l) rest.calls_are;
           replies_are = ap (λ l. r ∷ l) rest.replies_are;
           run = (run.0, run.1, rest.run);
@@ -90,7 +96,11 @@ parts old new (c ∷ cs) (r ∷ rs) (e ∷ front) back run are =
     by_change false is kept one other =
         let rest = other kept in
         record {
-          earlier = c ∷ rest.earlier; later = rest.later; answered = r ∷ rest.answered; unanswered = rest.unanswered; left = rest.left;
+          earlier = c ∷ rest.earlier;
+          later = rest.later;
+          answered = r ∷ rest.answered;
+          unanswered = rest.unanswered;
+          left = rest.left;
           calls_are = ap (λ l. c ∷ l) rest.calls_are;
           replies_are = ap (λ l. r ∷ l) rest.replies_are;
           run = (run.0, run.1, rest.run);
@@ -105,7 +115,14 @@ beginning old new state calls replies front back text behind run are replayed =
     let leads = history_leads old at.left at.earlier at.answered front text at.run at.kept_are in
     let same = replays_one front (opened text (without_listeners old)) (opened behind state) (opened leads.0 (without_listeners at.left)) replayed leads.1 in
     record {
-      earlier = at.earlier; later = at.later; answered = at.answered; unanswered = at.unanswered; left = at.left;
-      calls_are = at.calls_are; replies_are = at.replies_are; run = at.run; kept_are = at.kept_are;
+      earlier = at.earlier;
+      later = at.later;
+      answered = at.answered;
+      unanswered = at.unanswered;
+      left = at.left;
+      calls_are = at.calls_are;
+      replies_are = at.replies_are;
+      run = at.run;
+      kept_are = at.kept_are;
       state_is = (same_opened behind leads.0 state (without_listeners at.left) same).1;
     }

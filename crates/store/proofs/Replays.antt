@@ -33,7 +33,7 @@ wants_none event reply changed wants = false≢true (sym (changes_refused event 
 pub one_step : (old new other : State) (now number : ℕ) (event : Event) (reply another : Reply) → Step old now number event reply new → Step old now number event another other → changes event reply ≡ true → changes event another ≡ true → (reply ≡ another) × (new ≡ other)
 one_step old new other now number event reply another step twin one two =
     let ends = one_end old new other (record { now = now; session = number; event = event } ∷ []) (reply ∷ []) (another ∷ []) (new, step, refl) (other, twin, refl)
-        ((λ wants. absurd (wants_none event reply one wants), λ wants. absurd (wants_none event another two wants)), tt) in
+    ((λ wants. absurd (wants_none event reply one wants), λ wants. absurd (wants_none event another two wants)), tt) in
     (first_of reply another ends.0, ends.1)
   where
     first_of : (x y : Reply) → x ∷ [] ≡ y ∷ [] → x ≡ y
