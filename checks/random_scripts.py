@@ -68,6 +68,11 @@ LEAVING = {
     "open": 1, "close": 1, "signin": 4, "signout": 4, "get": 8, "set": 10, "remove": 2, "update": 3, "listen": 8, "unlisten": 1,
     "poll": 10, "tick": 1, "deploy": 5, "onset": 20, "onremove": 4, "onupdate": 8, "oncancel": 4, "leave": 5, "runnext": 2,
 }
+# Where a database is kept, most of what is asked for changes something.
+KEEPING = {
+    "open": 3, "close": 2, "signin": 8, "signout": 2, "get": 1, "set": 26, "remove": 4, "update": 10, "listen": 2, "unlisten": 1,
+    "poll": 1, "tick": 1, "deploy": 6, "onset": 12, "onremove": 4, "onupdate": 6, "oncancel": 3, "leave": 4, "runnext": 3,
+}
 
 
 class Mood:
@@ -76,6 +81,11 @@ class Mood:
 
     verbs, grants, plain = MIXED, 0.25, 0.3
     patterns = [[]]
+
+
+def sessions_leave():
+    """Whether other rules shall come into force before the actions of sessions are run."""
+    return Mood.verbs is LEAVING or Mood.verbs is KEEPING
 
 
 # ---- JSON as it is spelled
@@ -483,8 +493,9 @@ def rules_text(style):
         # (a file under which most is granted, so that other things are tried)
         reads = dice.choice([True, True, boolean(1, Place(".read", [])), small_test(Place(".read", []))])
         writes = True
-        if Mood.verbs is LEAVING:
-            reads, writes = dice.choice([reads, *PASSING]), dice.choice([writes, *PASSING])
+        if sessions_leave():
+            grants = [True] * (1 if Mood.verbs is LEAVING else 12)
+            reads, writes = dice.choice([reads, *PASSING]), dice.choice([*grants, *PASSING])
         top.pairs = [*[it for it in top.pairs if it[0] not in (".read", ".write")], (".read", reads), (".write", writes)]
     if chance(style.shapes / 4):
         top = chain(dice.choice([31, 32, 33]))
@@ -663,8 +674,7 @@ def members_of(it):
     if it == "unlisten":
         return [("id", name())]
     if it == "deploy":
-        # (where sessions leave, other rules shall come into force before their actions are run)
-        sound = Mood.verbs is LEAVING and chance(0.7)
+        sound = sessions_leave() and chance(0.7)
         return [("rules", rules_text(SOUND if sound else dice.choice([SOUND, SOUND, WRONG, WRONG, ODD])))]
     return []
 
@@ -846,3 +856,11 @@ def script(seed, number):
     Mood.patterns = [[]]
     ends = dice.choice([b"\n", b"\n", b"\n", b"\r\n"])
     return ends.join([header(), *requests()]) + dice.choice([b"", b"\n", b"\n", b"\n\n"])
+
+
+def kept_script(seed, number):
+    """The bytes of a script of which most requests are granted and change something."""
+    dice.seed(f"kept {seed}/{number}")
+    Mood.verbs, Mood.grants, Mood.plain = KEEPING, 0.95, 0.7
+    Mood.patterns = [[]]
+    return b"\n".join([header(), *requests()])

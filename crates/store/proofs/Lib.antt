@@ -2,5 +2,12 @@ pub mod Stages
 pub mod Replays
 pub mod Histories
 pub mod Crashes
+pub mod Departures
 pub mod RulesTexts
 pub mod Silent
+pub mod Taking
+pub mod Beginning
+pub mod Making
+pub mod Snapping
+pub mod Steps
+pub mod Recoveries
