@@ -1,5 +1,7 @@
 //! Recovers a database from a file that a crash may have left.
-ghost use Rattle.std.specs.Prelude.{◌≡◌, ℕ, List, [], IfOk, IfErr, string_bytes};
+ghost use Rattle.std.specs.Prelude.{◌≡◌, ℕ, List, [], length, IfOk, IfErr, IsErrOf, IsTrue, string_bytes};
+ghost use Rattle.journal.specs.Format.{first_line};
+ghost use Rattle.journal.specs.Recovery.{Begins};
 ghost use Rattle.disk.specs.Disk.{Just, AtAnyMoment};
 ghost use Rattle.journal.specs.Found.{OnlyReads};
 ghost use Rattle.journal.specs.Recovering.{RecoversTheSame};
@@ -33,6 +35,9 @@ pub fn recover_database<D: Disk>(alloc: Global, disk: &mut D) -> Result<Recovere
     ensures any_moment { (file : List ℕ) → D.holds disk.old file → Just file (D.may_leave disk.old)
         → AtAnyMoment D.moment D.left_since disk.old disk.new (RecoversTheSame file) }
     ensures named { (file : List ℕ) → D.holds disk.old file → Just file (D.may_leave disk.old) → IfErr result (IsFaultOf file) }
+    ensures failed { IsErrOf result (RecoveryFault.File RecoverError.Failed) → IsTrue (D.has_failed disk.new) }
+    ensures no_journal { (file : List ℕ) → D.holds disk.old file → IsErrOf result (RecoveryFault.File RecoverError.NotAJournal) → (identifier : List ℕ) → length identifier ≡ 16 → Begins (first_line identifier) file → ⊥ }
+    ensures never_stopped { IsErrOf result (RecoveryFault.File RecoverError.Stopped) → ⊥ }
     ensures left { IfErr result (λ fault. (fault ≡ RecoveryFault.File RecoverError.Failed → ⊥) → (fault ≡ RecoveryFault.NoDatabase → ⊥) → OnlyReads D.holds D.may_leave D.moment D.left_since disk.old disk.new) }
 {
     let mut replayer = Replayer::new(alloc);
