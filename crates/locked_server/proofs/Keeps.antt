@@ -20,7 +20,7 @@ use Rattle.locked_server.specs.declared.content.Content.{Content}
 use Rattle.locked_server.specs.declared.view.View.{View}
 use Rattle.locked_server.specs.declared.view.Stage.{Stage}
 use Rattle.locked_server.specs.declared.view.Stage.TheVariants.{Resting, Waiting, Serving, Joined}
-use Rattle.locked_server.specs.History.{is_in, calls_of, Leaves}
+use Rattle.locked_server.specs.History.{is_in, calls_of, changes_in, Leaves}
 use Rattle.locked_server.specs.Working.Rule.{is_serving, is_joined, ticket_of, part, empty_part, view_with, first_view, at_rest, emptied, unnumbered, with_other, entry_of, AreBelow, PartFits, StageFits, ViewFits, SlotFits, IsKept, IsNumbered, HasLooked, HasDrawn, HasWatched, HasEntered}
 use Rattle.locked_server.proofs.Lists.{prefix_self, prefix_longer, either_true, is_in-append, calls_of-other, calls_of-none, below_prefix, below_more, below_snoc, calls_of-new}
 use Rattle.locked_server.proofs.Histories.{stands}
@@ -73,14 +73,14 @@ turn_below log t holder j seen Serving h f = f
 turn_below log t holder j seen Joined h f = absurd (cc h)
 
 -- where the slot is out, it is so with the same seat after a step of one that has it not
-slot_stays : (homes : List (maybe.Option (Option Content))) (left : State) (vs : List View) (turn id : ℕ) (v w : View) → get_elem? vs id ≡ some v → is_serving v.stage ≡ false → SlotFits homes left vs turn → SlotFits homes left (set vs id w) turn
-slot_stays homes left vs turn id v w at idle h = ⊎_elim inl
+slot_stays : (homes : List (maybe.Option (Option Content))) (left : State) (count : ℕ) (vs : List View) (turn id : ℕ) (v w : View) → get_elem? vs id ≡ some v → is_serving v.stage ≡ false → SlotFits homes left count vs turn → SlotFits homes left count (set vs id w) turn
+slot_stays homes left count vs turn id v w at idle h = ⊎_elim inl
     (λ (o : (homes ≡ none ∷ []) × ((u : View) × (get_elem? vs turn ≡ some u) × (is_serving u.stage ≡ true))).
     let other : turn ≢ id = λ e. let same : v ≡ o.1.0 = some-injective v o.1.0 (sym at ∙ ap (get_elem? vs) (sym e) ∙ o.1.1) in absurd (cc (idle, o.1.2, ap (λ (u : View). is_serving u.stage) same)) in
     inr (o.0, (o.1.0, set_else vs id turn w other ∙ o.1.1, o.1.2))) h
 
-put_home : (homes : List (maybe.Option (Option Content))) (x : Option Content) (left : State) (vs : List View) (turn : ℕ) → SlotFits homes left vs turn → set homes 0 (some x) ≡ some x ∷ []
-put_home homes x left vs turn h = ⊎_elim (λ (o : (d : Content) × (homes ≡ some (Some d) ∷ []) × (d.core ≡ left)). ap (λ hs. set hs 0 (some x)) o.1)
+put_home : (homes : List (maybe.Option (Option Content))) (x : Option Content) (left : State) (count : ℕ) (vs : List View) (turn : ℕ) → SlotFits homes left count vs turn → set homes 0 (some x) ≡ some x ∷ []
+put_home homes x left count vs turn h = ⊎_elim (λ (o : (d : Content) × (homes ≡ some (Some d) ∷ []) × (d.core ≡ left) × (d.changes ≡ count)). ap (λ hs. set hs 0 (some x)) o.1)
     (λ (o : (homes ≡ none ∷ []) × ((u : View) × (get_elem? vs turn ≡ some u) × (is_serving u.stage ≡ true))). ap (λ hs. set hs 0 (some x)) o.0) h
 
 module _ (c : State) where
@@ -110,7 +110,7 @@ module _ (c : State) where
     run = r.run;
     words = set-get_or s.words 0 0 ∙ r.words;
     ordered = r.ordered;
-    slot = slot_stays s.homes r.left s.views (r.holder (length r.log)) id me.0 w at idle r.slot;
+    slot = slot_stays s.homes r.left (changes_in r.log) s.views (r.holder (length r.log)) id me.0 w at idle r.slot;
     numbered = below_more r.next next r.log le r.numbered;
     each_seat = seats_stay (ViewFits c r.log next r.tickets owner r.holder) s.views id w mine (λ j v ne e. others j v ne (r.each_seat j v e));
   }
@@ -197,8 +197,8 @@ module _ (c : State) where
       )
 
   -- a new table, with the database in its slot
-  pub opens : (x : Content) → x.core ≡ c → Rule (opening (0 ∷ 0 ∷ []) (Some x ∷ []) (first_view c))
-  opens x is = record {
+  pub opens : (x : Content) → x.core ≡ c → x.changes ≡ 0 → Rule (opening (0 ∷ 0 ∷ []) (Some x ∷ []) (first_view c))
+  opens x is none_yet = record {
     log = [];
     left = c;
     next = 1;
@@ -208,7 +208,7 @@ module _ (c : State) where
     run = stands c;
     words = refl;
     ordered = le_refl 0;
-    slot = inl (x, refl, is);
+    slot = inl (x, refl, is, none_yet);
     numbered = tt;
     each_seat = λ j v e. let o = only (first_view c) v j e in subst (λ (z : ℕ × View). ViewFits c [] 1 0 (λ _. (0, true)) (λ _. 0) z.0 z.1) (λ i. (sym o.0 i, o.1 i)) record {
       opens = λ _. refl;
@@ -227,14 +227,14 @@ module _ (c : State) where
 
   -- who has the slot out is the holder of its ticket, also where one ticket more is drawn
   out_before : (s : St) (r : Rule s) (id : ℕ) (w : View) (me : M) → get_elem? s.views id ≡ some me.0 → me.0.stage ≡ Resting → (holder : ℕ → ℕ) → ((k : ℕ) → k < r.tickets → holder k ≡ r.holder k)
-      → SlotFits s.homes r.left (set s.views id w) (holder (length r.log))
+      → SlotFits s.homes r.left (changes_in r.log) (set s.views id w) (holder (length r.log))
   out_before s r id w me at idle holder before =
       let len : ℕ = length r.log in
-      let h = slot_stays s.homes r.left s.views (r.holder len) id me.0 w at (ap is_serving idle) r.slot in
+      let h = slot_stays s.homes r.left (changes_in r.log) s.views (r.holder len) id me.0 w at (ap is_serving idle) r.slot in
       ⊎_elim inl (λ (o : (s.homes ≡ none ∷ []) × ((u : View) × (get_elem? s.views (r.holder len) ≡ some u) × (is_serving u.stage ≡ true))).
       let f = r.each_seat (r.holder len) o.1.0 o.1.1 in
       let b = turn_below r.log r.tickets r.holder (r.holder len) o.1.0.first.seen o.1.0.stage o.1.2 f.stage in
-      subst (SlotFits s.homes r.left (set s.views id w)) (sym (before len b.1)) h) r.slot
+      subst (SlotFits s.homes r.left (changes_in r.log) (set s.views id w)) (sym (before len b.1)) h) r.slot
 
   pub takes_ticket : (slots id old : ℕ) (me : M) → me.0.stage ≡ Resting → Allows Rule slots id me 1 (λ n. either (eqb n old) (old + 1) n) (HasDrawn (step slots 1 old (old + 1) none) me)
   takes_ticket slots id old me idle s r _ at _ =
@@ -286,7 +286,7 @@ module _ (c : State) where
       dite (ℕ_discrete len t)
       (λ hit. let mine_turn : r.holder len ≡ id = ap r.holder hit ∙ st.0 in
       ⊎_elim
-      (λ (o : (d : Content) × (s.homes ≡ some (Some d) ∷ []) × (d.core ≡ r.left)).
+      (λ (o : (d : Content) × (s.homes ≡ some (Some d) ∷ []) × (d.core ≡ r.left) × (d.changes ≡ changes_in r.log)).
       let w : View = view_with me.0.opening r.log me.0.first.numbers empty_part Serving in (
         w,
         takes 0 (Some o.0),
@@ -319,6 +319,7 @@ module _ (c : State) where
             slot = refl;
             long = sym (found_is s r);
             leaves = subst (λ (z : State × State). Leaves z.0 r.log z.1) (λ i. (sym opened i, sym o.2 i)) r.run;
+            counted = o.3;
             begins = mine.first.begins;
             whole = mine.first.whole;
           }),
@@ -339,8 +340,8 @@ module _ (c : State) where
 
   -- the add makes the call the last entry of the history, and gives the slot home
   pub serves : (slots id n : ℕ) (me : M) (x : Content) (k : LastCall) → me.0 ≡ view_with me.0.opening me.0.first.seen me.0.first.numbers empty_part Serving → me.1 ≡ (0, Some x) ∷ [] → x.last ≡ Some k → IsTrue (is_in me.0.first.numbers n)
-      → length me.0.first.seen < 2 ^ 62 → Leaves me.0.opening (me.0.first.seen ++ entry_of n k ∷ []) x.core → Allows Rule slots id me 0 (λ y. (y + 1) % 2 ^ 64) (HasEntered (step slots 0 1 0 none) me)
-  serves slots id n me x k is carried called own few leaves s r _ at _ =
+      → length me.0.first.seen < 2 ^ 62 → Leaves me.0.opening (me.0.first.seen ++ entry_of n k ∷ []) x.core → x.changes ≡ changes_in (me.0.first.seen ++ entry_of n k ∷ []) → Allows Rule slots id me 0 (λ y. (y + 1) % 2 ^ 64) (HasEntered (step slots 0 1 0 none) me)
+  serves slots id n me x k is carried called own few leaves counts s r _ at _ =
       let mine = r.each_seat id me.0 at in
       let opened : me.0.opening ≡ c = mine.opens (ap (λ (v : View). is_joined v.stage) is) in
       let len : ℕ = length r.log in
@@ -371,7 +372,7 @@ module _ (c : State) where
           run = subst (λ (z : State × List Entry). Leaves z.0 z.1 x.core) (λ i. (opened i, here i)) leaves;
           words = ap₂ (λ (ws : List ℕ) (y : ℕ). set ws 0 y) r.words (counted ∙ sym longer);
           ordered = omega (arith, longer);
-          slot = inl (x, ap (put_back s.homes) carried ∙ put_home s.homes (Some x) r.left s.views (r.holder len) r.slot, refl);
+          slot = inl (x, ap (put_back s.homes) carried ∙ put_home s.homes (Some x) r.left (changes_in r.log) s.views (r.holder len) r.slot, refl, counts ∙ ap changes_in here);
           numbered = below_snoc r.next r.log e n_below r.numbered;
           each_seat = seats_stay (ViewFits c log r.next r.tickets r.owner r.holder) s.views id w
               record {
@@ -442,8 +443,8 @@ module _ (c : State) where
         run = r.run;
         words = r.words;
         ordered = r.ordered;
-        slot = slot_stays s.homes r.left (set s.views id both) (r.holder (length r.log)) other w emptied at' (ap is_serving idle')
-            (slot_stays s.homes r.left s.views (r.holder (length r.log)) id v both at (ap is_serving idle) r.slot);
+        slot = slot_stays s.homes r.left (changes_in r.log) (set s.views id both) (r.holder (length r.log)) other w emptied at' (ap is_serving idle')
+            (slot_stays s.homes r.left (changes_in r.log) s.views (r.holder (length r.log)) id v both at (ap is_serving idle) r.slot);
         numbered = r.numbered;
         each_seat = seats_stay K (set s.views id both) other emptied
             record { opens = λ live. absurd (cc live); first = empty_fits r.log r.next owner (other, true) [] (r.log, refl); second = empty_fits r.log r.next owner (other, false) [] (r.log, refl); stage = tt }

@@ -1,5 +1,6 @@
 pub mod Lists
 pub mod Histories
+pub mod Changes
 pub mod Judging
 pub mod Running
 pub mod Keeps

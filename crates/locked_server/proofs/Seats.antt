@@ -41,7 +41,7 @@ has_database m0 m1 m2 t n none_held same ticket few has turn =
     let opens : m2.0.opening ≡ m0.0.opening = ap (λ (v : View). v.opening) u.is in
     let numbers : m2.0.first.numbers ≡ m0.0.first.numbers = ap (λ (v : View). v.first.numbers) u.is in (
       u.is ∙ ap₂ (λ (o : State) (ns : List ℕ). view_with o m2.0.first.seen ns empty_part Serving) (sym opens) (sym numbers),
-      (u.content, u.slot, u.leaves),
+      (u.content, u.slot, u.leaves, u.counted),
       subst (λ (k : ℕ). k < 2 ^ 62) (sym u.long) few,
       (n, subst (λ (ns : List ℕ). IsTrue (is_in ns n)) (sym numbers) has),
     )

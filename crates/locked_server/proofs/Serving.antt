@@ -11,7 +11,7 @@ use Rattle.locked_server.specs.declared.content.LastCall.{LastCall}
 use Rattle.locked_server.specs.declared.content.Content.{Content}
 use Rattle.locked_server.specs.declared.view.View.{View}
 use Rattle.locked_server.specs.declared.view.Stage.TheVariants.{Serving}
-use Rattle.locked_server.specs.History.{is_in, calls_of, Leaves}
+use Rattle.locked_server.specs.History.{is_in, calls_of, changes_in, Leaves}
 use Rattle.locked_server.specs.Working.Rule.{at_rest, view_with, empty_part, entry_of, with_ticket, Turn, IsKept, HasEntered}
 use Rattle.locked_server.proofs.Lists.{calls_of-snoc}
 use Rattle.locked_server.proofs.Histories.{goes_on}
@@ -26,18 +26,19 @@ exchanged_twice me m n x y z p q r = r ∙ ap₂ (λ (v : View) (l : List (ℕ �
 
 pub serves_as : (c : State) (slots id n : ℕ) (me : Me (Option Content) View) (v : View) (x : Content) (a : LastCall) (d : State) → me ≡ (v, (0, Some x) ∷ [])
     → v ≡ view_with v.opening v.first.seen v.first.numbers empty_part Serving → x.last ≡ Some a → IsTrue (is_in v.first.numbers n) → length v.first.seen < 2 ^ 62
-    → Leaves v.opening v.first.seen d → Step d a.now a.session a.event.value a.reply.value x.core → DeploysFile a.event.value
+    → Leaves v.opening v.first.seen d → Step d a.now a.session a.event.value a.reply.value x.core → DeploysFile a.event.value → ((i : ℕ) → x.changes ≡ changes_in (v.first.seen ++ entry_of i a ∷ []))
     → Allows (IsKept c) slots id me 0 (λ y. (y + 1) % 2 ^ 64) (HasEntered (step slots 0 1 0 none) me)
-serves_as c slots id n me v x a d e is called own few leaves stepped files =
+serves_as c slots id n me v x a d e is called own few leaves stepped files counts =
     subst (λ (m : Me (Option Content) View). Allows (IsKept c) slots id m 0 (λ y. (y + 1) % 2 ^ 64) (HasEntered (step slots 0 1 0 none) m)) (sym e)
-    (serves c slots id n (v, (0, Some x) ∷ []) x a is refl called own few (goes_on v.opening v.first.seen d (entry_of n a) x.core leaves stepped files))
+    (serves c slots id n (v, (0, Some x) ∷ []) x a is refl called own few (goes_on v.opening v.first.seen d (entry_of n a) x.core leaves stepped files) (counts n))
 
 pub has_served : (me me' : Me (Option Content) View) (v : View) (x : Content) (a : LastCall) (d : State) (found : ℕ) (slots : ℕ) → me ≡ (v, (0, Some x) ∷ []) → x.last ≡ Some a
-    → Leaves v.opening v.first.seen d → Step d a.now a.session a.event.value a.reply.value x.core → DeploysFile a.event.value → HasEntered (step slots 0 1 0 none) me found me'
-    → (n : ℕ) × IsTrue (is_in v.first.numbers n) × (me' ≡ (at_rest v.opening (v.first.seen ++ entry_of n a ∷ []) v.first.numbers, [])) × ((f : State) × Leaves v.opening (v.first.seen ++ entry_of n a ∷ []) f)
-has_served me me' v x a d found slots e called leaves stepped files told =
+    → Leaves v.opening v.first.seen d → Step d a.now a.session a.event.value a.reply.value x.core → DeploysFile a.event.value → ((i : ℕ) → x.changes ≡ changes_in (v.first.seen ++ entry_of i a ∷ [])) → HasEntered (step slots 0 1 0 none) me found me'
+    → (n : ℕ) × IsTrue (is_in v.first.numbers n) × (me' ≡ (at_rest v.opening (v.first.seen ++ entry_of n a ∷ []) v.first.numbers, [])) × ((f : State) × Leaves v.opening (v.first.seen ++ entry_of n a ∷ []) f) × (x.changes ≡ changes_in me'.0.first.seen)
+has_served me me' v x a d found slots e called leaves stepped files counts told =
     let t = subst (λ (m : Me (Option Content) View). HasEntered (step slots 0 1 0 none) m found me') e told in
-    (t.0, t.1, t.2 x a refl called, (x.core, goes_on v.opening v.first.seen d (entry_of t.0 a) x.core leaves stepped files))
+    let after = t.2 x a refl called in
+    (t.0, t.1, after, (x.core, goes_on v.opening v.first.seen d (entry_of t.0 a) x.core leaves stepped files), counts t.0 ∙ ap (λ (m : Me (Option Content) View). changes_in m.0.first.seen) (sym after))
 
 -- a ticket, a turn and an entry are a call that was made
 pub makes : (m0 m1 m2 m3 : Me (Option Content) View) (t : ℕ) (e : Entry) → m1.0 ≡ with_ticket m0.0 t → Turn m1 m2 t → IsTrue (is_in m2.0.first.numbers e.seat)

@@ -1,9 +1,10 @@
 -- Histories: the calls that a hall has answered, one after another.
-use Rattle.std.specs.Prelude.{◌≡◌, ℕ, Bool, false, ◌==◌, ◌||◌, List, [], ◌∷◌, map, filter, ◌⊎◌}
+use Rattle.std.specs.Prelude.{◌≡◌, ℕ, Bool, false, ◌==◌, ◌||◌, List, [], ◌∷◌, length, map, filter, ◌⊎◌}
 use Rattle.rtdb_model.specs.declared.reply.Reply.{Reply}
 use Rattle.rtdb_model.specs.State.{State, identity_of}
 use Rattle.rtdb_model.specs.Step.{Call, Run}
 use Rattle.rtdb_model.specs.Headline.{rules_after, identity_after, DeployFiles, IsJudged}
+use Rattle.rtdb_laws.specs.Effects.{changing}
 use Rattle.locked_server.specs.declared.entry.Entry.{Entry}
 
 -- what was asked, with its moment and its session
@@ -21,6 +22,16 @@ Leaves opening history left = Run opening (map call_of history) (map reply_of hi
 -- a legal history from this state: one that leaves some state
 abbrev pub IsLegal : State → List Entry → Type 0
 IsLegal opening history = (left : State) × Leaves opening history left
+
+-- ---- what they change
+
+-- the calls of these entries that may have changed more than listeners, in their order
+abbrev pub changed_in : List Entry → List Call
+changed_in entries = changing (map call_of entries) (map reply_of entries)
+
+-- how many those are
+abbrev pub changes_in : List Entry → ℕ
+changes_in entries = length (changed_in entries)
 
 -- ---- whose calls they are
 

@@ -1,8 +1,10 @@
 //! A hall: a database that many threads call, one after another.
 ghost use Rattle.std.specs.Prelude.{◌≡◌, ◌≢◌, ◌≤◌, ◌++◌, [], length, IfOk};
 ghost use Rattle.rules_reader.specs.Place.{HasOneCapture};
+ghost use Rattle.locked_server.specs.History.{changes_in};
 ghost use Rattle.locked_server.specs.Known.{Closes, IsSameSeat, Made, Met, Missed, SeesLegal, SeesMore, own};
 
+use crate::called::Called;
 use crate::content::{Content, Slot};
 use crate::patience::Patience;
 use crate::rule::{GetNumber, HallRule, Look, NewSeat, TakeIn};
@@ -48,7 +50,11 @@ impl Hall {
         let _rules = core.rules();
         let opening = Snapshot::of(&core);
         let mut slots = Vec::new(alloc);
-        let content = Content { core, last: None };
+        let content = Content {
+            core,
+            last: None,
+            changes: 0,
+        };
         if slots.push(Some(content)).is_err() {
             return Err(NoMemory);
         }
@@ -118,9 +124,10 @@ impl Hall {
     /// Waits for its turn, and lets the database answer an event of a session, at a moment in milliseconds since 1970,
     /// as [`Core::step`] does: that is the next entry of the history, a refusal too. Where 2^62 tickets have been
     /// taken, it waits until the history has that many entries, and answers [`Refusal::Spent`], which no step does, and
-    /// which is no entry. The arena is for what the step needs. The call takes no memory of its own, and costs, beside
-    /// the step, two looks at the words that all seats share and three steps on them, and more where another seat comes
-    /// first.
+    /// which is no entry. With the reply comes how many entries up to this one have changed something: the number of the
+    /// call among them, if it is one. The arena is for what the step needs. The call takes no memory of its own, and
+    /// costs, beside the step, two looks at the words that all seats share and three steps on them, and more where
+    /// another seat comes first.
     pub fn call<R: Wait>(
         &self,
         rt: &R,
@@ -129,12 +136,14 @@ impl Hall {
         now: u64,
         session: u64,
         event: Event,
-    ) -> Reply
+    ) -> Called
         requires moment { now ≤ MAX_MOMENT }
         requires hall { seat.old.hall ≡ self.now }
         ensures same { IsSameSeat seat.old seat.new }
-        ensures made { result ≢ Reply.Refused Refusal.Spent → Made seat.old seat.new now session event result }
-        ensures missed { result ≡ Reply.Refused Refusal.Spent → Missed seat.old seat.new }
+        ensures made { result.reply ≢ Reply.Refused Refusal.Spent → Made seat.old seat.new now session event result.reply }
+        ensures missed { result.reply ≡ Reply.Refused Refusal.Spent → Missed seat.old seat.new }
+        ensures changes { result.reply ≢ Reply.Refused Refusal.Spent → result.changes ≡ changes_in seat.new.seen }
+        ensures no_changes { result.reply ≡ Reply.Refused Refusal.Spent → result.changes ≡ 0 }
         ensures legal { SeesLegal seat.new }
     {
         let words = &self.table.shared;
@@ -145,7 +154,10 @@ impl Hall {
             }
             None => {
                 self.await_last_entry(rt, seat);
-                Reply::Refused(Refusal::Spent)
+                Called {
+                    reply: Reply::Refused(Refusal::Spent),
+                    changes: 0,
+                }
             }
         }
     }

@@ -1,4 +1,5 @@
 //! Laws of histories.
+ghost use mathlib.Core.List.{IsPrefix};
 ghost use Rattle.std.specs.Prelude.{◌≡◌, ◌<◌, ◌↔◌, ◌&&◌, ℕ, List, [], ◌∷◌, ◌++◌, All, map, filter, length, slice_index_or, true, false};
 ghost use Rattle.tree_model.specs.Tree.{Tree, non_null};
 ghost use Rattle.rules_reader.specs.Book.{Book};
@@ -8,7 +9,7 @@ ghost use Rattle.rtdb_model.specs.declared.news.Notice.{Notice};
 ghost use Rattle.rtdb_model.specs.declared.reply.Reply.{Reply};
 ghost use Rattle.rtdb_model.specs.State.{State, opening, is_open, is_leaving, scene_at, listeners_of, actions_of};
 ghost use Rattle.rtdb_model.specs.Rejudged.{hears, selected_at};
-ghost use Rattle.rtdb_model.specs.Step.{Step, Run};
+ghost use Rattle.rtdb_model.specs.Step.{Call, Step, Run};
 ghost use Rattle.rtdb_model.specs.Headline.{DeploysFile};
 ghost use Rattle.rtdb_model.specs.Marks.{Taken, steps_after, judges, grants, IsHistory};
 ghost use Rattle.rtdb_model.specs.Actions.{Established, is_waiting, established, waiting};
@@ -18,7 +19,7 @@ ghost use Rattle.rtdb_laws.specs.Presence.{open_after, leaving_after};
 ghost use Rattle.rtdb_laws.specs.Stored.{stored};
 ghost use Rattle.rtdb_laws.specs.Effects.{changes, without_listeners};
 ghost use Rattle.locked_server.specs.declared.entry.Entry.{Entry};
-ghost use Rattle.locked_server.specs.History.{call_of, reply_of, Leaves, IsJudgedAt};
+ghost use Rattle.locked_server.specs.History.{call_of, reply_of, changed_in, Leaves, IsJudgedAt};
 
 /// A history goes on by one entry at its end exactly where the entry is a step from the state that it leaves, and
 /// deploys rules as rules files have them or none.
@@ -86,4 +87,15 @@ pub fn what_is_stored_is_what_the_entries_wrote()
 /// but for the listeners.
 pub fn the_entries_that_change_something_are_a_history()
     ensures { (rules : Book) (tree : Tree) (history : List Entry) (left : State) → Leaves (opening rules tree) history left → Leaves (opening rules tree) (filter (λ e. changes e.event e.reply) history) (without_listeners left) }
+{}
+
+/// What a beginning of a history has changed, in that order, is a beginning of what the whole history has.
+pub fn what_has_changed_stays()
+    ensures { (seen all : List Entry) → IsPrefix seen all → (more : List Call) × (changed_in all ≡ changed_in seen ++ more) }
+{}
+
+/// A call that changes something is the last change behind those before it, and any other call is none.
+pub fn a_call_that_changes_is_the_last_change()
+    ensures change { (seen : List Entry) (e : Entry) → changes e.event e.reply ≡ true → changed_in (seen ++ e ∷ []) ≡ changed_in seen ++ call_of e ∷ [] }
+    ensures none { (seen : List Entry) (e : Entry) → changes e.event e.reply ≡ false → changed_in (seen ++ e ∷ []) ≡ changed_in seen }
 {}

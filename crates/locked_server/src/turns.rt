@@ -1,11 +1,14 @@
 //! A seat's ticket, and its turn with the database.
-ghost use Rattle.std.specs.Prelude.{◌≡◌, ◌≢◌, ◌^◌, ◌<◌, ◌≤◌, [], MatchOption};
+ghost use Rattle.std.specs.Prelude.{◌≡◌, ◌≢◌, ◌+◌, ◌^◌, ◌<◌, ◌≤◌, ◌&&◌, [], if◌then◌else◌, MatchOption};
 ghost use Rattle.rtdb_model.specs.Headline.{DeploysFile};
+ghost use Rattle.rtdb_laws.specs.Effects.{is_effective as has_effect};
 ghost use Rattle.locked_server.specs.declared.view.Stage.TheVariants.{Resting, Waiting};
 ghost use Rattle.locked_server.specs.Working.Rule.{Turn, with_ticket};
 ghost use Rattle.locked_server.specs.Working.Turns.{Ends, HasDatabase, IsEntered};
 
+use crate::called::Called;
 use crate::content::{Content, LastCall, Slot};
+use crate::effects::{is_effective, may_change};
 use crate::patience::Patience;
 use crate::rule::{Draw, Enter, HallRule, Watch};
 use crate::view::View;
@@ -74,7 +77,7 @@ pub(crate) fn await_turn<R: Wait>(rt: &R, words: &Words, pass: &mut Pass, ticket
 }
 
 /// Lets the database that is out with the seat answer an event, and brings it home with the call, which is then an
-/// entry. It takes no memory but what the step takes.
+/// entry, and with how many have changed something. It takes no memory but what the step takes.
 pub(crate) fn serve(
     words: &Words,
     pass: &mut Pass,
@@ -82,21 +85,27 @@ pub(crate) fn serve(
     now: u64,
     session: u64,
     event: Event,
-) -> Reply
+) -> Called
     requires moment { now ≤ MAX_MOMENT }
     requires hall { (pass.old.table_id ≡ words.now.table_id) × (words.now.table_id.words ≡ 2) }
     requires database { HasDatabase pass.old.me }
     ensures hall { pass.new.table_id ≡ pass.old.table_id }
     ensures entered { IsEntered pass.old.me pass.new.me now session event result }
-    ensures own { result ≢ Reply.Refused Refusal.Spent }
+    ensures own { result.reply ≢ Reply.Refused Refusal.Spent }
 {
     let Some(content) = words.exchange(pass, 0, None) else {
         unreachable!()
     };
-    let Content { mut core, last: _ } = content;
+    let Content {
+        mut core,
+        last: _,
+        changes,
+    } = content;
     deploys_file(&event);
     let asked = Snapshot::of(&event);
+    let may_change = may_change(&event);
     let reply = core.step(arena, now, session, event);
+    let changes = count_behind(changes, may_change, &reply);
     let last = LastCall {
         now,
         session,
@@ -106,10 +115,23 @@ pub(crate) fn serve(
     let content = Content {
         core,
         last: Some(last),
+        changes,
     };
     drop(words.exchange(pass, 0, Some(content)));
     words.fetch_add::<Enter>(pass, 0, 1);
-    reply
+    Called { reply, changes }
+}
+
+// How many entries have changed something behind one that is answered so, where so many have before it.
+fn count_behind(changes: u64, may_change: bool, reply: &Reply) -> u64
+    requires { changes < 2 ^ 63 }
+    ensures { result ≡ if may_change && has_effect reply.now then changes + 1 else changes }
+{
+    if may_change && is_effective(reply) {
+        changes + 1
+    } else {
+        changes
+    }
 }
 
 // Where an event deploys rules, they have at most one capture in each object, as those of rules files: they know it.

@@ -146,6 +146,7 @@ fn reply_of<R: Wait>(rt: &R, hall: &Hall, seat: &mut Seat, arena: &mut Bump, ask
 {
     let Asked { stamp, event } = asked;
     hall.call(rt, seat, arena, stamp.now, stamp.session, event)
+        .reply
 }
 
 // What it answers to a line.

@@ -64,7 +64,7 @@ pub(crate) fn ask<R: Wait>(
         session,
         ..
     } = *place;
-    hall.call(rt, seat, arena, now, session, event)
+    hall.call(rt, seat, arena, now, session, event).reply
 }
 
 /// Answers a message: the text of the answer is then written on the desk. The message is read, and a rules file in it

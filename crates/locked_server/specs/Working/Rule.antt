@@ -16,7 +16,7 @@ use Rattle.locked_server.specs.declared.content.Content.{Content}
 use Rattle.locked_server.specs.declared.view.View.{View}
 use Rattle.locked_server.specs.declared.view.Stage.{Stage}
 use Rattle.locked_server.specs.declared.view.Stage.TheVariants.{Resting, Waiting, Serving, Joined}
-use Rattle.locked_server.specs.History.{is_in, calls_of, Leaves, IsLegal}
+use Rattle.locked_server.specs.History.{is_in, calls_of, changes_in, Leaves, IsLegal}
 
 -- ---- what a seat knows
 
@@ -108,12 +108,12 @@ pub record ViewFits (opening : State) (log : List Entry) (next tickets : ℕ) (o
   pub second : PartFits log next owner (j, false) v.second
   pub stage : StageFits log tickets holder j v.first.seen v.stage
 
--- the slot is at home, with the database in this state, or out with this seat, whose turn it is
-abbrev pub SlotFits : List (maybe.Option (Option Content)) → State → List View → ℕ → Type 0
-SlotFits homes left views turn = ((x : Content) × (homes ≡ some (Some x) ∷ []) × (x.core ≡ left))
+-- the slot is at home, with the database in this state and this count of changes, or out with this seat, whose turn it is
+abbrev pub SlotFits : List (maybe.Option (Option Content)) → State → ℕ → List View → ℕ → Type 0
+SlotFits homes left count views turn = ((x : Content) × (homes ≡ some (Some x) ∷ []) × (x.core ≡ left) × (x.changes ≡ count))
     ⊎ ((homes ≡ none ∷ []) × ((v : View) × (get_elem? views turn ≡ some v) × (is_serving v.stage ≡ true)))
 
--- There is a history, `log`, which is legal from this opening and leaves a state. The words are its length and the number of tickets drawn, the slot fits it, and so does the view of each seat. `next` is the number that the next seat gets, the owner of a number is the part of a view that has it, and the holder of a ticket is the seat that drew it.
+-- There is a history, `log`, which is legal from this opening and leaves a state. The words are its length and the number of tickets drawn, the slot fits it and what it has changed, and so does the view of each seat. `next` is the number that the next seat gets, the owner of a number is the part of a view that has it, and the holder of a ticket is the seat that drew it.
 pub record IsKept (opening : State) (s : TableState (Option Content) View) : Type 0 where
   pub log : List Entry
   pub left : State
@@ -124,7 +124,7 @@ pub record IsKept (opening : State) (s : TableState (Option Content) View) : Typ
   pub run : Leaves opening log left
   pub words : s.words ≡ length log ∷ tickets ∷ []
   pub ordered : length log ≤ tickets
-  pub slot : SlotFits s.homes left s.views (holder (length log))
+  pub slot : SlotFits s.homes left (changes_in log) s.views (holder (length log))
   pub numbered : AreBelow next log
   pub each_seat : (j : ℕ) (v : View) → get_elem? s.views j ≡ some v → ViewFits opening log next tickets owner holder j v
 
@@ -163,13 +163,14 @@ HasDrawn s m found m' = (m'.1 ≡ m.1)
     × (found ≡ s.first → m'.0 ≡ view_with m.0.opening m.0.first.seen m.0.first.numbers m.0.second (Waiting s.first))
     × (found ≢ s.first → m'.0 ≡ m.0)
 
--- the turn of the seat has come: it has seen the whole history, and has the database, in the state that this leaves
+-- the turn of the seat has come: it has seen the whole history, and has the database, in the state that this leaves, with the count of its changes
 pub record Turn (m m' : Mine) (found : ℕ) : Type 0 where
   pub content : Content
   pub is : m'.0 ≡ view_with m.0.opening m'.0.first.seen m.0.first.numbers empty_part Serving
   pub slot : m'.1 ≡ (0, Some content) ∷ m.1
   pub long : length m'.0.first.seen ≡ found
   pub leaves : Leaves m'.0.opening m'.0.first.seen content.core
+  pub counted : content.changes ≡ changes_in m'.0.first.seen
   pub begins : IsPrefix m.0.first.seen m'.0.first.seen
   pub whole : calls_of m.0.first.numbers m'.0.first.seen ≡ calls_of m.0.first.numbers m.0.first.seen
 
