@@ -302,3 +302,17 @@ fn news_come_without_a_meeting(rt: HostRuntime) -> Result<(), Fail> {
     assert_eq!(rt; news, 1);
     Ok(())
 }
+
+#[test]
+fn a_poll_changes_nothing(rt: HostRuntime) -> Result<(), Fail> {
+    let (hall, mut seat) = open_hall(rt.alloc())?;
+    let mut arena = Bump::new(rt.alloc());
+    let opened = hall.call(&rt, &mut seat, &mut arena, 1, 1, Event::Open);
+    let polled = hall.call(&rt, &mut seat, &mut arena, 1, 1, Event::Poll);
+    let closed = hall.call(&rt, &mut seat, &mut arena, 1, 1, Event::Close);
+    drop(hall.close(&rt, seat));
+    assert_eq!(rt; opened.changes, 1);
+    assert_eq!(rt; polled.changes, 1);
+    assert_eq!(rt; closed.changes, 2);
+    Ok(())
+}
