@@ -1,12 +1,12 @@
 -- Entries that are put into a file, each as a group of its own.
-use Rattle.std.proofs.Common.{◌≡◌, ◌⊎◌, inl, inr, ⊎_elim, ℕ, ◌+◌, ◌<◌, ◌≤◌, ◌^◌, List, [], ◌∷◌, ◌++◌, length, map, take, drop, get_or, Vec, Global, refl, sym, ◌∙◌, ap, subst, arith, append_assoc, take-append-drop}
-use Rattle.std.proofs.lemmas.List.{append-nil, map-append, take_more}
+use Rattle.std.proofs.Common.{◌≡◌, ◌⊎◌, inl, inr, ⊎_elim, ℕ, ◌+◌, ◌<◌, ◌≤◌, ◌^◌, List, [], ◌∷◌, ◌++◌, length, take, drop, Vec, Global, refl, sym, ◌∙◌, ap, subst, arith, append_assoc, take-append-drop}
+use Rattle.std.proofs.lemmas.List.{append-nil, map-append}
 use Rattle.disk.specs.Disk.{AtAnyMoment}
 use Rattle.disk.proofs.Moments.{begins, joined}
-use Rattle.journal.specs.Format.{Group, Fits, AllFit, opening, end_of, entry_text, entries_text, file_of}
+use Rattle.journal.specs.Format.{Group, AllFit, opening, entry_text, entries_text}
 use Rattle.journal.specs.Recovery.{Survives}
 use Rattle.journal.specs.Recovering.{texts_of}
-use Rattle.journal.specs.Keeping.{Keeps, Drafts, IsFull}
+use Rattle.journal.specs.Keeping.{Keeps, Drafts}
 use Rattle.journal.specs.declared.chain.Chain.{Chain}
 use Rattle.journal.specs.declared.chain.JournalError.{JournalError}
 use Rattle.journal.specs.declared.chain.JournalError.TheVariants.{NoMemory, TooLong, Full, Failed}
@@ -15,7 +15,7 @@ use Rattle.journal.proofs.Chains.{fit-back}
 use Rattle.journal.proofs.Entries.{has_entry, entries-push, small-push}
 use Rattle.journal.proofs.Surviving.{has_survived}
 use Rattle.store.specs.Recovered.{AreIn}
-use Rattle.store.specs.Appended.{SurvivesAppending, HasLongEntry, HasNoRoom}
+use Rattle.store.specs.Appended.{SurvivesAppending, HasLongEntry}
 use Rattle.store.specs.AppendingWorking.{AreDrafted}
 use Rattle.store.proofs.Crashes.{texts-append}
 use Rattle.store.proofs.Steps.{texts}

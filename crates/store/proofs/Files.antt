@@ -1,11 +1,11 @@
 -- Files that have a database, and disks that keep one.
-use Rattle.std.proofs.Common.{◌≡◌, ◌⊎◌, inl, inr, ⊎_elim, ℕ, ◌+◌, ◌<◌, ◌≤◌, ◌^◌, List, [], ◌∷◌, ◌++◌, length, refl, sym, ◌∙◌, ap, subst, arith, append_assoc, length-append}
+use Rattle.std.proofs.Common.{◌≡◌, ◌⊎◌, inl, inr, ⊎_elim, ℕ, ◌+◌, ◌<◌, ◌^◌, List, [], ◌∷◌, ◌++◌, length, refl, sym, ◌∙◌, ap, subst, arith, length-append}
 use Rattle.std.specs.List.{AllByRecursion}
 use Rattle.std.proofs.lemmas.List.{append-nil}
 use Rattle.std.proofs.lemmas.Grind.{flat_map-append}
 use Rattle.disk.specs.Disk.{AtAnyMoment}
 use Rattle.disk.proofs.Moments.{joined}
-use Rattle.journal.specs.Format.{Group, Fits, opening, end_of, group_text, entry_text, file_of}
+use Rattle.journal.specs.Format.{Group, opening, end_of, group_text, entry_text, file_of}
 use Rattle.journal.specs.Recovery.{IsFileOf}
 use Rattle.journal.specs.Found.{OnlyReads}
 use Rattle.journal.specs.Recovering.{RecoversTheSame}
@@ -22,7 +22,7 @@ use Rattle.store.specs.Recovered.{AreIn, IsRecoveredFrom}
 use Rattle.store.specs.Appended.{SurvivesAppending, HasLongEntry, HasNoRoom}
 use Rattle.store.specs.AppendingWorking.{AreAppended, DraftsDatabase}
 use Rattle.store.specs.Kept.{HasDatabase, KeepsDatabase}
-use Rattle.store.specs.Opened.{HasDepartures, SurvivesDepartures, SurvivesOpening, IsDepartureFault}
+use Rattle.store.specs.Opened.{HasDepartures, SurvivesOpening, IsDepartureFault}
 use Rattle.store.proofs.Crashes.{texts-append}
 use Rattle.store.proofs.Adding.{weaker}
 use Rattle.store.proofs.Gone.{lead_on}

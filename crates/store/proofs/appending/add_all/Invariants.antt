@@ -1,4 +1,4 @@
-use Rattle.std.proofs.Common.{◌≡◌, List, [], take}
+use Rattle.std.proofs.Common.{◌≡◌, [], take}
 use Rattle.journal.specs.Found.{OnlyReads}
 use Rattle.journal.specs.Keeping.{Drafts, chain_identifier}
 use Rattle.store.specs.AppendingWorking.{AreDrafted}

@@ -1,4 +1,4 @@
-use Rattle.std.proofs.Common.{◌≡◌, ℕ, List, Vec, Global, sym, subst, string_bytes, rules}
+use Rattle.std.proofs.Common.{ℕ, List, Vec, Global, sym, subst, string_bytes, rules}
 use Rattle.store.specs.Leaving.{HaveLeft}
 use Rattle.store.specs.Kept.{HasDatabase}
 use Rattle.store.proofs.Steps.{texts}
