@@ -30,9 +30,10 @@ pub struct OpenedDatabase {
     pub sessions: usize,
 }
 
-/// Recovers the database of a file that a crash may have left, lets each session leave at a moment that was open in it,
-/// and stores the entries of that. It costs what the file's calls cost and these. A crash in the midst of it leaves a
-/// file of which the same is recovered, or that and some first of these departures; another opening then goes on.
+/// Recovers the database of a file that a crash may have left, lets each session leave that was open in it, at the moment
+/// `now` in milliseconds, and stores the entries of these departures. It costs what the file's calls cost and these. A
+/// crash meanwhile leaves a file of which the same is recovered, or that and some first of the departures; another
+/// opening then goes on.
 pub fn open_database<D: Disk>(
     alloc: Global,
     disk: &mut D,
