@@ -103,4 +103,7 @@ pub trait Disk {
 
     /// Since this moment there is nothing else.
     ghost just_now: { (disk : Self) (left : List ℕ) → left_since disk (moment disk) left → may_leave disk left };
+
+    /// The new file has one content.
+    ghost one_draft: { (disk : Self) (a b : List ℕ) → draft disk a → draft disk b → a ≡ b };
 }

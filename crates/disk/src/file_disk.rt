@@ -141,6 +141,8 @@ impl Disk for FileDisk {
 
     ghost just_now = { λ _ _ _. tt };
 
+    ghost one_draft = { λ _ _ _ none _. absurd none };
+
     fn is_failed(&self) -> bool {
         self.failed
     }

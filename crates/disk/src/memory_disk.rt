@@ -1,6 +1,6 @@
 //! A disk in memory. It keeps every content that a crash might have left, and fails and tears where a test wants it.
 ghost use Rattle.std.specs.Prelude.{◌≡◌, ◌≢◌, ◌+◌, ◌≤◌, ◌++◌, ◌∷◌, [], ℕ, true, false, min, List, length, take, drop, IfOk, OnOk, IfSome};
-ghost use Rattle.std.proofs.Common.{inl};
+ghost use Rattle.std.proofs.Common.{inl, sym, ◌∙◌};
 ghost use Rattle.disk.specs.Disk.{overwritten, Torn, ComesFrom};
 ghost use Rattle.disk.specs.Outcomes.{IsOutcome, IsOutcomeSince, outcomes_now};
 
@@ -146,6 +146,8 @@ impl Disk for MemoryDisk {
     ghost counts_now = { λ disk t left le now. inl now };
 
     ghost just_now = { λ disk left since. outcomes_now disk.past.items disk.bytes.items disk.others.items left since };
+
+    ghost one_draft = { λ disk a b one two. one ∙ sym two };
 
     fn is_failed(&self) -> bool {
         self.failed

@@ -1,5 +1,5 @@
 -- What a crash leaves of a journal while groups are appended.
-use Rattle.std.proofs.Common.{◌≡◌, ℕ, ◌+◌, ◌≤◌, List, [], ◌∷◌, ◌++◌, length, drop, refl, sym, ◌∙◌, ap, subst, arith}
+use Rattle.std.proofs.Common.{◌≡◌, ◌⊎◌, inl, inr, ℕ, ◌+◌, ◌≤◌, ◌<◌, List, [], ◌∷◌, ◌++◌, length, drop, refl, sym, ◌∙◌, ap, subst, arith}
 use Rattle.std.proofs.lemmas.List.{append-nil, take_all, drop_all}
 use Rattle.std.specs.List.{AllByRecursion}
 use Rattle.disk.specs.Disk.{overwritten, Torn, ComesFrom, AtAnyMoment}
@@ -7,8 +7,9 @@ use Rattle.disk.proofs.Moments.{begins}
 use Rattle.journal.specs.declared.chain.Chain.{Chain}
 use Rattle.journal.specs.Format.{Group, Fits, AllFit, next, opening, file_of}
 use Rattle.journal.specs.Recovery.{Begins, Survives}
-use Rattle.journal.specs.Keeping.{Leads, Keeps, link_of}
-use Rattle.journal.proofs.Chains.{fit-front, fit-push, end_of-append, place_of_file}
+use Rattle.journal.specs.Keeping.{Leads, Keeps, IsFull, link_of}
+use Rattle.journal.specs.declared.limits.TheConstants.{MAX_GROUPS, MAX_FILE_BYTES}
+use Rattle.journal.proofs.Chains.{fit-front, fit-push, end_of-append, number_is, place_of_file}
 use Rattle.journal.proofs.Survival.{begins_further, survives, torn_keeps, no_shorter}
 
 -- the file of what was stored is a front of that of all groups
@@ -22,6 +23,12 @@ len_is identifier chain stored appended leads = ap (λ link. link.place) leads.l
 pub stored_is_short : (identifier : List ℕ) (chain : Chain) (stored appended : List Group) → Leads identifier chain stored appended → length (file_of identifier stored) ≤ chain.len
 stored_is_short identifier chain stored appended leads =
     omega (arith, len_is identifier chain stored appended leads, no_shorter identifier leads.sized stored leads.front.0, ap (λ groups. length (file_of identifier groups)) leads.front.1)
+
+-- a chain that has no room is that of a full file
+pub full_file : (identifier : List ℕ) (chain : Chain) (stored appended : List Group) → Leads identifier chain stored appended → (MAX_GROUPS ≤ chain.number) ⊎ (MAX_FILE_BYTES ≤ chain.len) ⊎ (chain.len < chain.durable) → IsFull identifier appended
+full_file identifier chain stored appended leads (inl number) = inl (omega (arith, number, ap (λ link. link.number) leads.link, number_is (opening identifier) appended))
+full_file identifier chain stored appended leads (inr (inl len)) = inr (omega (arith, len, len_is identifier chain stored appended leads))
+full_file identifier chain stored appended leads (inr (inr less)) = absurd (omega (arith, less, leads.durable, stored_is_short identifier chain stored appended leads))
 
 all-push : {X : Type 0} (P : X → Type 0) (xs : List X) (x : X) → AllByRecursion P xs → P x → AllByRecursion P (xs ++ x ∷ [])
 all-push P [] x all last = (last, tt)

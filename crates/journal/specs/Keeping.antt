@@ -1,11 +1,12 @@
 -- What a journal has, and what its disk makes of it.
-use Rattle.std.specs.Prelude.{◌≡◌, ℕ, ◌≤◌, List, length, map, Vec}
+use Rattle.std.specs.Prelude.{◌≡◌, ◌⊎◌, ℕ, ◌+◌, ◌≤◌, List, length, map, Vec}
 use Rattle.std.specs.List.{AllByRecursion}
 use Rattle.std.specs.declared.alloc.Global.{Global}
 use Rattle.journal.specs.Format.{Group, Link, AllFit, opening, end_of, file_of, entries_text}
 use Rattle.journal.specs.Recovery.{Begins}
 use Rattle.journal.specs.declared.chain.Chain.{Chain}
 use Rattle.journal.specs.declared.journal.Journal.{Journal}
+use Rattle.journal.specs.declared.limits.TheConstants.{MAX_GROUPS, MAX_FILE_BYTES}
 
 -- the disk of a journal
 abbrev pub disk_of : {D : Type 0} → Journal D → D
@@ -51,3 +52,7 @@ pub record Keeps {D : Type 0} (holds may_leave : D → List ℕ → Type 0) (dis
 pub record Drafts {D : Type 0} (draft : D → List ℕ → Type 0) (disk : D) (chain : Chain) (groups : List Group) : Type 0 where
   pub leads : Leads chain.identifier chain groups groups
   pub file : draft disk (file_of chain.identifier groups)
+
+-- a file of these groups has no room for another: the next one's number, or its place, is too large
+abbrev pub IsFull : List ℕ → List Group → Type 0
+IsFull identifier groups = (MAX_GROUPS ≤ length groups + 1) ⊎ (MAX_FILE_BYTES ≤ length (file_of identifier groups))

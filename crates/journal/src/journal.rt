@@ -3,10 +3,11 @@ ghost use Rattle.std.specs.Prelude.{◌≡◌, ◌⊎◌, ◌+◌, ◌<◌, ◌�
 ghost use Rattle.disk.specs.Disk.{AtAnyMoment, StaysSo};
 ghost use Rattle.journal.specs.Format.{Group, file_of, entries_text};
 ghost use Rattle.journal.specs.Recovery.{Survives};
-ghost use Rattle.journal.specs.Keeping.{Keeps, disk_of, chain_of, identifier_of, group_of};
+ghost use Rattle.journal.specs.Keeping.{Keeps, IsFull, disk_of, chain_of, identifier_of, group_of};
 
-use crate::chain::{Chain, JournalError, compose};
-use crate::limits::{MAX_FILE_BYTES, MAX_GROUP_BYTES, MAX_GROUPS};
+use crate::appending::{sync_groups, write_group};
+use crate::chain::{Chain, JournalError};
+use crate::limits::MAX_GROUP_BYTES;
 use disk::Disk;
 use std::alloc::Global;
 
@@ -41,6 +42,7 @@ impl<D: Disk> Journal<D> {
         ensures no_memory { IsErrOf result JournalError.NoMemory → self.new ≡ self.old }
         ensures too_long { IsErrOf result JournalError.TooLong → (self.new ≡ self.old) × (MAX_GROUP_BYTES < length (entries_text (map (λ entry. entry.items) entries.now))) }
         ensures full { IsErrOf result JournalError.Full → self.new ≡ self.old }
+        ensures no_room { (stored appended : List Group) → Keeps D.holds D.may_leave (disk_of self.old) (chain_of self.old) stored appended → IsErrOf result JournalError.Full → IsFull (identifier_of self.old) appended }
         ensures failed { IsErrOf result JournalError.Failed → IsTrue (D.has_failed (disk_of self.new)) }
         ensures for_good { IsTrue (D.has_failed (disk_of self.old)) → (result ≡ Err JournalError.Failed) × (self.new ≡ self.old) }
     {
@@ -60,16 +62,11 @@ impl<D: Disk> Journal<D> {
         ensures no_memory { IsErrOf result JournalError.NoMemory → self.new ≡ self.old }
         ensures too_long { IsErrOf result JournalError.TooLong → (self.new ≡ self.old) × (MAX_GROUP_BYTES < length (entries_text (map (λ entry. entry.items) entries.now))) }
         ensures full { IsErrOf result JournalError.Full → self.new ≡ self.old }
+        ensures no_room { (stored appended : List Group) → Keeps D.holds D.may_leave (disk_of self.old) (chain_of self.old) stored appended → IsErrOf result JournalError.Full → IsFull (identifier_of self.old) appended }
         ensures failed { IsErrOf result JournalError.Failed → IsTrue (D.has_failed (disk_of self.new)) }
         ensures for_good { IsTrue (D.has_failed (disk_of self.old)) → (result ≡ Err JournalError.Failed) × (self.new ≡ self.old) }
     {
-        if self.disk.is_failed() {
-            return Err(JournalError::Failed);
-        }
-        let group = compose(alloc, &self.chain, entries)?;
-        self.disk.write_at(self.chain.len, &group.bytes)?;
-        self.chain = group.chain;
-        Ok(())
+        write_group(alloc, &mut self.disk, &mut self.chain, entries)
     }
 
     /// Stores what was written: after its `Ok` every crash leaves all of it.
@@ -84,8 +81,6 @@ impl<D: Disk> Journal<D> {
         ensures failed { IsErrOf result JournalError.Failed → IsTrue (D.has_failed (disk_of self.new)) }
         ensures for_good { IsTrue (D.has_failed (disk_of self.old)) → (result ≡ Err JournalError.Failed) × (self.new ≡ self.old) }
     {
-        self.disk.sync()?;
-        self.chain.durable = self.chain.len;
-        Ok(())
+        sync_groups(&mut self.disk, &mut self.chain)
     }
 }

@@ -5,6 +5,7 @@
 //! [`recover`], which hands over the entries of a file that a crash may have left.
 #![tactic(auto)]
 
+mod appending;
 mod chain;
 mod found;
 mod hand_over;
@@ -14,6 +15,7 @@ mod recovery;
 mod renewal;
 mod text;
 
+pub use appending::{sync_groups, write_group};
 pub use chain::{Chain, JournalError};
 pub use hand_over::{Sink, Stopped};
 pub use journal::Journal;

@@ -59,18 +59,18 @@ history_leads old new calls replies entries text run are =
 -- ---- a beginning of the entries is the entries of a beginning
 
 -- the history parts where its kept calls part
-record Parts (old new : State) (calls : List Call) (replies : List Reply) (front back : List (List ℕ)) : Type 0 where
-  earlier : List Call
-  later : List Call
-  answered : List Reply
-  unanswered : List Reply
-  left : State
-  calls_are : calls ≡ earlier ++ later
-  replies_are : replies ≡ answered ++ unanswered
-  run : Run old earlier answered left
-  kept_are : AreEntriesOf front (changing earlier answered)
+pub record Parts (old new : State) (calls : List Call) (replies : List Reply) (front back : List (List ℕ)) : Type 0 where
+  pub earlier : List Call
+  pub later : List Call
+  pub answered : List Reply
+  pub unanswered : List Reply
+  pub left : State
+  pub calls_are : calls ≡ earlier ++ later
+  pub replies_are : replies ≡ answered ++ unanswered
+  pub run : Run old earlier answered left
+  pub kept_are : AreEntriesOf front (changing earlier answered)
 
-parts : (old new : State) (calls : List Call) (replies : List Reply) (front back : List (List ℕ)) → Run old calls replies new → AreEntriesOf (front ++ back) (changing calls replies) → Parts old new calls replies front back
+pub parts : (old new : State) (calls : List Call) (replies : List Reply) (front back : List (List ℕ)) → Run old calls replies new → AreEntriesOf (front ++ back) (changing calls replies) → Parts old new calls replies front back
 parts old new calls replies [] back run are = record { earlier = []; later = calls; answered = []; unanswered = replies; left = old; calls_are = refl; replies_are = refl; run = refl; kept_are = tt }
 parts old new [] [] (e ∷ front) back run are = absurd are
 parts old new [] (r ∷ rs) (e ∷ front) back run are = absurd run

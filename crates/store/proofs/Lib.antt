@@ -11,3 +11,7 @@ pub mod Making
 pub mod Snapping
 pub mod Steps
 pub mod Recoveries
+pub mod Adding
+pub mod Gone
+pub mod Files
+pub mod Unfinished

@@ -5,3 +5,7 @@ pub mod Faults
 pub mod Working
 pub mod LeavingWorking
 pub mod Snapshots
+pub mod Appended
+pub mod AppendingWorking
+pub mod Kept
+pub mod Opened

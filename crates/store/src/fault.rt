@@ -4,7 +4,7 @@ ghost use Rattle.store.specs.Faults.{fault_of_entry, fault_of_resume};
 ghost use Rattle.store.specs.declared.fault.ReplayFault.TheVariants.{NoMemory as no_memory};
 
 use entries::EntryFault;
-use journal::RecoverError;
+use journal::{JournalError, RecoverError};
 use json_tree::NoMemory;
 use rtdb_core::ResumeFault;
 use std::alloc::AllocError;
@@ -67,4 +67,14 @@ pub enum RecoveryFault {
     Unfit { entry: u64 },
     /// The file has no whole snapshot.
     NoDatabase,
+}
+
+/// Why the database of a file is not opened.
+#[derive(Clone, Copy, Debug, PartialEq, Eq)]
+pub enum OpeningFault {
+    /// The file gives no database, for this reason.
+    Recovery(RecoveryFault),
+    /// The file has a database. For this reason not all departures of its sessions are in the file, or stored; another
+    /// opening goes on behind those that are.
+    Departures(JournalError),
 }

@@ -9,6 +9,8 @@ ghost use Rattle.rtdb_model.specs.Step.{Call, Run};
 ghost use Rattle.rtdb_laws.specs.Effects.{changing, without_listeners};
 ghost use Rattle.store.specs.Replay.{Stage, opened, Replays, LeadTo, AreEntriesOf};
 ghost use Rattle.store.specs.Recovered.{AreIn, IsBeginningOf};
+ghost use Rattle.store.specs.Kept.{HasDatabase};
+ghost use Rattle.store.specs.Opened.{SurvivesDepartures};
 
 /// Entries lead to one database, and to one text of its rules. It does nothing.
 pub fn a_replay_has_one_end()
@@ -44,4 +46,13 @@ pub fn a_crash_leaves_a_beginning_of_the_history()
         → Survives identifier (first ++ stored) (first ++ appended) file
         → IsFileOf identifier groups rest file → AreIn entries groups → LeadTo entries behind state
         → ((more : List (List ℕ)) × (entries ≡ before ++ (kept ++ more)) × IsBeginningOf old calls replies (kept ++ more) state) ⊎ HasStranger identifier (first ++ stored) (first ++ appended) file }
+{}
+
+/// Of a file that a crash left while the departures of sessions were appended, a beginning of these departures is
+/// recovered. That is so unless, by chance, a whole group with a right sum stands where the crash tore, which nobody
+/// wrote. It does nothing.
+pub fn a_crash_leaves_a_beginning_of_the_departures()
+    ensures { (file left rest behind : List ℕ) (now : ℕ) (state : State) (survives : SurvivesDepartures file now left) → HasDatabase survives.found.identifier rest behind state left
+        → ((kept : List (List ℕ)) × IsBeginningOf survives.found.before survives.found.have_left.calls survives.found.have_left.replies kept state)
+        ⊎ HasStranger survives.found.identifier survives.found.recovered.groups (survives.found.recovered.groups ++ survives.survives.appended) left }
 {}

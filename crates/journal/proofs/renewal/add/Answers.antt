@@ -1,8 +1,8 @@
-use Rattle.std.proofs.Common.{◌≡◌, ◌++◌, [], ◌∷◌, refl, sym, ◌∙◌, ap, subst, arith, length}
+use Rattle.std.proofs.Common.{◌≡◌, ◌++◌, [], ◌∷◌, refl, sym, ◌∙◌, ap, subst, arith, rules, length}
 use Rattle.journal.specs.Format.{Fits, file_of, next, end_of, opening, group_text}
 use Rattle.journal.specs.Keeping.{Leads, link_of, group_of}
 use Rattle.journal.proofs.Survival.{file-push}
-use Rattle.journal.proofs.Surviving.{leads_on, synced}
+use Rattle.journal.proofs.Surviving.{leads_on, full_file, synced}
 use Rattle.journal.proofs.renewal.add.Goals as goal
 
 pub returns-clause-added : goal.returns-clause-added
@@ -25,3 +25,8 @@ returns-clause-added g c = λ groups drafts.
       leads = subst (λ i. Leads i (record behind { durable = behind.len }) all all) back (synced id behind (record behind { durable = behind.len }) groups all further refl refl);
       file = subst (g.D.Disk.draft c.extend.new.self) whole (c.in_ok-extend.ensures.draft (file_of id groups) drafts.file);
     }
+
+pub returns-in_err-group-clause-no_room : goal.returns-in_err-group-clause-no_room
+returns-in_err-group-clause-no_room g c = λ groups drafts full.
+    let chain = c.args.chain.now in
+    full_file chain.identifier chain groups groups drafts.leads (c.in_err-group.ensures.full (search rules))
