@@ -32,7 +32,7 @@ ROOT = Path(__file__).resolve().parent.parent
 sys.path.insert(0, str(ROOT / "checks"))
 
 from journals import entry_text, sum_of  # noqa: E402
-from trials import kept_program  # noqa: E402
+from trials import KEPT, scratch_program  # noqa: E402
 
 TIMES = 3
 NOW = 1_700_000_000_000
@@ -242,7 +242,7 @@ def main():
     given = parser.parse_intermixed_args()
     with tempfile.TemporaryDirectory(prefix="rtdb-bench-") as room:
         room = Path(room)
-        kept = kept_program(given.kept)
+        kept = scratch_program(KEPT, given.kept)
         for name in [given.bench] if given.bench else BENCHES:
             BENCHES[name](given.program.resolve(), kept, room, given.number or USUAL[name])
 
