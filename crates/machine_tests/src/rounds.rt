@@ -9,7 +9,7 @@ use crate::streams::{Course, open_hall, serve, serve_as};
 use crate::wire::{Last, Wire};
 use bumpalo::Bump;
 use rtdb_core::Event;
-use sessions::{Peer, SessionEnd, SocketPeer, answer};
+use sessions::{HallCaller, Peer, SessionEnd, SocketPeer, answer};
 use std::alloc::Global;
 use std::sync::Wait;
 use std::test::Fail;
@@ -246,7 +246,10 @@ fn answer_and_serve<R: Wait, P: Peer>(
     let mut arena = Bump::new(alloc);
     let (hall, mut seat) = open_hall(alloc)?;
     drop(hall.call(rt, &mut seat, &mut arena, 1, 1, Event::Open));
-    let said = answer(rt, alloc, &hall, &mut seat, &mut arena, tokens, 1, 5, GET);
+    let caller = HallCaller::new(rt);
+    let said = answer(
+        &caller, alloc, &hall, &mut seat, &mut arena, tokens, 1, 5, GET,
+    );
     let course = serve_as(rt, alloc, &hall, &mut seat, &mut arena, tokens, peer, TURNS);
     drop(hall.close(rt, seat));
     Ok((said.ok().ok_or(WANT_OF_MEMORY)?, course.end))

@@ -9,7 +9,7 @@ use crate::wire::Wire;
 use bumpalo::Bump;
 use locked_server::{Hall, Seat};
 use rtdb_core::Core;
-use sessions::{Clock, Gate, Peer, SessionEnd, SocketPeer, serve_session};
+use sessions::{Clock, Gate, HallCaller, Peer, SessionEnd, SocketPeer, serve_session};
 use std::alloc::Global;
 use std::sync::Wait;
 use std::sync::atomic::{AtomicU64, Ordering};
@@ -153,8 +153,9 @@ pub(crate) fn serve_as<R: Wait, P: Peer>(
 {
     let gate = OpenGate::new();
     let mut clock = Counting { last: 0 };
+    let caller = HallCaller::new(rt);
     let end = serve_session(
-        rt, alloc, hall, seat, arena, tokens, 1, &gate, &mut clock, peer, turns,
+        &caller, alloc, hall, seat, arena, tokens, 1, &gate, &mut clock, peer, turns,
     );
     Course {
         end,

@@ -6,16 +6,17 @@ use Rattle.scripts.specs.declared.header.Opened.{Opened}
 use Rattle.scripts.proofs.Sending.{Appends-refl}
 use Rattle.command_line.specs.Order.{Served}
 use Rattle.locked_server.specs.Known.{Known}
-use Rattle.server.specs.Served.{HasServed as HasPrinted, IsCutShort}
+use Rattle.rtdb_model.specs.State.{State}
+use Rattle.server.specs.Served.{HasServed as HasEnded, IsCutShort}
 use Rattle.rtdb.specs.Command.{AreRead, HasServed, IsServed, IsUnread, shifts_of}
 use Rattle.rtdb.specs.Opening.{Begins, FileBytes}
 use Rattle.rtdb.specs.Status.{failed, no_memory}
 use Rattle.rtdb.specs.Working.{IsServedOr, IsTold}
 
 -- the port that is printed is that which was asked for
-pub was_served : (options : Served) (opened : Opened) (port : ℕ) (seat : Known) (before after : Option (List ℕ)) → seat.opening ≡ opened.core → seat.seen ≡ [] → port ≡ options.port
-    → HasPrinted opened.tokens (shifts_of options) port seat before after → IsServed options opened before after
-was_served options opened port seat before after opens nothing is printed = (seat, opens, nothing, subst (λ (p : ℕ). HasPrinted opened.tokens (shifts_of options) p seat before after) is printed)
+pub was_served : (options : Served) (opened : Opened) (port : ℕ) (seat : Known) (left : State) (before after : Option (List ℕ)) → seat.opening ≡ opened.core → seat.seen ≡ [] → port ≡ options.port
+    → HasEnded opened.tokens (shifts_of options) port seat left before after → IsServed options opened before after
+was_served options opened port seat left before after opens nothing is ended = (seat, left, opens, nothing, subst (λ (p : ℕ). HasEnded opened.tokens (shifts_of options) p seat left before after) is ended)
 
 pub was_cut : (asked port : ℕ) (before after : Option (List ℕ)) → port ≡ asked → IsCutShort port before after → IsCutShort asked before after
 was_cut asked port before after is short = subst (λ (p : ℕ). IsCutShort p before after) is short

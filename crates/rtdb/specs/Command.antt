@@ -13,7 +13,8 @@ use Rattle.answers.specs.AnswerText.{accepted_text, rules_fault_text}
 use Rattle.scripts.specs.Ends.{SourceTells, Ends}
 use Rattle.scripts.specs.Said.{as_line, header_fault_text}
 use Rattle.locked_server.specs.Known.{Known}
-use Rattle.server.specs.Served.{HasServed as HasPrinted, IsCutShort}
+use Rattle.rtdb_model.specs.State.{State}
+use Rattle.server.specs.Served.{HasServed as HasEnded, IsCutShort}
 use Rattle.server.specs.declared.shifts.Shifts.{Shifts}
 use Rattle.rtdb.specs.declared.contents.TheConstants.{MOST_BYTES}
 use Rattle.rtdb.specs.Opening.{FileBytes, Begins}
@@ -88,7 +89,7 @@ shifts_of options = record { workers = options.workers; rounds = options.rounds 
 
 -- a database was served, from its opening on, by the workers and for the rounds that were asked for, to clients who sign in by its tokens: it was printed where it is served, and how many entries its legal history has
 abbrev pub IsServed : Served → Opened → Option (List ℕ) → Option (List ℕ) → Type 0
-IsServed options opened before after = (seat : Known) × (seat.opening ≡ opened.core) × (seat.seen ≡ []) × HasPrinted opened.tokens (shifts_of options) options.port seat before after
+IsServed options opened before after = (seat : Known) × (left : State) × (seat.opening ≡ opened.core) × (seat.seen ≡ []) × HasEnded opened.tokens (shifts_of options) options.port seat left before after
 
 -- a server's files opened this database
 abbrev pub IsOpened : (List ℕ → Option (List ℕ)) → Served → Opened → Type 0

@@ -4,7 +4,7 @@ ghost use Rattle.std.specs.Io.KnownBytes.{Appends};
 ghost use Rattle.clap.specs.Words.{fault_of};
 ghost use Rattle.scripts.specs.Said.{as_line};
 ghost use Rattle.command_line.specs.Order.{the_program, Wanted, AreOrder};
-ghost use Rattle.rtdb.specs.Status.{bad_line, failed, no_memory, status_of};
+ghost use Rattle.rtdb.specs.Status.{bad_line, done, failed, no_memory, status_of};
 ghost use Rattle.rtdb.specs.Command.{IsChecked, HasChecked, HasRun, HasDone};
 ghost use Rattle.rtdb.specs.Working.{IsTooLong};
 
@@ -18,10 +18,10 @@ use command_line::{LineFault, Order, order};
 use json_tree::NoMemory;
 use rules_reader::{MAX_FILE_BYTES, compile};
 use scripts::{ScriptEnd, Sink, Source, run_last_script, send_text};
+use sessions::Caller;
 use std::alloc::Global;
 use std::io;
 use std::net::{Net, TcpListener, TcpStream};
-use std::sync::Wait;
 use std::thread::Threads;
 use std::time::Clock;
 
@@ -45,13 +45,15 @@ const NO_MEMORY: u8 = 4;
 /// this may fail changes nothing. A check holds the file in memory, and its plain text; of a file that is longer
 /// than a rules file may be it reads one byte more than that, and so does a server, which holds its other files whole.
 pub fn command<
-    R: Net<Listener = TcpListener, Stream = TcpStream> + Threads + Wait + Clock + Sync,
+    R: Net<Listener = TcpListener, Stream = TcpStream> + Threads + Clock + Sync,
+    Q: Caller + Sync,
     F: Files,
     I: Source,
     W: Sink,
     E: io::Write,
 >(
     rt: &R,
+    caller: &Q,
     alloc: Global,
     words: &[String],
     files: &F,
@@ -71,11 +73,13 @@ pub fn command<
     // Words that are not an order are refused, and nothing is printed.
     ensures fault { fault_of the_program (map string_bytes words.now) ≢ []
         → ((result ≡ bad_line) ⊎ (result ≡ no_memory)) × Appends (W.written output.old.sink) (W.written output.new.sink) [] }
+    // Where all is done, no fault is reported.
+    ensures quiet { result ≡ done → E.contents faults.new ≡ E.contents faults.old }
 {
     match order(alloc, words) {
         Ok(Order::Check(name)) => check(alloc, files, name, &mut output.sink, faults),
         Ok(Order::Run) => run(alloc, input, &mut output.sink, faults),
-        Ok(Order::Serve(options)) => serve(rt, alloc, files, &options, output, faults),
+        Ok(Order::Serve(options)) => serve(rt, caller, alloc, files, &options, output, faults),
         Err(LineFault::Line(error)) => {
             let _reported = write!(faults, "{error}");
             BAD_LINE
@@ -104,6 +108,7 @@ fn run<R: Source, W: Sink, E: io::Write>(
     requires output { W.failed output.old ≡ false }
     ensures ran { HasRun (record { left = R.left input.old; source = record { left = R.left input.new; failed = R.failed input.new; reads = R.reads input.new }; before = W.written output.old; after = W.written output.new; has_failed = W.failed output.new }) result }
     ensures broken { W.failed output.new ≡ true → result ≡ failed }
+    ensures quiet { result ≡ done → E.contents faults.new ≡ E.contents faults.old }
 {
     let mut arena = Bump::new(alloc);
     let end = run_last_script(alloc, input, output, &mut arena);
@@ -112,7 +117,9 @@ fn run<R: Source, W: Sink, E: io::Write>(
 }
 
 // Reports how a script ended, where that is neither its own end nor a header that is refused.
-fn report<E: io::Write>(end: ScriptEnd, faults: &mut E) {
+fn report<E: io::Write>(end: ScriptEnd, faults: &mut E)
+    ensures quiet { status_of end ≡ done → E.contents faults.new ≡ E.contents faults.old }
+{
     match end {
         ScriptEnd::Finished | ScriptEnd::BadHeader => {}
         ScriptEnd::ReadFault | ScriptEnd::WriteFault => {
@@ -146,6 +153,7 @@ fn check<F: Files, W: Sink, E: io::Write>(
     requires { W.failed output.old ≡ false }
     ensures checked { HasChecked (F.bytes files.now name.now) (W.written output.old) (W.written output.new) (W.failed output.new) result }
     ensures broken { W.failed output.new ≡ true → result ≡ failed }
+    ensures quiet { result ≡ done → E.contents faults.new ≡ E.contents faults.old }
 {
     match files.read(alloc, name, MAX_FILE_BYTES) {
         Ok(bytes) => match answer(alloc, &bytes) {
@@ -199,6 +207,7 @@ pub(crate) fn print<W: Sink, E: io::Write>(answer: &Told, output: &mut W, faults
     requires { W.failed output.old ≡ false }
     ensures printed { ((result ≡ answer.now.status) × Appends (W.written output.old) (W.written output.new) answer.now.line.items) ⊎ ((result ≡ failed) × (W.failed output.new ≡ true)) }
     ensures broken { W.failed output.new ≡ true → result ≡ failed }
+    ensures quiet { result ≡ done → E.contents faults.new ≡ E.contents faults.old }
 {
     match send_text(output, &answer.line) {
         Ok(()) => answer.status,

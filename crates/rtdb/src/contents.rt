@@ -1,5 +1,5 @@
 //! What is read of a server's files.
-ghost use Rattle.std.specs.Prelude.{◌≡◌, ◌⊎◌, None, IfOk, IfErr, option_map};
+ghost use Rattle.std.specs.Prelude.{◌≡◌, ◌⊎◌, None, IfOk, IfErr, OnOk, option_map};
 ghost use Rattle.rtdb.specs.Command.{AreRead, IsFront, IsFrontOf, IsUnknown, IsUnread};
 ghost use Rattle.rtdb.specs.Opening.{bytes_of};
 ghost use Rattle.command_line.specs.Order.{served_by};
@@ -26,6 +26,7 @@ pub fn read_contents<F: Files, E: io::Write>(
 ) -> Result<Contents, u8>
     ensures ok { IfOk result (λ contents. AreRead (F.bytes files.now) (served_by options.now) (bytes_of contents)) }
     ensures err { IfErr result (λ status. ((status ≡ failed) × IsUnread (F.bytes files.now) (served_by options.now)) ⊎ (status ≡ no_memory)) }
+    ensures quiet { OnOk result (E.contents faults.new ≡ E.contents faults.old) }
 {
     let rules = read_file(alloc, files, options.rules_file, MAX_FILE_BYTES, faults)?;
     let data_bytes = read_if_named(alloc, files, options.data_file, faults)?;
@@ -45,6 +46,7 @@ fn read_if_named<F: Files, E: io::Write>(
 ) -> Result<Option<Vec<u8>>, u8>
     ensures ok { IfOk result (λ bytes. IsFrontOf (F.bytes files.now) (option_map (λ name. name.now) name.entry) (option_map (λ found. found.items) bytes)) }
     ensures err { IfErr result (λ status. ((status ≡ failed) × IsUnknown (F.bytes files.now) (option_map (λ name. name.now) name.entry)) ⊎ (status ≡ no_memory)) }
+    ensures quiet { OnOk result (E.contents faults.new ≡ E.contents faults.old) }
 {
     match name {
         Some(name) => Ok(Some(read_file(alloc, files, name, MOST_BYTES, faults)?)),
@@ -62,6 +64,7 @@ fn read_file<F: Files, E: io::Write>(
 ) -> Result<Vec<u8>, u8>
     ensures ok { IfOk result (λ bytes. IsFront (F.bytes files.now name.now) limit bytes.items) }
     ensures err { IfErr result (λ status. ((status ≡ failed) × (F.bytes files.now name.now ≡ None)) ⊎ (status ≡ no_memory)) }
+    ensures quiet { OnOk result (E.contents faults.new ≡ E.contents faults.old) }
 {
     match files.read(alloc, name, limit) {
         Ok(bytes) => Ok(bytes),

@@ -1,4 +1,6 @@
 //! What is wrong with a file, for a person.
+ghost use Rattle.std.specs.Prelude.{◌≡◌, ◌≢◌};
+ghost use Rattle.rtdb.specs.Status.{refused};
 
 use crate::command::REFUSED;
 use crate::opening::Contents;
@@ -19,7 +21,9 @@ pub(crate) fn explain_rules<E: io::Write>(
     name: &str,
     bytes: &[u8],
     faults: &mut E,
-) {
+)
+    ensures quiet { status ≢ refused → E.contents faults.new ≡ E.contents faults.old }
+{
     if status != REFUSED {
         return;
     }

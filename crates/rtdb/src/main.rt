@@ -19,6 +19,7 @@ use command::{BAD_LINE, command, out_of_memory};
 use files::SystemFiles;
 use printing::Printing;
 use scripts::{Reading, Writing};
+use sessions::HallCaller;
 use std::process::ExitCode;
 use std::{env, io, thread};
 
@@ -29,6 +30,7 @@ fn main(rt: HostRuntime) -> ExitCode {
     let obeyed = || match words_of(&rt) {
         Ok(words) => command(
             &rt,
+            &HallCaller::new(&rt),
             rt.alloc(),
             &words,
             &SystemFiles::new(&rt),

@@ -3,7 +3,7 @@ ghost use Rattle.std.specs.Prelude.{◌≡◌, ◌⊎◌, true, false, IfOk, OnO
 ghost use Rattle.scripts.specs.Said.{as_line, header_fault_text};
 ghost use Rattle.rtdb.specs.Command.{HasServed};
 ghost use Rattle.command_line.specs.Order.{served_by};
-ghost use Rattle.rtdb.specs.Status.{failed, no_memory, refused};
+ghost use Rattle.rtdb.specs.Status.{done, failed, no_memory, refused};
 ghost use Rattle.rtdb.specs.Working.{IsServedOr, IsTold};
 
 use crate::command::{DONE, FAILED, REFUSED, Told, as_line, no_output, out_of_memory, print};
@@ -16,24 +16,26 @@ use answers::AnswerWriter;
 use command_line::ServeOptions;
 use json_tree::NoMemory;
 use locked_server::Hall;
-use rtdb_core::Refusal;
+use rtdb_core::{Core, Refusal};
 use scripts::{HeaderFault, Opened, Sink};
 use server::{Listener, OpenGate, ServerFault, Shifts, serve_on};
+use sessions::Caller;
 use std::alloc::Global;
 use std::io;
 use std::net::{Net, TcpListener, TcpStream};
-use std::sync::Wait;
 use std::thread::Threads;
 use std::time::Clock;
 
 /// Serves the database that the files open, or prints why they open none.
 pub fn serve<
-    R: Net<Listener = TcpListener, Stream = TcpStream> + Threads + Wait + Clock + Sync,
+    R: Net<Listener = TcpListener, Stream = TcpStream> + Threads + Clock + Sync,
+    Q: Caller + Sync,
     F: Files,
     W: Sink,
     E: io::Write,
 >(
     rt: &R,
+    caller: &Q,
     alloc: Global,
     files: &F,
     options: &ServeOptions<'_>,
@@ -43,10 +45,11 @@ pub fn serve<
     requires { W.failed output.old.sink ≡ false }
     ensures served { HasServed (F.bytes files.now) (served_by options.now) (W.written output.old.sink) (W.written output.new.sink) (W.failed output.new.sink) result }
     ensures broken { W.failed output.new.sink ≡ true → result ≡ failed }
+    ensures quiet { result ≡ done → E.contents faults.new ≡ E.contents faults.old }
 {
     match read_contents(alloc, files, options, faults) {
         Ok(contents) => match open_contents(alloc, &contents) {
-            Ok(opened) => listen(rt, alloc, opened, options, output, faults),
+            Ok(opened) => listen(rt, caller, alloc, opened, options, output, faults),
             Err(fault) => {
                 explain_fault(alloc, &fault, options, &contents, faults);
                 refuse(alloc, &fault, &mut output.sink, faults)
@@ -58,11 +61,13 @@ pub fn serve<
 
 // Listens on the port, and serves.
 fn listen<
-    R: Net<Listener = TcpListener, Stream = TcpStream> + Threads + Wait + Clock + Sync,
+    R: Net<Listener = TcpListener, Stream = TcpStream> + Threads + Clock + Sync,
+    Q: Caller + Sync,
     W: Sink,
     E: io::Write,
 >(
     rt: &R,
+    caller: &Q,
     alloc: Global,
     opened: Opened,
     options: &ServeOptions<'_>,
@@ -72,6 +77,7 @@ fn listen<
     requires { W.failed output.old.sink ≡ false }
     ensures served { IsServedOr opened (served_by options.now) (W.written output.old.sink) (W.written output.new.sink) (W.failed output.new.sink) result }
     ensures broken { W.failed output.new.sink ≡ true → result ≡ failed }
+    ensures quiet { result ≡ done → E.contents faults.new ≡ E.contents faults.old }
 {
     let Opened { core, tokens } = opened;
     let Ok(listener) = Listener::bind(rt, options.port) else {
@@ -85,13 +91,21 @@ fn listen<
         rounds: options.rounds,
     };
     let end = serve_on(
-        rt, alloc, &listener, hall, seat, &tokens, &OpenGate, shifts, output,
+        rt, caller, alloc, &listener, hall, seat, &tokens, &OpenGate, shifts, output,
     );
     match end {
-        Ok(()) => DONE,
+        Ok(core) => give_up(core),
         Err(ServerFault::Output) => no_output(faults),
         Err(ServerFault::NoMemory) => out_of_memory(faults),
     }
+}
+
+// Gives up the database that a server leaves, and says the status.
+fn give_up(core: Core) -> u8
+    ensures { result ≡ done }
+{
+    drop(core);
+    DONE
 }
 
 // Reports that nothing listens.

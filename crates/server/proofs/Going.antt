@@ -1,5 +1,5 @@
 -- Seats that go on, and texts behind one another.
-use Rattle.std.proofs.Common.{◌≡◌, ℕ, List, [], ◌∷◌, ◌++◌, length, refl, ap, sym, subst, ◌∙◌, append-nil, append_assoc, Option, Some, None, Result, Ok, Err, inl, inr}
+use Rattle.std.proofs.Common.{◌≡◌, ℕ, List, [], ◌++◌, length, refl, ap, sym, subst, ◌∙◌, append-nil, append_assoc, Option, Some, None, Result, Ok, Err, inl, inr}
 use Rattle.std.specs.Result.{OnOk}
 use Rattle.std.specs.Io.KnownBytes.{Appends}
 use mathlib.Core.List.{IsPrefix}
@@ -7,7 +7,7 @@ use Rattle.tokens.specs.Tokens.{Tokens}
 use Rattle.locked_server.specs.Known.{Known, SeesLegal}
 use Rattle.server.specs.declared.fault.ServerFault.{ServerFault}
 use Rattle.server.specs.declared.shifts.Shifts.{Shifts}
-use Rattle.server.specs.Served.{GoesOn, HaveServed, HasServed, IsCutShort, listening_text, served_text}
+use Rattle.server.specs.Served.{GoesOn, HaveServed, HasPrinted, IsCutShort, listening_text, served_text}
 
 -- ---- seats that go on
 
@@ -30,15 +30,15 @@ both_appended (Some p) (Some q) None x y h k = k
 both_appended (Some p) (Some q) (Some r) x y h k = k ∙ ap (λ s. s ++ y) h ∙ append_assoc p x y
 
 -- the first line and the last were printed, and all workers had served between
-pub has_served : (tokens : Tokens) (shifts : Shifts) (port : ℕ) (k m : Known) (a b d : Option (List ℕ)) (entries : ℕ) → HaveServed tokens shifts.rounds 1 shifts.workers k m → SeesLegal m → entries ≡ length m.seen
-    → Appends a b (listening_text port) → Appends b d (served_text entries) → HasServed tokens shifts port k a d
-has_served tokens shifts port k m a b d entries served legal counted first last =
-    (m, served, legal, both_appended a b d (listening_text port) (served_text (length m.seen)) first (subst (λ (n : ℕ). Appends b d (served_text n)) counted last))
+has_printed : (tokens : Tokens) (shifts : Shifts) (port : ℕ) (k m : Known) (a b d : Option (List ℕ)) (entries : ℕ) → HaveServed tokens shifts.rounds 1 shifts.workers k m → SeesLegal m → entries ≡ length m.seen
+    → Appends a b (listening_text port) → Appends b d (served_text entries) → HasPrinted tokens shifts port k m a d
+has_printed tokens shifts port k m a b d entries served legal counted first last =
+    (served, legal, both_appended a b d (listening_text port) (served_text (length m.seen)) first (subst (λ (n : ℕ). Appends b d (served_text n)) counted last))
 
-pub has_served_if : (tokens : Tokens) (shifts : Shifts) (port : ℕ) (k m : Known) (a b d : Option (List ℕ)) (entries : ℕ) (end : Result Unit ServerFault) → HaveServed tokens shifts.rounds 1 shifts.workers k m → SeesLegal m
-    → entries ≡ length m.seen → Appends a b (listening_text port) → OnOk end (Appends b d (served_text entries)) → OnOk end (HasServed tokens shifts port k a d)
-has_served_if tokens shifts port k m a b d entries (Ok done) served legal counted first last = has_served tokens shifts port k m a b d entries served legal counted first last
-has_served_if tokens shifts port k m a b d entries (Err fault) served legal counted first last = tt
+pub has_printed_if : (tokens : Tokens) (shifts : Shifts) (port : ℕ) (k m : Known) (a b d : Option (List ℕ)) (entries : ℕ) (end : Result Unit ServerFault) → HaveServed tokens shifts.rounds 1 shifts.workers k m → SeesLegal m
+    → entries ≡ length m.seen → Appends a b (listening_text port) → OnOk end (Appends b d (served_text entries)) → OnOk end (HasPrinted tokens shifts port k m a d)
+has_printed_if tokens shifts port k m a b d entries (Ok done) served legal counted first last = has_printed tokens shifts port k m a b d entries served legal counted first last
+has_printed_if tokens shifts port k m a b d entries (Err fault) served legal counted first last = tt
 
 pub cut_short : (port : ℕ) (a b d : Option (List ℕ)) → Appends a b (listening_text port) → d ≡ b → IsCutShort port a d
 cut_short port a b d first same = inr (subst (λ (o : Option (List ℕ)). Appends a o (listening_text port)) (sym same) first)

@@ -1,6 +1,5 @@
 -- Lists that are shuffled into one.
 use Rattle.std.proofs.Common.{◌≡◌, List, [], ◌∷◌, ◌++◌, map, refl, ap, sym, subst, ◌∙◌, inl, inr}
-use Rattle.std.proofs.lemmas.List.{map-append}
 use Rattle.locked_server.specs.History.{Shuffled}
 use Rattle.server.specs.Served.{AllShuffled}
 

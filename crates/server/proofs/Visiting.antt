@@ -1,6 +1,6 @@
 -- The calls of visits, of workers, and of all workers.
-use Rattle.std.proofs.Common.{◌≡◌, ℕ, ◌+◌, ◌^◌, ◌≤◌, List, [], ◌∷◌, ◌++◌, map, length, length-append, refl, ap, sym, subst, ◌∙◌, arith, append-nil, true, false, inl, inr}
-use Rattle.std.specs.Prelude.{All, Option}
+use Rattle.std.proofs.Common.{◌≡◌, ℕ, ◌+◌, ◌≤◌, List, [], ◌∷◌, ◌++◌, map, length, length-append, refl, ap, sym, subst, ◌∙◌, arith, append-nil, true, false, inl, inr}
+use Rattle.std.specs.Prelude.{Option}
 use Rattle.std.proofs.lemmas.Grind.{flat_map-append}
 use Rattle.std.proofs.lemmas.List.{map-append}
 use Rattle.std.proofs.lemmas.List.Elements.{All-nil, All-cons, All-append}
@@ -13,7 +13,7 @@ use Rattle.sessions.specs.Serving.{Serves, world}
 use Rattle.sessions.specs.declared.serve.SessionEnd.{SessionEnd}
 use Rattle.sessions.proofs.Gaining.{gains_none, gains_both, spent_in_either, stays_full}
 use Rattle.server.specs.declared.rounds.TheConstants.{TURNS}
-use Rattle.server.specs.Served.{joined, AreOfVisit, AreOfWorkers, AllShuffled, GoesOn, HaveServed}
+use Rattle.server.specs.Served.{joined, AreOfVisit, AreOfWorkers, AllShuffled, HaveServed}
 use Rattle.server.specs.Working.{HasVisit, HasVisits}
 use Rattle.server.proofs.Going.{goes_nowhere, goes_further}
 use Rattle.server.proofs.Shuffling.{first_alone, one_behind, is_second, both_shuffled, shuffled_map}

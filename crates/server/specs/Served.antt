@@ -5,7 +5,8 @@ use Rattle.std.specs.Io.KnownBytes.{Appends}
 use mathlib.Core.List.{IsPrefix}
 use Rattle.tokens.specs.Tokens.{Tokens}
 use Rattle.locked_server.specs.History.{Shuffled}
-use Rattle.locked_server.specs.Known.{Known, SeesLegal}
+use Rattle.rtdb_model.specs.State.{State}
+use Rattle.locked_server.specs.Known.{Known, Closes, SeesLegal}
 use Rattle.sessions.specs.Traffic.{Traffic}
 use Rattle.sessions.specs.Calls.{Answered, calls, entries_of, HasSpent}
 use Rattle.sessions.specs.Turns.{Deeds}
@@ -65,9 +66,13 @@ pub record HaveServed (tokens : Tokens) (rounds session workers : ℕ) (k l : Kn
   pub shuffled : AllShuffled (calls k ∷ map entries_of made) (calls l)
   pub full : HasSpent (joined made) → 2 ^ 62 ≤ length l.seen
 
--- Two lines were printed: where the server listens, and how many entries a legal history of the seat's hall has, which a seat has seen once all workers had served, from session 1 on.
-abbrev pub HasServed : Tokens → Shifts → ℕ → Known → Option (List ℕ) → Option (List ℕ) → Type 0
-HasServed tokens shifts port k before after = (l : Known) × HaveServed tokens shifts.rounds 1 shifts.workers k l × SeesLegal l × Appends before after (listening_text port ++ served_text (length l.seen))
+-- Two lines were printed: where the server listens, and how many entries a legal history of the seat's hall has, which this seat has seen once all workers had served, from session 1 on.
+abbrev pub HasPrinted : Tokens → Shifts → ℕ → Known → Known → Option (List ℕ) → Option (List ℕ) → Type 0
+HasPrinted tokens shifts port k l before after = HaveServed tokens shifts.rounds 1 shifts.workers k l × SeesLegal l × Appends before after (listening_text port ++ served_text (length l.seen))
+
+-- The two lines were printed, and this database was left: by a history that begins with the one that was counted, and has no call of the seat or of a worker behind it.
+abbrev pub HasServed : Tokens → Shifts → ℕ → Known → State → Option (List ℕ) → Option (List ℕ) → Type 0
+HasServed tokens shifts port k left before after = (l : Known) × HasPrinted tokens shifts port k l before after × Closes l left
 
 -- The first line was printed, or nothing.
 abbrev pub IsCutShort : ℕ → Option (List ℕ) → Option (List ℕ) → Type 0

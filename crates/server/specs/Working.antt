@@ -1,5 +1,5 @@
 -- Words of private contracts. No public clause names one.
-use Rattle.std.specs.Prelude.{◌≡◌, ℕ, ◌≤◌, List, All, length}
+use Rattle.std.specs.Prelude.{ℕ, ◌≤◌, List, All, length}
 use Rattle.tokens.specs.Tokens.{Tokens}
 use Rattle.locked_server.specs.Known.{Known}
 use Rattle.sessions.specs.Calls.{Answered, Gains}

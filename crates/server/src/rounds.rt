@@ -6,10 +6,9 @@ use crate::listener::Listener;
 use crate::moments::SystemMoments;
 use bumpalo::Bump;
 use locked_server::{Hall, Seat};
-use sessions::{Gate, SocketPeer, serve_session};
+use sessions::{Caller, Gate, SocketPeer, serve_session};
 use std::alloc::Global;
 use std::net::TcpStream;
-use std::sync::Wait;
 use std::time::{self, Duration};
 use std::{io, thread};
 use tokens::Tokens;
@@ -41,8 +40,9 @@ pub const TURNS: u64 = 1_000_000_000;
 
 /// What all workers share, and how many rounds each of them has.
 #[derive(Clone, Copy)]
-pub(crate) struct WorkPlace<'a, R, G> {
+pub(crate) struct WorkPlace<'a, R, Q, G> {
     pub(crate) rt: &'a R,
+    pub(crate) caller: &'a Q,
     pub(crate) alloc: Global,
     pub(crate) listener: &'a Listener,
     pub(crate) hall: &'a Hall,
@@ -53,8 +53,8 @@ pub(crate) struct WorkPlace<'a, R, G> {
 
 /// Serves the rounds of one worker, who serves each client as this session. A connection whose handshake fails is a
 /// round too, and so is an hour in which the system gives none.
-pub(crate) fn work<R: Wait + time::Clock, G: Gate>(
-    place: &WorkPlace<'_, R, G>,
+pub(crate) fn work<R: time::Clock, Q: Caller, G: Gate>(
+    place: &WorkPlace<'_, R, Q, G>,
     session: u64,
     seat: &mut Seat,
 )
@@ -69,8 +69,8 @@ pub(crate) fn work<R: Wait + time::Clock, G: Gate>(
 }
 
 // Serves the next client, if one comes.
-fn serve_round<R: Wait + time::Clock, G: Gate>(
-    place: &WorkPlace<'_, R, G>,
+fn serve_round<R: time::Clock, Q: Caller, G: Gate>(
+    place: &WorkPlace<'_, R, Q, G>,
     session: u64,
     seat: &mut Seat,
     arena: &mut Bump,
@@ -85,8 +85,8 @@ fn serve_round<R: Wait + time::Clock, G: Gate>(
 }
 
 // Serves the session of one client. However it ends, the next client comes.
-fn serve_client<R: Wait + time::Clock, G: Gate>(
-    place: &WorkPlace<'_, R, G>,
+fn serve_client<R: time::Clock, Q: Caller, G: Gate>(
+    place: &WorkPlace<'_, R, Q, G>,
     session: u64,
     seat: &mut Seat,
     arena: &mut Bump,
@@ -99,7 +99,7 @@ fn serve_client<R: Wait + time::Clock, G: Gate>(
     let mut clock = SystemMoments::new(place.rt);
     let mut peer = SocketPeer::new(place.alloc, socket);
     let _end = serve_session(
-        place.rt,
+        place.caller,
         place.alloc,
         place.hall,
         seat,

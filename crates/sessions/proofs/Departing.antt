@@ -1,5 +1,5 @@
 -- What is done when a session goes, put together.
-use Rattle.std.proofs.Common.{◌≡◌, ℕ, Bool, true, false, ◌+◌, ◌<◌, ◌⊎◌, inl, inr, List, [], ◌∷◌, ◌++◌, length, refl, ap, sym, subst, ◌∙◌, arith, length-append, zero, suc}
+use Rattle.std.proofs.Common.{◌≡◌, ℕ, true, false, ◌+◌, ◌<◌, inl, inr, List, [], ◌∷◌, ◌++◌, length, refl, ap, sym, subst, ◌∙◌, arith, length-append, zero, suc}
 use Rattle.std.specs.Prelude.{Option, All}
 use Rattle.std.proofs.lemmas.List.Elements.{All-append}
 use Rattle.locked_server.specs.Known.{Known}
@@ -9,7 +9,7 @@ use Rattle.rtdb_model.specs.declared.reply.Reply.{Reply}
 use Rattle.sessions.specs.Traffic.{Adds}
 use Rattle.sessions.specs.Calls.{Gains, called}
 use Rattle.sessions.specs.Turns.{Deeds, both, calling}
-use Rattle.sessions.specs.Departure.{Run, runs_in, found_none, AreRun}
+use Rattle.sessions.specs.Departure.{Run, runs_in, found_none}
 use Rattle.sessions.specs.Serving.{world}
 use Rattle.sessions.specs.Working.{Quietly, RunsActions, DepartsBy}
 use Rattle.sessions.specs.declared.departure.TheConstants.{MAX_RUNS}

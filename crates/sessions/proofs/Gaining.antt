@@ -1,5 +1,5 @@
 -- What the hall's contract says of a seat's calls, as lists.
-use Rattle.std.proofs.Common.{◌≡◌, ◌≢◌, ◌≤◌, ◌^◌, ◌||◌, ℕ, Bool, true, false, not, cond, length, length-append, arith, ◌⊎◌, inl, inr, List, [], ◌∷◌, ◌++◌, map, refl, ap, sym, subst, ◌∙◌, append-nil, append_assoc}
+use Rattle.std.proofs.Common.{◌≡◌, ◌≢◌, ◌≤◌, ◌^◌, ◌||◌, ℕ, Bool, true, false, not, cond, length, length-append, arith, ◌⊎◌, inl, inr, List, [], ◌∷◌, ◌++◌, map, refl, ap, sym, ◌∙◌, append-nil, append_assoc}
 use Rattle.std.specs.List.{list_any}
 use Rattle.std.proofs.lemmas.List.{map-append}
 use Rattle.std.proofs.lemmas.List.Elements.{filter-append}
@@ -9,7 +9,6 @@ use Rattle.rtdb_model.specs.declared.event.Event.{Event}
 use Rattle.rtdb_model.specs.declared.reply.Reply.{Reply}
 use Rattle.rtdb_model.specs.declared.reply.Reply.TheVariants.{Done, Value, News, Refused, Ran, Closed}
 use Rattle.rtdb_model.specs.declared.reply.Refusal.TheVariants.{SessionOpen, TooManySessions, NoSession, NotAdmin, EmptyUpdate, Overlap, DuplicateId, TooManyListeners, NoListener, Leaving, TooManyActions, NotLeaving, ReadDenied, WriteDenied, ValidateDenied, TreeFull, NoMemory, Spent}
-use Rattle.locked_server.specs.declared.entry.Entry.{Entry}
 use Rattle.locked_server.specs.Known.{Known, IsSameSeat, own, Made, Missed}
 use Rattle.sessions.specs.Calls.{Answered, answered_in, calls, is_spent, called, entries_of, HasSpent, Gains}
 

@@ -2,3 +2,4 @@ pub mod Gaining
 pub mod Going
 pub mod Turning
 pub mod Departing
+pub mod Reading

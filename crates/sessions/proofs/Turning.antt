@@ -1,6 +1,6 @@
 -- The turns of a session, and its opening and its end.
 use Rattle.std.proofs.Common.{◌≡◌, ◌≢◌, ℕ, zero, suc, true, ◌+◌, ◌<◌, List, [], ◌∷◌, ◌++◌, length, refl, ap, sym, subst, ◌∙◌, ◌⊎◌, inl, inr, append-nil, arith, length-append}
-use Rattle.std.specs.Prelude.{Option, Some, None, All, flat_map, MatchOption}
+use Rattle.std.specs.Prelude.{Option, Some, None, All, MatchOption}
 use Rattle.std.proofs.lemmas.Grind.{flat_map-append}
 use Rattle.std.proofs.lemmas.List.Elements.{All-append}
 use Rattle.tokens.specs.Tokens.{Tokens}
@@ -14,14 +14,25 @@ use Rattle.rtdb_model.specs.declared.event.Event.TheVariants.{Open, Poll}
 use Rattle.rtdb_model.specs.declared.reply.Reply.{Reply}
 use Rattle.rtdb_model.specs.declared.reply.Reply.TheVariants.{Done}
 use Rattle.answers.specs.AnswerText.{text, line_fault_text}
-use Rattle.sessions.specs.Traffic.{Traffic, Adds, Moves, IsOpen}
+use Rattle.sessions.specs.Traffic.{Traffic, Adds, Moves, IsOpen, IsThere}
 use Rattle.sessions.specs.Calls.{Answered, Gains, called}
-use Rattle.sessions.specs.Turns.{Deeds, nothing, both, unsent, calling, IsAnswered, Answers, Pushes, push_of, Turn, IsWhole, IsCut, got_in, deeds_in}
+use Rattle.sessions.specs.Turns.{Deeds, nothing, both, unsent, calling, IsAnswered, push_of, Turn, IsWhole, got_in, deeds_in}
 use Rattle.sessions.specs.Serving.{World, world, Goes, Fits, EndsAs, Visits, Serves}
 use Rattle.sessions.specs.Working.{RepliesOr, AnswersOr, PushesOr, TurnsOr, HasTurns, DepartsBy, replying}
 use Rattle.sessions.specs.declared.serve.SessionEnd.{SessionEnd}
 use Rattle.sessions.specs.declared.serve.SessionEnd.TheVariants as ends
 use Rattle.sessions.proofs.Going.{goes_nothing, goes_both, goes_on, goes_by, goes_calling, both-nothing, both-both, moves_none}
+
+-- ---- how the peer stands at an end
+
+fits_closed : (p q : Traffic) → IsOpen p → q ≡ record p { closed = true } → Fits ends.PeerClosed q []
+fits_closed p q open_p is = subst (λ (t : Traffic). Fits ends.PeerClosed t []) (sym is) ((refl, open_p.0.1, open_p.0.2), refl)
+
+fits_failed : (p q : Traffic) (held : List (List ℕ)) → IsOpen p → q ≡ record p { failed = true } → Fits ends.PeerFault q held
+fits_failed p q held open_p is = subst (λ (t : Traffic). Fits ends.PeerFault t held) (sym is) (open_p.0.0, refl, open_p.0.2)
+
+fits_lost : (p q : Traffic) (held : List (List ℕ)) → IsOpen p → q ≡ record p { lost = true } → Fits ends.NoMemory q held
+fits_lost p q held open_p is = subst (λ (t : Traffic). Fits ends.NoMemory t held) (sym is) (inl (open_p.0.0, open_p.0.1, refl))
 
 -- ---- a message
 
@@ -36,10 +47,11 @@ asks_nothing tokens now session message fault h = inr (fault, h, refl, refl)
 -- the answer was written, and sent or not
 pub replied : (tokens : Tokens) (session now : ℕ) (message said written : List ℕ) (made : List Answered) (k l : Known) (m n : Option (List ℕ)) (p q : Traffic) (end : Option SessionEnd) → Adds m (now ∷ []) n
     → Gains k made l → IsAnswered tokens now session message said made → written ≡ said
-    → MatchOption end (Moves p [] (written ∷ []) q × IsOpen q) (λ e. Moves p [] [] q × Fits e q) → RepliesOr tokens session message (world k m p) (world l n q) end
+    → MatchOption end (Moves p [] (written ∷ []) q × IsOpen q) (λ e. Moves p [] [] q × Fits e q (written ∷ [])) → RepliesOr tokens session message (world k m p) (world l n q) end
 replied tokens session now message said written made k l m n p q None reads gains answered is sent =
     (now, said, made, answered, goes_calling k l m n p q now made (said ∷ []) reads gains (subst (λ (t : List ℕ). Moves p [] (t ∷ []) q) is sent.0), sent.1)
-replied tokens session now message said written made k l m n p q (Some e) reads gains answered is sent = (now, said, made, answered, goes_calling k l m n p q now made [] reads gains sent.0, sent.1)
+replied tokens session now message said written made k l m n p q (Some e) reads gains answered is sent =
+    (now, said, made, answered, goes_calling k l m n p q now made [] reads gains sent.0, subst (λ (t : List ℕ). Fits e q (t ∷ [])) is sent.1)
 
 -- ---- the first half of a turn
 
@@ -48,9 +60,18 @@ hears_nothing tokens session k m p q open_p same =
     subst (λ (t : Traffic). AnswersOr tokens session (world k m p) (world k m t) None) (sym same) ([], nothing, refl, goes_nothing (world k m p), open_p)
 
 -- nothing was received, and the session ends
-pub hears_end : (tokens : Tokens) (session : ℕ) (k : Known) (m : Option (List ℕ)) (p q : Traffic) (end : SessionEnd) → q.left ≡ p.left → q.sent ≡ p.sent → Fits end q
+hears_end : (tokens : Tokens) (session : ℕ) (k : Known) (m : Option (List ℕ)) (p q : Traffic) (end : SessionEnd) → q.left ≡ p.left → q.sent ≡ p.sent → Fits end q []
     → AnswersOr tokens session (world k m p) (world k m q) (Some end)
 hears_end tokens session k m p q end left sent fits = ([], nothing, refl, goes_by k m p q [] [] (moves_none p q left sent), fits)
+
+pub hears_close : (tokens : Tokens) (session : ℕ) (k : Known) (m : Option (List ℕ)) (p q : Traffic) → IsOpen p → q ≡ record p { closed = true } → AnswersOr tokens session (world k m p) (world k m q) (Some ends.PeerClosed)
+hears_close tokens session k m p q open_p is = hears_end tokens session k m p q ends.PeerClosed (ap (λ (t : Traffic). t.left) is) (ap (λ (t : Traffic). t.sent) is) (fits_closed p q open_p is)
+
+pub hears_fault : (tokens : Tokens) (session : ℕ) (k : Known) (m : Option (List ℕ)) (p q : Traffic) → IsOpen p → q ≡ record p { failed = true } → AnswersOr tokens session (world k m p) (world k m q) (Some ends.PeerFault)
+hears_fault tokens session k m p q open_p is = hears_end tokens session k m p q ends.PeerFault (ap (λ (t : Traffic). t.left) is) (ap (λ (t : Traffic). t.sent) is) (fits_failed p q [] open_p is)
+
+pub hears_loss : (tokens : Tokens) (session : ℕ) (k : Known) (m : Option (List ℕ)) (p q : Traffic) → IsOpen p → q ≡ record p { lost = true } → AnswersOr tokens session (world k m p) (world k m q) (Some ends.NoMemory)
+hears_loss tokens session k m p q open_p is = hears_end tokens session k m p q ends.NoMemory (ap (λ (t : Traffic). t.left) is) (ap (λ (t : Traffic). t.sent) is) (fits_lost p q [] open_p is)
 
 -- a message was received, and answered or not
 pub hears_message : (tokens : Tokens) (session : ℕ) (k l : Known) (m n : Option (List ℕ)) (p q r : Traffic) (message given : List ℕ) (end : Option SessionEnd) → Moves p (message ∷ []) [] q → given ≡ message
@@ -67,7 +88,7 @@ hears_message tokens session k l m n p q r message given end moves same replies 
 -- ---- the second half of a turn
 
 pub pushes : (session now : ℕ) (k l : Known) (m n : Option (List ℕ)) (p q : Traffic) (reply : Reply) (end : Option SessionEnd) → Adds m (now ∷ []) n → Gains k (called now session Poll reply) l
-    → MatchOption end (Moves p [] (push_of reply) q × IsOpen q) (λ e. Moves p [] [] q × Fits e q) → PushesOr session (world k m p) (world l n q) end
+    → MatchOption end (Moves p [] (push_of reply) q × IsOpen q) (λ e. Moves p [] [] q × Fits e q (push_of reply)) → PushesOr session (world k m p) (world l n q) end
 pushes session now k l m n p q reply None reads gains sent =
     (record (calling now session Poll reply) { texts = push_of reply }, (now, reply, refl), goes_calling k l m n p q now (called now session Poll reply) (push_of reply) reads gains sent.0, sent.1)
 pushes session now k l m n p q reply (Some e) reads gains sent =
@@ -79,10 +100,10 @@ pub turns_whole : (tokens : Tokens) (session : ℕ) (a b c : World) (end : Optio
 turns_whole tokens session a b c None (got, d, answers, goes, open_b) (e, pushes, goes_too, open_c) =
     (record { got = got; does = both d e }, (d, e, answers, pushes, refl), goes_on a b c got d e goes goes_too, open_c)
 turns_whole tokens session a b c (Some end) (got, d, answers, goes, open_b) (e, pushes, goes_too, fits) =
-    (record { got = got; does = both d (unsent e) }, (d, answers, inr (e, pushes, refl)), goes_on a b c got d (unsent e) goes goes_too, fits)
+    (record { got = got; does = both d (unsent e) }, e.texts, (d, answers, inr (e, pushes, refl, refl)), goes_on a b c got d (unsent e) goes goes_too, fits)
 
 pub turns_cut : (tokens : Tokens) (session : ℕ) (a b : World) (end : SessionEnd) → AnswersOr tokens session a b (Some end) → TurnsOr tokens session a b (Some end)
-turns_cut tokens session a b end (got, d, answers, goes, fits) = (record { got = got; does = unsent d }, (d, answers, inl refl), goes, fits)
+turns_cut tokens session a b end (got, d, answers, goes, fits) = (record { got = got; does = unsent d }, d.texts, (d, answers, inl (refl, refl)), goes, fits)
 
 -- ---- many turns
 
@@ -120,20 +141,20 @@ so_far_more tokens session n a b c s (t, whole, goes, open_c) = record {
 }
 
 pub turns_end : (tokens : Tokens) (session n most : ℕ) (a b c : World) (end : SessionEnd) → n < most → SoFar tokens session n a b → TurnsOr tokens session b c (Some end) → HasTurns tokens session most a end c
-turns_end tokens session n most a b c end less s (t, cut, goes, fits) =
-    (s.turns ++ t ∷ [], goes_more a b c s.turns t s.goes goes, inr (s.turns, t, refl, s.whole, cut, subst (λ m. m < most) (sym s.count) less, fits))
+turns_end tokens session n most a b c end less s (t, held, cut, goes, fits) =
+    (s.turns ++ t ∷ [], goes_more a b c s.turns t s.goes goes, inr (s.turns, t, held, refl, s.whole, cut, subst (λ m. m < most) (sym s.count) less, fits))
 
-pub turns_over : (tokens : Tokens) (session most : ℕ) (a b : World) → SoFar tokens session most a b → HasTurns tokens session most a ends.Turns b
-turns_over tokens session most a b s = (s.turns, s.goes, inl (s.whole, s.count, refl))
+pub turns_over : (tokens : Tokens) (session most : ℕ) (a b : World) → SoFar tokens session most a b → IsThere b.traffic → HasTurns tokens session most a ends.Turns b
+turns_over tokens session most a b s there = (s.turns, s.goes, inl (s.whole, s.count, refl, there))
 
 -- ---- the opening and the end
 
-fits_finished : (end : SessionEnd) (q : Traffic) → Fits end q → Fits end (record q { finished = true })
-fits_finished ends.PeerClosed q h = h
-fits_finished ends.PeerFault q h = h
-fits_finished ends.Turns q h = h
-fits_finished ends.NoMemory q h = h
-fits_finished ends.NotOpened q h = h
+fits_finished : (end : SessionEnd) (q : Traffic) (held : List (List ℕ)) → Fits end q held → Fits end (record q { finished = true }) held
+fits_finished ends.PeerClosed q held h = h
+fits_finished ends.PeerFault q held h = h
+fits_finished ends.Turns q held h = h
+fits_finished ends.NoMemory q held h = h
+fits_finished ends.NotOpened q held h = h
 
 -- the session was attended
 pub attends : (tokens : Tokens) (session most now : ℕ) (a b c : World) (l : Known) (n : Option (List ℕ)) (end : SessionEnd) → Goes a [] (calling now session Open Done) b → HasTurns tokens session most b end c
@@ -172,7 +193,7 @@ goes_finished a b g d x = record { reads = x.reads; gains = x.gains; takes = x.t
 
 ends_finished : (tokens : Tokens) (session most : ℕ) (turns : List Turn) (q : Traffic) (end : SessionEnd) → EndsAs tokens session most turns q end → EndsAs tokens session most turns (record q { finished = true }) end
 ends_finished tokens session most turns q end (inl h) = inl h
-ends_finished tokens session most turns q end (inr (earlier, last, is, whole, cut, less, fits)) = inr (earlier, last, is, whole, cut, less, fits_finished end q fits)
+ends_finished tokens session most turns q end (inr (earlier, last, held, is, whole, cut, less, fits)) = inr (earlier, last, held, is, whole, cut, less, fits_finished end q held fits)
 
 visits_finished : (tokens : Tokens) (session most : ℕ) (a b : World) (end : SessionEnd) → Visits tokens session most a end b → Visits tokens session most a end (finished b)
 unfolding finished

@@ -1,5 +1,6 @@
 pub mod Traffic
 pub mod Peers
+pub mod Sockets
 pub mod Calls
 pub mod Turns
 pub mod Departure

@@ -1,12 +1,12 @@
 -- A session from its opening to its end. (This project's profile.)
-use Rattle.std.specs.Prelude.{◌≡◌, ◌≢◌, ℕ, ◌<◌, true, ◌⊎◌, List, [], ◌∷◌, ◌++◌, All, length, Option, None, Some}
+use Rattle.std.specs.Prelude.{◌≡◌, ◌≢◌, ℕ, ◌<◌, true, false, ◌⊎◌, List, [], ◌∷◌, ◌++◌, All, length, Option}
 use Rattle.tokens.specs.Tokens.{Tokens}
 use Rattle.rtdb_model.specs.declared.event.Event.TheVariants.{Open}
 use Rattle.rtdb_model.specs.declared.reply.Reply.{Reply}
 use Rattle.rtdb_model.specs.declared.reply.Reply.TheVariants.{Done}
 use Rattle.answers.specs.AnswerText.{text}
 use Rattle.locked_server.specs.Known.{Known}
-use Rattle.sessions.specs.Traffic.{Traffic, Adds, Takes, IsOpen}
+use Rattle.sessions.specs.Traffic.{Traffic, Adds, Takes, Stands, IsThere}
 use Rattle.sessions.specs.Calls.{Gains}
 use Rattle.sessions.specs.Turns.{Deeds, both, calling, Turn, IsWhole, IsCut, got_in, deeds_in}
 use Rattle.sessions.specs.Departure.{Departs}
@@ -30,20 +30,20 @@ pub record Goes (before : World) (messages : List (List ℕ)) (deeds : Deeds) (a
   pub takes : Takes before.traffic.left messages after.traffic.left
   pub sends : Adds before.traffic.sent deeds.texts after.traffic.sent
 
--- the peer has closed or failed, where the session is said to end so
-abbrev pub Fits : SessionEnd → Traffic → Type 0
-Fits PeerClosed q = q.closed ≡ true
-Fits PeerFault q = q.failed ≡ true
-Fits Turns q = ⊥
-Fits NoMemory q = Unit {0}
-Fits NotOpened q = ⊥
+-- how the peer stands where a turn is cut short and the session ends so, with these texts not sent: it has closed, and no text was to be sent; or it has failed; or, for want of memory, it has lost a message or a text, or it is there and there was a text to be written
+abbrev pub Fits : SessionEnd → Traffic → List (List ℕ) → Type 0
+Fits PeerClosed q held = Stands q true false false × (held ≡ [])
+Fits PeerFault q held = Stands q false true false
+Fits Turns q held = ⊥
+Fits NoMemory q held = Stands q false false true ⊎ (IsThere q × (held ≢ []))
+Fits NotOpened q held = ⊥
 
--- all turns were whole, as many as there may be; or the last one was cut short, one of no more than there may be
+-- all turns were whole, as many as there may be, and the peer is there; or the last one was cut short, one of no more than there may be
 abbrev pub EndsAs : Tokens → ℕ → ℕ → List Turn → Traffic → SessionEnd → Type 0
 EndsAs tokens session most turns q end =
-    (All (IsWhole tokens session) turns × (length turns ≡ most) × (end ≡ Turns))
-    ⊎ ((earlier : List Turn) × (last : Turn) × (turns ≡ earlier ++ last ∷ []) × All (IsWhole tokens session) earlier × IsCut tokens session last
-    × (length earlier < most) × Fits end q)
+    (All (IsWhole tokens session) turns × (length turns ≡ most) × (end ≡ Turns) × IsThere q)
+    ⊎ ((earlier : List Turn) × (last : Turn) × (held : List (List ℕ)) × (turns ≡ earlier ++ last ∷ []) × All (IsWhole tokens session) earlier × IsCut tokens session last held
+    × (length earlier < most) × Fits end q held)
 
 -- the session was not opened: its opening was refused, or it could not be asked; at most the text of that was sent
 abbrev pub IsTurnedAway : ℕ → Deeds → SessionEnd → Type 0

@@ -1,5 +1,5 @@
 -- The turns of a session: what a server does for each message, and for what its client listens to. (This project's profile.)
-use Rattle.std.specs.Prelude.{◌≡◌, ℕ, ◌⊎◌, List, [], ◌∷◌, ◌++◌, flat_map, Result, Ok, Err}
+use Rattle.std.specs.Prelude.{◌≡◌, ℕ, ◌⊎◌, List, [], ◌∷◌, ◌++◌, flat_map, Ok, Err}
 use Rattle.tokens.specs.Tokens.{Tokens}
 use Rattle.rtdb_model.specs.declared.event.Event.{Event}
 use Rattle.rtdb_model.specs.declared.event.Event.TheVariants.{Poll}
@@ -82,11 +82,11 @@ pub record Turn : Type 0 where
 abbrev pub IsWhole : Tokens → ℕ → Turn → Type 0
 IsWhole tokens session t = (answer push : Deeds) × Answers tokens session t.got answer × Pushes session push × (t.does ≡ both answer push)
 
--- a turn with which a session ends: nothing more than the calls of what comes next was made, and its text was not sent
-abbrev pub IsCut : Tokens → ℕ → Turn → Type 0
-IsCut tokens session t =
+-- a turn with which a session ends: nothing more than the calls of what comes next was made, and its text, if it has one, was not sent
+abbrev pub IsCut : Tokens → ℕ → Turn → List (List ℕ) → Type 0
+IsCut tokens session t held =
     (answer : Deeds) × Answers tokens session t.got answer
-    × ((t.does ≡ unsent answer) ⊎ ((push : Deeds) × Pushes session push × (t.does ≡ both answer (unsent push))))
+    × (((t.does ≡ unsent answer) × (held ≡ answer.texts)) ⊎ ((push : Deeds) × Pushes session push × (t.does ≡ both answer (unsent push)) × (held ≡ push.texts)))
 
 -- ---- turns
 

@@ -1,5 +1,5 @@
 -- Words of private contracts. No public clause names one.
-use Rattle.std.specs.Prelude.{◌≡◌, ℕ, List, [], ◌∷◌, Option, None, Some}
+use Rattle.std.specs.Prelude.{ℕ, List, [], ◌∷◌, Option, None, Some}
 use Rattle.tokens.specs.Tokens.{Tokens}
 use Rattle.locked_server.specs.Known.{Known}
 use Rattle.sessions.specs.Traffic.{Traffic, IsOpen}
@@ -18,22 +18,22 @@ abbrev pub RepliesOr : Tokens → ℕ → List ℕ → World → World → Optio
 RepliesOr tokens session message before after None =
     (now : ℕ) × (said : List ℕ) × (made : List Answered) × IsAnswered tokens now session message said made × Goes before [] (replying now said made) after × IsOpen after.traffic
 RepliesOr tokens session message before after (Some end) =
-    (now : ℕ) × (said : List ℕ) × (made : List Answered) × IsAnswered tokens now session message said made × Goes before [] (unsent (replying now said made)) after × Fits end after.traffic
+    (now : ℕ) × (said : List ℕ) × (made : List Answered) × IsAnswered tokens now session message said made × Goes before [] (unsent (replying now said made)) after × Fits end after.traffic (said ∷ [])
 
 -- the first half of a turn went by, or the session ends with it
 abbrev pub AnswersOr : Tokens → ℕ → World → World → Option SessionEnd → Type 0
 AnswersOr tokens session before after None = (got : List (List ℕ)) × (d : Deeds) × Answers tokens session got d × Goes before got d after × IsOpen after.traffic
-AnswersOr tokens session before after (Some end) = (got : List (List ℕ)) × (d : Deeds) × Answers tokens session got d × Goes before got (unsent d) after × Fits end after.traffic
+AnswersOr tokens session before after (Some end) = (got : List (List ℕ)) × (d : Deeds) × Answers tokens session got d × Goes before got (unsent d) after × Fits end after.traffic d.texts
 
 -- the second half of a turn went by, or the session ends with it
 abbrev pub PushesOr : ℕ → World → World → Option SessionEnd → Type 0
 PushesOr session before after None = (d : Deeds) × Pushes session d × Goes before [] d after × IsOpen after.traffic
-PushesOr session before after (Some end) = (d : Deeds) × Pushes session d × Goes before [] (unsent d) after × Fits end after.traffic
+PushesOr session before after (Some end) = (d : Deeds) × Pushes session d × Goes before [] (unsent d) after × Fits end after.traffic d.texts
 
 -- a turn went by, or the session ends with it
 abbrev pub TurnsOr : Tokens → ℕ → World → World → Option SessionEnd → Type 0
 TurnsOr tokens session before after None = (t : Turn) × IsWhole tokens session t × Goes before t.got t.does after × IsOpen after.traffic
-TurnsOr tokens session before after (Some end) = (t : Turn) × IsCut tokens session t × Goes before t.got t.does after × Fits end after.traffic
+TurnsOr tokens session before after (Some end) = (t : Turn) × (held : List (List ℕ)) × IsCut tokens session t held × Goes before t.got t.does after × Fits end after.traffic held
 
 -- the turns of a session that is open
 abbrev pub HasTurns : Tokens → ℕ → ℕ → World → SessionEnd → World → Type 0

@@ -3,6 +3,7 @@ ghost use Rattle.std.specs.Prelude.{◌≡◌, ◌≤◌, ℕ, List, [], IfOk, O
 ghost use Rattle.sessions.specs.Calls.{Answered, Gains, called};
 ghost use Rattle.sessions.specs.Turns.{IsAnswered};
 
+use crate::caller::Caller;
 use answers::AnswerWriter;
 use bumpalo::Bump;
 use json_tree::NoMemory;
@@ -10,13 +11,13 @@ use locked_server::{Hall, Seat};
 use requests::{Asked, Form, MessageReader, Stamp};
 use rtdb_core::{Event, MAX_MOMENT, Reply};
 use std::alloc::Global;
-use std::sync::Wait;
 use tokens::Tokens;
 
-/// Where a session is served: the hall, the secrets by which clients sign in, and the number of the session.
+/// Where a session is served: who asks the hall, the hall, the secrets by which clients sign in, and the number of the
+/// session.
 #[derive(Clone, Copy)]
-pub(crate) struct SessionPlace<'a, R> {
-    pub(crate) rt: &'a R,
+pub(crate) struct SessionPlace<'a, Q> {
+    pub(crate) caller: &'a Q,
     pub(crate) hall: &'a Hall,
     pub(crate) tokens: &'a Tokens,
     pub(crate) session: u64,
@@ -46,8 +47,8 @@ impl Desk {
 }
 
 /// Lets the hall answer an event of the session.
-pub(crate) fn ask<R: Wait>(
-    place: &SessionPlace<'_, R>,
+pub(crate) fn ask<Q: Caller>(
+    place: &SessionPlace<'_, Q>,
     seat: &mut Seat,
     arena: &mut Bump,
     now: u64,
@@ -59,19 +60,19 @@ pub(crate) fn ask<R: Wait>(
     ensures gains { Gains seat.old (called now place.now.session event result) seat.new }
 {
     let SessionPlace {
-        rt,
+        caller,
         hall,
         session,
         ..
     } = *place;
-    hall.call(rt, seat, arena, now, session, event).reply
+    caller.call(hall, seat, arena, now, session, event)
 }
 
 /// Answers a message: the text of the answer is then written on the desk. The message is read, and a rules file in it
 /// compiled, before the hall is asked; the text is written once the hall has answered. An error is want of memory for
 /// the text, and the call may have been made.
-pub(crate) fn attend<R: Wait>(
-    place: &SessionPlace<'_, R>,
+pub(crate) fn attend<Q: Caller>(
+    place: &SessionPlace<'_, Q>,
     seat: &mut Seat,
     arena: &mut Bump,
     desk: &mut Desk,
@@ -106,8 +107,8 @@ pub(crate) fn attend<R: Wait>(
 /// but for `now` and `s`, which it has not, and `open`, `close`, `tick`, `leave` and `runnext`, which it can't ask. It
 /// costs what reading it, one call of the hall, and writing the answer do; the latter two are apart, so that no other
 /// client waits for this one's text. An error is want of memory for the text, and the call may have been made.
-pub fn answer<R: Wait>(
-    rt: &R,
+pub fn answer<Q: Caller>(
+    caller: &Q,
     alloc: Global,
     hall: &Hall,
     seat: &mut Seat,
@@ -123,7 +124,7 @@ pub fn answer<R: Wait>(
     ensures answered { (said : List ℕ) × (made : List Answered) × Gains seat.old made seat.new × IsAnswered tokens.now now session message.now said made × IfOk result (λ bytes. bytes.items ≡ said) }
 {
     let place = SessionPlace {
-        rt,
+        caller,
         hall,
         tokens,
         session,

@@ -4,11 +4,11 @@ ghost use Rattle.sessions.specs.Departure.{found_none};
 ghost use Rattle.sessions.specs.Working.{RunsActions, DepartsBy};
 
 use crate::attending::{SessionPlace, ask};
+use crate::caller::Caller;
 use crate::peer::Clock;
 use bumpalo::Bump;
 use locked_server::Seat;
 use rtdb_core::{Event, Ran, Reply};
-use std::sync::Wait;
 
 /// How often actions are run when a session goes, at most: once for each that it may have, and as often again where
 /// memory was wanting.
@@ -20,8 +20,8 @@ pub fn the_limit_of_runs()
 {}
 
 /// Lets the session leave, runs its actions, and closes it.
-pub(crate) fn depart<R: Wait, C: Clock>(
-    place: &SessionPlace<'_, R>,
+pub(crate) fn depart<Q: Caller, C: Clock>(
+    place: &SessionPlace<'_, Q>,
     seat: &mut Seat,
     arena: &mut Bump,
     clock: &mut C,
@@ -38,8 +38,8 @@ pub(crate) fn depart<R: Wait, C: Clock>(
 }
 
 // Runs the actions of a session that leaves, until none is left or as often as may be.
-fn run_actions<R: Wait, C: Clock>(
-    place: &SessionPlace<'_, R>,
+fn run_actions<Q: Caller, C: Clock>(
+    place: &SessionPlace<'_, Q>,
     seat: &mut Seat,
     arena: &mut Bump,
     clock: &mut C,

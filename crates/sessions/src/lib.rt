@@ -6,12 +6,14 @@
 #![tactic(auto)]
 
 mod attending;
+mod caller;
 mod departure;
 mod peer;
 mod serve;
 mod socket_peer;
 
 pub use attending::answer;
+pub use caller::{Caller, HallCaller};
 pub use departure::{MAX_RUNS, the_limit_of_runs};
 pub use peer::{Clock, Gate, Peer, Received, Sent};
 pub use serve::{SessionEnd, serve_session};

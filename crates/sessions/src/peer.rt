@@ -12,7 +12,7 @@ pub enum Received {
     Closed,
     /// The connection failed.
     Broken,
-    /// A message has come, and there is no memory for it.
+    /// A message has come, and is lost, since there is no memory for it.
     NoMemory,
 }
 
@@ -28,27 +28,42 @@ pub enum Sent {
 }
 
 /// The other side of a session. Contracts see the messages that are still to be received and the texts that were sent,
-/// where it reports them, and whether it has closed, has failed, or was finished with.
+/// where it reports them, and whether it has closed, has failed, has lost something, or was finished with. What its
+/// calls do beside that, each peer says for itself.
 pub trait Peer: Drop {
-    ghost use Rattle.std.specs.Prelude.{◌≡◌, true};
+    ghost use Rattle.std.specs.Prelude.{◌≡◌, ℕ, List, true};
     ghost use Rattle.sessions.specs.Traffic.{Traffic, IsOpen};
     ghost use Rattle.sessions.specs.Peers.{Receives, Sends};
+    ghost use Rattle.sessions.specs.declared.peer.Received.{Received};
+    ghost use Rattle.sessions.specs.declared.peer.Sent.{Sent};
 
     ghost traffic: { Self → Traffic };
+
+    // How it comes to give this where it is asked for a message.
+    ghost has_received: { Self → Received → Self → Type 0 };
+
+    // How it comes to say this where it is given a text.
+    ghost has_sent: { Self → List ℕ → Sent → Self → Type 0 };
+
+    // What it does to finish.
+    ghost has_finished: { Self → Self → Type 0 };
 
     /// The next message, if one has come. It may wait a moment for one.
     fn receive(&mut self) -> Received
         requires { IsOpen (traffic self.old) }
-        ensures { Receives (traffic self.old) result (traffic self.new) };
+        ensures receives { Receives (traffic self.old) result (traffic self.new) }
+        ensures own { has_received self.old result self.new };
 
     /// Sends a text.
     fn send(&mut self, text: &[u8]) -> Sent
         requires { IsOpen (traffic self.old) }
-        ensures { Sends (traffic self.old) text.now result (traffic self.new) };
+        ensures sends { Sends (traffic self.old) text.now result (traffic self.new) }
+        ensures own { has_sent self.old text.now result self.new };
 
     /// Ends the conversation, however it stands.
     fn finish(&mut self)
-        ensures { traffic self.new ≡ record (traffic self.old) { finished = true } };
+        ensures finishes { traffic self.new ≡ record (traffic self.old) { finished = true } }
+        ensures own { has_finished self.old self.new };
 }
 
 /// What a session calls as it goes on: tests hold a session here, and a server does nothing.

@@ -7,6 +7,7 @@ ghost use Rattle.sessions.specs.Serving.{Fits, Serves, Visits, world};
 ghost use Rattle.sessions.specs.Working.{AnswersOr, HasTurns, PushesOr, RepliesOr, TurnsOr};
 
 use crate::attending::{Desk, SessionPlace, ask, attend};
+use crate::caller::Caller;
 use crate::departure::depart;
 use crate::peer::{Clock, Gate, Peer, Received, Sent};
 use answers::AnswerWriter;
@@ -15,7 +16,6 @@ use json_tree::NoMemory;
 use locked_server::{Hall, Seat};
 use rtdb_core::{Event, Reply};
 use std::alloc::Global;
-use std::sync::Wait;
 use tokens::Tokens;
 
 /// How a session ended.
@@ -27,7 +27,7 @@ pub enum SessionEnd {
     PeerFault,
     /// It had as many turns as it may.
     Turns,
-    /// A message could not be received, or a text not be written or sent, for want of memory.
+    /// A message could not be received, or a text not be written or sent, for want of memory, of a client that was there.
     NoMemory,
     /// Its opening was refused.
     NotOpened,
@@ -44,7 +44,7 @@ fn send<P: Peer>(peer: &mut P, out: &mut AnswerWriter) -> Option<SessionEnd>
     ensures text { out.new.text ≡ [] }
     ensures sent { MatchOption result
         (Moves (P.traffic peer.old) [] (out.old.text ∷ []) (P.traffic peer.new) × IsOpen (P.traffic peer.new))
-        (λ end. Moves (P.traffic peer.old) [] [] (P.traffic peer.new) × Fits end (P.traffic peer.new)) }
+        (λ end. Moves (P.traffic peer.old) [] [] (P.traffic peer.new) × Fits end (P.traffic peer.new) (out.old.text ∷ [])) }
 {
     let mut text = out.end();
     let sent = peer.send(&text);
@@ -59,8 +59,8 @@ fn send<P: Peer>(peer: &mut P, out: &mut AnswerWriter) -> Option<SessionEnd>
 }
 
 // Answers a message that was received. Where the session ends there, says how.
-fn reply_to<R: Wait, C: Clock, P: Peer>(
-    place: &SessionPlace<'_, R>,
+fn reply_to<Q: Caller, C: Clock, P: Peer>(
+    place: &SessionPlace<'_, Q>,
     seat: &mut Seat,
     arena: &mut Bump,
     desk: &mut Desk,
@@ -83,8 +83,8 @@ fn reply_to<R: Wait, C: Clock, P: Peer>(
 }
 
 // The first half of a turn: a message, if one has come, and its answer.
-fn hear<R: Wait, G: Gate, C: Clock, P: Peer>(
-    place: &SessionPlace<'_, R>,
+fn hear<Q: Caller, G: Gate, C: Clock, P: Peer>(
+    place: &SessionPlace<'_, Q>,
     seat: &mut Seat,
     arena: &mut Bump,
     desk: &mut Desk,
@@ -125,7 +125,7 @@ fn send_news<P: Peer>(reply: &Reply, out: &mut AnswerWriter, peer: &mut P) -> Op
     ensures clear { IfNone result ((out.new.before ≡ []) × (out.new.text ≡ [])) }
     ensures sent { MatchOption result
         (Moves (P.traffic peer.old) [] (push_of reply.now) (P.traffic peer.new) × IsOpen (P.traffic peer.new))
-        (λ end. Moves (P.traffic peer.old) [] [] (P.traffic peer.new) × Fits end (P.traffic peer.new)) }
+        (λ end. Moves (P.traffic peer.old) [] [] (P.traffic peer.new) × Fits end (P.traffic peer.new) (push_of reply.now)) }
 {
     let Reply::News(news) = reply else {
         return None;
@@ -140,8 +140,8 @@ fn send_news<P: Peer>(reply: &Reply, out: &mut AnswerWriter, peer: &mut P) -> Op
 }
 
 // The second half of a turn: a poll, and the push of its news.
-fn push<R: Wait, C: Clock, P: Peer>(
-    place: &SessionPlace<'_, R>,
+fn push<Q: Caller, C: Clock, P: Peer>(
+    place: &SessionPlace<'_, Q>,
     seat: &mut Seat,
     arena: &mut Bump,
     desk: &mut Desk,
@@ -160,8 +160,8 @@ fn push<R: Wait, C: Clock, P: Peer>(
     send_news(&reply, &mut desk.out, peer)
 }
 
-fn turn<R: Wait, G: Gate, C: Clock, P: Peer>(
-    place: &SessionPlace<'_, R>,
+fn turn<Q: Caller, G: Gate, C: Clock, P: Peer>(
+    place: &SessionPlace<'_, Q>,
     seat: &mut Seat,
     arena: &mut Bump,
     desk: &mut Desk,
@@ -183,8 +183,8 @@ fn turn<R: Wait, G: Gate, C: Clock, P: Peer>(
 }
 
 // The turns of a session that is open.
-fn take_turns<R: Wait, G: Gate, C: Clock, P: Peer>(
-    place: &SessionPlace<'_, R>,
+fn take_turns<Q: Caller, G: Gate, C: Clock, P: Peer>(
+    place: &SessionPlace<'_, Q>,
     seat: &mut Seat,
     arena: &mut Bump,
     desk: &mut Desk,
@@ -210,10 +210,10 @@ fn take_turns<R: Wait, G: Gate, C: Clock, P: Peer>(
 /// Serves one client: opens the session, takes at most so many turns, and however they end lets the session leave, runs
 /// its actions, 32 times at most, and closes it. In a turn it receives once, answers the message that has come, if one
 /// has, polls, and pushes the news, if there are any. A session whose opening is refused gets that refusal. It waits
-/// where [`Hall::call`] does, and where the peer does. A turn without a message and without news costs one call of the
+/// where the caller does, and where the peer does. A turn without a message and without news costs one call of the
 /// hall, and takes no memory; the memory of texts is kept from turn to turn.
-pub fn serve_session<R: Wait, G: Gate, C: Clock, P: Peer>(
-    rt: &R,
+pub fn serve_session<Q: Caller, G: Gate, C: Clock, P: Peer>(
+    caller: &Q,
     alloc: Global,
     hall: &Hall,
     seat: &mut Seat,
@@ -231,7 +231,7 @@ pub fn serve_session<R: Wait, G: Gate, C: Clock, P: Peer>(
     ensures serves { Serves tokens.now session turns (world seat.old (C.moments clock.old) (P.traffic peer.old)) result (world seat.new (C.moments clock.new) (P.traffic peer.new)) }
 {
     let place = SessionPlace {
-        rt,
+        caller,
         hall,
         tokens,
         session,
@@ -243,8 +243,8 @@ pub fn serve_session<R: Wait, G: Gate, C: Clock, P: Peer>(
 }
 
 // The session, from its opening to its end.
-fn visit<R: Wait, G: Gate, C: Clock, P: Peer>(
-    place: &SessionPlace<'_, R>,
+fn visit<Q: Caller, G: Gate, C: Clock, P: Peer>(
+    place: &SessionPlace<'_, Q>,
     seat: &mut Seat,
     arena: &mut Bump,
     desk: &mut Desk,

@@ -9,7 +9,7 @@ use Rattle.server.proofs.Visiting.{served_by_none, served_by_one, served_by_both
 use Rattle.server.proofs.shifts.+fn-work_all-join_mut+arg2+fn-work_all-join_mut+arg3+work_all.Goals as goal
 
 pub join_mut-requires-send-F : goal.join_mut-requires-send-F
-join_mut-requires-send-F g t c κs within = let one = c.requires.sync.0 in let two = c.requires.sync.1 in search (sendable, crosses, hall_sync, seat_send, tokens_sync, listener_sync) depth 20
+join_mut-requires-send-F g t c κs within = let one = c.requires.sync.0 in let two = c.requires.sync.1 in let three = c.requires.sync.2 in search (sendable, crosses, hall_sync, seat_send, tokens_sync, listener_sync) depth 20
 
 pub returns-then-workers-eq0 : goal.returns-then-workers-eq0
 returns-then-workers-eq0 g t c =

@@ -1,4 +1,3 @@
-use Rattle.std.specs.Prelude.{Some, None}
 use Rattle.sessions.specs.Serving.{world}
 use Rattle.sessions.proofs.Turning.{turns_cut, turns_whole}
 use Rattle.sessions.proofs.serve.turn.Goals as goal
