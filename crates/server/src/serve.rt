@@ -24,12 +24,7 @@ use tokens::Tokens;
 /// a round. Worker w, from 1, serves its clients as session w. A client may say nothing for 5 seconds in its handshake,
 /// may leave what is sent to it unread for 5 seconds, and sends at most 2 MiB a message; a session has 1,000,000,000
 /// turns, and waits 20 milliseconds in each for a message. With no workers, or no rounds, nobody is served.
-pub fn serve_on<
-    R: Threads + time::Clock + Sync,
-    Q: Caller + Sync,
-    G: Gate + Sync,
-    W: Printer,
->(
+pub fn serve_on<R: Threads + time::Clock + Sync, Q: Caller + Sync, G: Gate + Sync, W: Printer>(
     rt: &R,
     caller: &Q,
     alloc: Global,
@@ -66,12 +61,7 @@ pub fn serve_on<
 }
 
 // Prints the first line, lets all workers serve, and prints the last line.
-fn serve_all<
-    R: Threads + time::Clock + Sync,
-    Q: Caller + Sync,
-    G: Gate + Sync,
-    W: Printer,
->(
+fn serve_all<R: Threads + time::Clock + Sync, Q: Caller + Sync, G: Gate + Sync, W: Printer>(
     place: &WorkPlace<'_, R, Q, G>,
     seat: &mut Seat,
     workers: u64,
