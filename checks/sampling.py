@@ -85,7 +85,10 @@ def words_of_check(name, only):
         words += ["--extern", f"{it}={kit}/rlibs/{it}.rlib"]
     words += ["-L", f"dependency={kit}/rlibs"]
     for it in (it for it in uses if it in ours):
-        words += ["--extern", f"{it}={library_of(it)}", "-L", f"dependency={library_of(it).parent}"]
+        words += ["--extern", f"{it}={library_of(it)}"]
+    # (the libraries that these use themselves)
+    for it in below(name, ours):
+        words += ["-L", f"dependency={library_of(it).parent}"]
     words += ["--antt-project", kit / "rattle" / "logic" / "antt-project.json", "--logic-built", kit / "logic_built"]
     words += ["--jobs", "1", "--links", f"{name}="]
     return [str(it) for it in words] + [word for it in only for word in ("--only", it)]
