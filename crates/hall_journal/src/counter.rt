@@ -1,8 +1,13 @@
 //! How many entries are stored: a number that all threads share, which only grows.
 ghost use Rattle.std.specs.Prelude.{[], ◌≡◌, ◌==◌, ◌^◌, ◌<◌, ◌≤◌, true};
+ghost use Rattle.journal.specs.Keeping.{disk_of, chain_of};
 ghost use Rattle.hall_journal.specs.Counting.{word_of};
+ghost use Rattle.hall_journal.specs.Kept.{KeepsHistory};
 
 use crate::origin::Origin;
+use disk::Disk;
+use journal::Journal;
+use locked_server::Seat;
 use logbook::{Gain, Offer, Plain, Play, Rule, Seen, Start, Word};
 use std::marker::{Model, PhantomData};
 
@@ -154,9 +159,18 @@ impl<B: Origin> Counter<B> {
             .load::<Look, Nothing>(&mut stored.seen, &mut offer)
     }
 
-    /// Adds to the number, where it is what was thought, and says whether it was.
-    pub(crate) fn add(&self, stored: &mut Stored<B>, from: u64, to: u64) -> bool
-        requires { from ≤ to }
+    /// Adds to the number, where it is what was thought, and says whether it was. Contracts alone look at the journal and
+    /// the seat: as many entries as are said are kept.
+    pub(crate) fn add<D: Disk + Drop>(
+        &self,
+        journal: &Journal<D>,
+        seat: &Seat,
+        stored: &mut Stored<B>,
+        from: u64,
+        to: u64,
+    ) -> bool
+        requires forward { from ≤ to }
+        requires kept { KeepsHistory D.holds D.may_leave D.moment D.left_since B.began (disk_of journal.now) (chain_of journal.now) seat.now to }
         ensures added { result ≡ true → stored.new ≡ to }
         ensures more { stored.old ≤ stored.new }
     {

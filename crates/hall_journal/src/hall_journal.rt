@@ -1,5 +1,5 @@
 //! The journal of a hall.
-ghost use Rattle.std.specs.Prelude.{◌≡◌, ◌≤◌, IfOk, OnOk};
+ghost use Rattle.std.specs.Prelude.{◌≡◌, ◌≤◌, IfErr, IfOk, OnOk};
 ghost use Rattle.journal.specs.Keeping.{Keeps, disk_of, chain_of, identifier_of};
 ghost use Rattle.locked_server.specs.Known.{SeesMore};
 ghost use Rattle.hall_journal.specs.Kept.{IsAt, IsEntryAt, KeepsHistory};
@@ -39,6 +39,7 @@ impl<D: Disk + Drop, B: Origin> HallJournal<D, B> {
         requires counter { counter.seen.book ≡ B.began.book }
         ensures seat { seat.new ≡ seat.old }
         ensures none { IfOk result (λ it. it.1 ≡ 0) }
+        ensures nothing_else { IfErr result (λ error. error ≡ JournalError.Failed) }
     {
         match journal.sync() {
             Ok(()) => {}
@@ -70,7 +71,14 @@ impl<D: Disk + Drop, B: Origin> HallJournal<D, B> {
         ensures { seat.new ≡ seat.old }
     {
         let other = hall.split(seat);
-        self.desk.lock(rt).put(hall, other, number, entry);
+        let mut desk = self.desk.lock(rt);
+        desk.put(hall, other, number, entry);
+        let has_failed = desk.fault().is_some();
+        drop(desk);
+        // Whoever sleeps until more is stored would sleep for ever.
+        if has_failed {
+            self.stored_more.notify_all();
+        }
     }
 
     /// Waits until so many entries are stored. Where the file is home and entries have gathered, it stores them for all

@@ -113,7 +113,7 @@ impl<D: Disk + Drop, B: Origin> Volume<D, B> {
             mut stored,
         } = self;
         let known = counter.look(&mut stored);
-        if known <= count && counter.add(&mut stored, known, count) {
+        if known <= count && counter.add(&journal, &seat, &mut stored, known, count) {
             Ok(Volume {
                 journal,
                 seat,

@@ -11,5 +11,5 @@ compare_exchange-found-requires g c =
       c.stored.invariant ∙ sym (ap (λ w. w.book) word),
       pen.0 ∙ (c.stored.invariant ∙ sym (ap (λ w. w.book) word)),
       offer.0,
-      rw (ap (λ w. w.key) word, pen.1, offer.3) (adds_moves c.stored.inside.seen.log c.plain-offer.result.ask c.args.from c.args.to c.requires),
+      rw (ap (λ w. w.key) word, pen.1, offer.3) (adds_moves c.stored.inside.seen.log c.plain-offer.result.ask c.args.from c.args.to c.requires.forward),
     )
