@@ -128,7 +128,7 @@ next_piece text at end later =
 abbrev pub with_first : Session → List Action → Session
 with_first one actions = record one { listeners = []; actions = actions }
 
--- the one that was put last stands there
+-- of two sessions that are inserted at one number, the second is found
 twice : (m : Sessions) (n : ℕ) (one two : Session) → map_of.insert (map_of.insert m n one) n two ≡ map_of.insert m n two
 twice m n one two =
     map_of.same_map nat_cmp_total map_of.nat_cmp-IsAntisymmetric _ _ (λ q.
