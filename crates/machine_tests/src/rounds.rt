@@ -246,9 +246,17 @@ fn answer_and_serve<R: Wait, P: Peer>(
     let mut arena = Bump::new(alloc);
     let (hall, mut seat) = open_hall(alloc)?;
     drop(hall.call(rt, &mut seat, &mut arena, 1, 1, Event::Open));
-    let caller = HallCaller::new(rt);
+    let mut caller = HallCaller::new(rt);
     let said = answer(
-        &caller, alloc, &hall, &mut seat, &mut arena, tokens, 1, 5, GET,
+        &mut caller,
+        alloc,
+        &hall,
+        &mut seat,
+        &mut arena,
+        tokens,
+        1,
+        5,
+        GET,
     );
     let course = serve_as(rt, alloc, &hall, &mut seat, &mut arena, tokens, peer, TURNS);
     drop(hall.close(rt, seat));

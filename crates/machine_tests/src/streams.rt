@@ -153,9 +153,19 @@ pub(crate) fn serve_as<R: Wait, P: Peer>(
 {
     let gate = OpenGate::new();
     let mut clock = Counting { last: 0 };
-    let caller = HallCaller::new(rt);
+    let mut caller = HallCaller::new(rt);
     let end = serve_session(
-        &caller, alloc, hall, seat, arena, tokens, 1, &gate, &mut clock, peer, turns,
+        &mut caller,
+        alloc,
+        hall,
+        seat,
+        arena,
+        tokens,
+        1,
+        &gate,
+        &mut clock,
+        peer,
+        turns,
     );
     Course {
         end,

@@ -3,6 +3,7 @@ ghost use Rattle.std.specs.Prelude.{◌≡◌, ◌≢◌, ◌<◌, ◌⊎◌, []
 ghost use Rattle.std.specs.Io.KnownBytes.{Appends};
 ghost use Rattle.clap.specs.Words.{fault_of};
 ghost use Rattle.scripts.specs.Said.{as_line};
+ghost use Rattle.sessions.specs.Calls.{AsksAny};
 ghost use Rattle.command_line.specs.Order.{the_program, Wanted, AreOrder};
 ghost use Rattle.rtdb.specs.Status.{bad_line, done, failed, no_memory, status_of};
 ghost use Rattle.rtdb.specs.Command.{IsChecked, HasChecked, HasRun, HasDone};
@@ -64,6 +65,7 @@ pub fn command<
     requires unread { I.reads input.old ≡ 0 }
     requires input { I.failed input.old ≡ false }
     requires output { W.failed output.old.sink ≡ false }
+    requires asks { AsksAny Q.asks }
     // An order is obeyed, where memory suffices to find it.
     ensures order { (wanted : Wanted) → AreOrder (map string_bytes words.now) wanted
         → HasDone (F.bytes files.now) wanted (record { left = I.left input.old; source = record { left = I.left input.new; failed = I.failed input.new; reads = I.reads input.new }; before = W.written output.old.sink; after = W.written output.new.sink; has_failed = W.failed output.new.sink }) result

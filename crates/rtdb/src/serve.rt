@@ -3,6 +3,7 @@ ghost use Rattle.std.specs.Prelude.{◌≡◌, ◌⊎◌, true, false, IfOk, OnO
 ghost use Rattle.scripts.specs.Said.{as_line, header_fault_text};
 ghost use Rattle.rtdb.specs.Command.{HasServed};
 ghost use Rattle.command_line.specs.Order.{served_by};
+ghost use Rattle.sessions.specs.Calls.{AsksAny};
 ghost use Rattle.rtdb.specs.Status.{done, failed, no_memory, refused};
 ghost use Rattle.rtdb.specs.Working.{IsServedOr, IsTold};
 
@@ -42,7 +43,8 @@ pub fn serve<
     output: &mut Printing<W>,
     faults: &mut E,
 ) -> u8
-    requires { W.failed output.old.sink ≡ false }
+    requires output { W.failed output.old.sink ≡ false }
+    requires asks { AsksAny Q.asks }
     ensures served { HasServed (F.bytes files.now) (served_by options.now) (W.written output.old.sink) (W.written output.new.sink) (W.failed output.new.sink) result }
     ensures broken { W.failed output.new.sink ≡ true → result ≡ failed }
     ensures quiet { result ≡ done → E.contents faults.new ≡ E.contents faults.old }
@@ -74,7 +76,8 @@ fn listen<
     output: &mut Printing<W>,
     faults: &mut E,
 ) -> u8
-    requires { W.failed output.old.sink ≡ false }
+    requires output { W.failed output.old.sink ≡ false }
+    requires asks { AsksAny Q.asks }
     ensures served { IsServedOr opened (served_by options.now) (W.written output.old.sink) (W.written output.new.sink) (W.failed output.new.sink) result }
     ensures broken { W.failed output.new.sink ≡ true → result ≡ failed }
     ensures quiet { result ≡ done → E.contents faults.new ≡ E.contents faults.old }
@@ -83,7 +86,7 @@ fn listen<
     let Ok(listener) = Listener::bind(rt, options.port) else {
         return no_listener(faults);
     };
-    let Ok((hall, seat)) = Hall::new(alloc, core) else {
+    let Ok((hall, mut seat)) = Hall::new(alloc, core) else {
         return out_of_memory(faults);
     };
     let shifts = Shifts {
@@ -91,10 +94,11 @@ fn listen<
         rounds: options.rounds,
     };
     let end = serve_on(
-        rt, caller, alloc, &listener, hall, seat, &tokens, &OpenGate, shifts, output,
+        rt, caller, alloc, &listener, &hall, &mut seat, &tokens, &OpenGate, shifts, output,
     );
+    let core = caller.close(hall, seat);
     match end {
-        Ok(core) => give_up(core),
+        Ok(()) => give_up(core),
         Err(ServerFault::Output) => no_output(faults),
         Err(ServerFault::NoMemory) => out_of_memory(faults),
     }

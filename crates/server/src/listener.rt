@@ -52,3 +52,16 @@ impl Listener {
         Some(stream)
     }
 }
+
+/// What can wake whoever waits for a connection.
+pub(crate) trait Waker {
+    /// Lets one who waits at this listener have a connection, which ends at once.
+    fn wake(&self, listener: &Listener);
+}
+
+impl<R: Net<Listener = TcpListener, Stream = TcpStream>> Waker for R {
+    fn wake(&self, listener: &Listener) {
+        let address = SocketAddr::from(([127, 0, 0, 1], listener.port));
+        drop(TcpStream::connect(self, address));
+    }
+}

@@ -2,7 +2,7 @@
 ghost use Rattle.std.specs.Prelude.{◌≡◌};
 ghost use Rattle.server.specs.Working.{HasVisit, HasVisits};
 
-use crate::listener::Listener;
+use crate::listener::{Listener, Waker};
 use crate::moments::SystemMoments;
 use bumpalo::Bump;
 use locked_server::{Hall, Seat};
@@ -52,54 +52,65 @@ pub(crate) struct WorkPlace<'a, R, Q, G> {
 }
 
 /// Serves the rounds of one worker, who serves each client as this session. A connection whose handshake fails is a
-/// round too, and so is an hour in which the system gives none.
-pub(crate) fn work<R: time::Clock, Q: Caller, G: Gate>(
+/// round too, and so is an hour in which the system gives none. Where the caller can't store what it is to keep, the worker
+/// ends, and wakes one who waits for a client.
+pub(crate) fn work<R: Waker + time::Clock, Q: Caller, G: Gate>(
     place: &WorkPlace<'_, R, Q, G>,
     session: u64,
     seat: &mut Seat,
 )
     requires hall { seat.old.hall ≡ place.now.hall.now }
+    requires asks { Q.asks place.now.hall.now }
     ensures hall { seat.new.hall ≡ place.now.hall.now }
     ensures visits { HasVisits place.now.tokens.now session place.now.rounds seat.old seat.new }
 {
     let mut arena = Bump::new(place.alloc);
+    let mut caller = place.caller.again();
     for _ in 0..place.rounds {
-        serve_round(place, session, seat, &mut arena);
+        if !caller.still_stores() {
+            place.rt.wake(place.listener);
+            return;
+        }
+        serve_round(place, &mut caller, session, seat, &mut arena);
     }
 }
 
 // Serves the next client, if one comes.
 fn serve_round<R: time::Clock, Q: Caller, G: Gate>(
     place: &WorkPlace<'_, R, Q, G>,
+    caller: &mut Q,
     session: u64,
     seat: &mut Seat,
     arena: &mut Bump,
 )
     requires hall { seat.old.hall ≡ place.now.hall.now }
+    requires asks { Q.asks place.now.hall.now }
     ensures hall { seat.new.hall ≡ place.now.hall.now }
     ensures visit { HasVisits place.now.tokens.now session 1 seat.old seat.new }
 {
     if let Some(socket) = next_client(place.rt, place.alloc, place.listener) {
-        serve_client(place, session, seat, arena, socket);
+        serve_client(place, caller, session, seat, arena, socket);
     }
 }
 
 // Serves the session of one client. However it ends, the next client comes.
 fn serve_client<R: time::Clock, Q: Caller, G: Gate>(
     place: &WorkPlace<'_, R, Q, G>,
+    caller: &mut Q,
     session: u64,
     seat: &mut Seat,
     arena: &mut Bump,
     socket: WebSocket<TcpStream, NoMask>,
 )
     requires hall { seat.old.hall ≡ place.now.hall.now }
+    requires asks { Q.asks place.now.hall.now }
     ensures hall { seat.new.hall ≡ place.now.hall.now }
     ensures visit { HasVisit place.now.tokens.now session seat.old seat.new }
 {
     let mut clock = SystemMoments::new(place.rt);
     let mut peer = SocketPeer::new(place.alloc, socket);
     let _end = serve_session(
-        place.caller,
+        caller,
         place.alloc,
         place.hall,
         seat,

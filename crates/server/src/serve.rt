@@ -2,43 +2,50 @@
 ghost use Rattle.std.specs.Prelude.{◌≡◌, ◌↔◌, true, false, string_bytes, IfOk, IsErrOf, OnOk};
 ghost use Rattle.std.specs.Thread.{IsSync};
 ghost use Rattle.std.specs.Io.KnownBytes.{Appends};
-ghost use Rattle.server.specs.Served.{HasPrinted, HasServed, IsCutShort, listening_text, served_text};
+ghost use Rattle.server.specs.Served.{HasPrinted, IsCutShort, listening_text, served_text};
 
 use crate::fault::ServerFault;
-use crate::listener::Listener;
+use crate::listener::{Listener, Waker};
 use crate::printer::Printer;
 use crate::rounds::WorkPlace;
 use crate::shifts::{Shifts, work_all};
 use locked_server::{Hall, Seat};
-use rtdb_core::Core;
 use sessions::{Caller, Gate};
 use std::alloc::{AllocError, Global};
+use std::net::{Net, TcpListener, TcpStream};
 use std::thread::Threads;
 use std::time;
 use tokens::Tokens;
 
 /// Serves sessions until each worker has served its rounds. It prints `listening 127.0.0.1:P` at the start, where P is
 /// the port of the listener, and `served N` once all workers have ended, where N is how many entries the history of the
-/// hall has; it then closes the hall, and gives the database that is left. A connection whose handshake fails is a
-/// round too. Where the system gives no connection, a worker tries again each 100 milliseconds, and an hour of that is
-/// a round. Worker w, from 1, serves its clients as session w. A client may say nothing for 5 seconds in its handshake,
-/// may leave what is sent to it unread for 5 seconds, and sends at most 2 MiB a message; a session has 1,000,000,000
-/// turns, and waits 20 milliseconds in each for a message. With no workers, or no rounds, nobody is served.
-pub fn serve_on<R: Threads + time::Clock + Sync, Q: Caller + Sync, G: Gate + Sync, W: Printer>(
+/// hall has. A connection whose handshake fails is a round too. Where the system gives no connection, a worker tries again
+/// each 100 milliseconds, and an hour of that is a round. Where the caller can't store what it is to keep, each worker ends
+/// once its client has gone. Worker w, from 1, serves its clients as session w. A client may say nothing for 5 seconds in
+/// its handshake, may leave what is sent to it unread for 5 seconds, and sends at most 2 MiB a message; a session has
+/// 1,000,000,000 turns, and waits 20 milliseconds in each for a message. With no workers, or no rounds, nobody is served.
+pub fn serve_on<
+    R: Net<Listener = TcpListener, Stream = TcpStream> + Threads + time::Clock + Sync,
+    Q: Caller + Sync,
+    G: Gate + Sync,
+    W: Printer,
+>(
     rt: &R,
     caller: &Q,
     alloc: Global,
     listener: &Listener,
-    hall: Hall,
-    mut seat: Seat,
+    hall: &Hall,
+    seat: &mut Seat,
     tokens: &Tokens,
     gate: &G,
     shifts: Shifts,
     output: &mut W,
-) -> Result<Core, ServerFault>
-    requires hall { seat.hall ≡ hall }
+) -> Result<(), ServerFault>
+    requires hall { seat.old.hall ≡ hall.now }
+    requires asks { Q.asks hall.now }
     requires output { W.failed output.old ≡ false }
-    ensures served { IfOk result (λ core. HasServed tokens.now shifts listener.now seat core (W.printed output.old) (W.printed output.new)) }
+    ensures hall { seat.new.hall ≡ hall.now }
+    ensures printed { OnOk result (HasPrinted tokens.now shifts listener.now seat.old seat.new (W.printed output.old) (W.printed output.new)) }
     ensures failed { IsErrOf result ServerFault.Output ↔ (W.failed output.new ≡ true) }
     ensures wanting { IsErrOf result ServerFault.NoMemory → IsCutShort listener.now (W.printed output.old) (W.printed output.new) }
 {
@@ -47,21 +54,16 @@ pub fn serve_on<R: Threads + time::Clock + Sync, Q: Caller + Sync, G: Gate + Syn
         caller,
         alloc,
         listener,
-        hall: &hall,
+        hall,
         tokens,
         gate,
         rounds: shifts.rounds,
     };
-    let printed = serve_all(&place, &mut seat, shifts.workers, output);
-    let core = caller.close(hall, seat);
-    match printed {
-        Ok(()) => Ok(core),
-        Err(fault) => Err(fault),
-    }
+    serve_all(&place, seat, shifts.workers, output)
 }
 
 // Prints the first line, lets all workers serve, and prints the last line.
-fn serve_all<R: Threads + time::Clock + Sync, Q: Caller + Sync, G: Gate + Sync, W: Printer>(
+fn serve_all<R: Waker + Threads + time::Clock + Sync, Q: Caller + Sync, G: Gate + Sync, W: Printer>(
     place: &WorkPlace<'_, R, Q, G>,
     seat: &mut Seat,
     workers: u64,
@@ -69,6 +71,7 @@ fn serve_all<R: Threads + time::Clock + Sync, Q: Caller + Sync, G: Gate + Sync, 
 ) -> Result<(), ServerFault>
     requires sync { IsSync R.row × IsSync Q.row × IsSync G.row }
     requires hall { seat.old.hall ≡ place.now.hall.now }
+    requires asks { Q.asks place.now.hall.now }
     requires output { W.failed output.old ≡ false }
     ensures hall { seat.new.hall ≡ place.now.hall.now }
     ensures printed { OnOk result (HasPrinted place.now.tokens.now (record { workers = workers; rounds = place.now.rounds }) place.now.listener.now seat.old seat.new (W.printed output.old) (W.printed output.new)) }

@@ -3,6 +3,7 @@ ghost use Rattle.std.specs.Prelude.{◌≡◌, ◌+◌, ◌-◌, ◌^◌, ◌<�
 ghost use Rattle.std.specs.Thread.{IsSync};
 ghost use Rattle.server.specs.Served.{HaveServed};
 
+use crate::listener::Waker;
 use crate::rounds::{WorkPlace, work};
 use locked_server::Seat;
 use sessions::{Caller, Gate};
@@ -21,7 +22,7 @@ pub struct Shifts {
 /// Lets so many workers serve side by side, the first as session `before + 1`. Each has a seat of its own, and the
 /// given one has taken all others in when they have ended. The threads are this one and others. Where none can be made,
 /// workers serve one after another.
-pub(crate) fn work_all<R: Threads + time::Clock + Sync, Q: Caller + Sync, G: Gate + Sync>(
+pub(crate) fn work_all<R: Waker + Threads + time::Clock + Sync, Q: Caller + Sync, G: Gate + Sync>(
     place: &WorkPlace<'_, R, Q, G>,
     seat: &mut Seat,
     before: u64,
@@ -29,6 +30,7 @@ pub(crate) fn work_all<R: Threads + time::Clock + Sync, Q: Caller + Sync, G: Gat
 )
     requires sync { IsSync R.row × IsSync Q.row × IsSync G.row }
     requires hall { seat.old.hall ≡ place.now.hall.now }
+    requires asks { Q.asks place.now.hall.now }
     requires numbers { before + workers < 2 ^ 64 }
     ensures { HaveServed place.now.tokens.now place.now.rounds (before + 1) workers seat.old seat.new }
 {
@@ -44,11 +46,11 @@ pub(crate) fn work_all<R: Threads + time::Clock + Sync, Q: Caller + Sync, G: Gat
     join_mut(
         place.rt,
         &mut ||
-            requires { IsSync R.row × IsSync Q.row × IsSync G.row × (seat.now.hall ≡ place.now.hall.now) × (before + half < 2 ^ 64) }
+            requires { IsSync R.row × IsSync Q.row × IsSync G.row × (seat.now.hall ≡ place.now.hall.now) × Q.asks place.now.hall.now × (before + half < 2 ^ 64) }
             ensures { HaveServed place.entry.now.tokens.now place.entry.now.rounds (before + 1) half seat.entry.now seat.exit.now }
         { work_all(place, seat, before, half) },
         &mut ||
-            requires { IsSync R.row × IsSync Q.row × IsSync G.row × (other.hall ≡ place.now.hall.now) × (before + workers < 2 ^ 64) × (half ≤ workers) }
+            requires { IsSync R.row × IsSync Q.row × IsSync G.row × (other.hall ≡ place.now.hall.now) × Q.asks place.now.hall.now × (before + workers < 2 ^ 64) × (half ≤ workers) }
             ensures { HaveServed place.entry.now.tokens.now place.entry.now.rounds (before + half + 1) (workers - half) other.entry other.exit }
         { work_all(place, &mut other, before + half, workers - half) },
     );

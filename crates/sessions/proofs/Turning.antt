@@ -155,6 +155,7 @@ fits_finished ends.PeerFault q held h = h
 fits_finished ends.Turns q held h = h
 fits_finished ends.NoMemory q held h = h
 fits_finished ends.NotOpened q held h = h
+fits_finished ends.Unkept q held h = h
 
 -- the session was attended
 pub attends : (tokens : Tokens) (session most now : ℕ) (a b c : World) (l : Known) (n : Option (List ℕ)) (end : SessionEnd) → Goes a [] (calling now session Open Done) b → HasTurns tokens session most b end c

@@ -1,7 +1,12 @@
 -- The calls that a session makes. (This project's profile.)
-use Rattle.std.specs.Prelude.{◌≡◌, ◌≤◌, ◌^◌, ℕ, Bool, true, false, not, List, [], ◌∷◌, ◌++◌, map, filter, length}
+use Rattle.std.specs.Prelude.{◌≡◌, ◌≤◌, ◌^◌, ℕ, Bool, true, false, not, List, [], ◌∷◌, ◌++◌, map, filter, length, Ok}
 use Rattle.std.specs.List.{list_any}
 use mathlib.Core.List.{IsPrefix}
+use Rattle.atomic_table.specs.Seated.{TableId}
+use Rattle.tokens.specs.Tokens.{Tokens}
+use Rattle.requests.specs.declared.message.Form.TheVariants.{Socket}
+use Rattle.requests.specs.declared.ask.Asked.{Asked}
+use Rattle.requests.specs.Ask.{IsAsked}
 use Rattle.rtdb_model.specs.declared.event.Event.{Event}
 use Rattle.rtdb_model.specs.declared.reply.Reply.{Reply}
 use Rattle.rtdb_model.specs.declared.reply.Reply.TheVariants.{Refused}
@@ -10,6 +15,14 @@ use Rattle.rtdb_model.specs.Step.{Call}
 use Rattle.locked_server.specs.declared.entry.Entry.{Entry}
 use Rattle.locked_server.specs.History.{call_of}
 use Rattle.locked_server.specs.Known.{Known, IsSameSeat, own}
+
+-- a client has asked for this event by this message, which the session reads at this moment: whichever secrets there are
+abbrev pub AsksFor : ℕ → ℕ → List ℕ → Event → Type 0
+AsksFor now session message event = (tokens : Tokens) × (asked : Asked) × IsAsked tokens (Socket (record { now = now; session = session })) message (Ok asked) × (event ≡ asked.event)
+
+-- a caller may ask each hall
+abbrev pub AsksAny : (TableId → Type 0) → Type 0
+AsksAny asks = (hall : TableId) → asks hall
 
 -- a call of the database, with its reply
 pub record Answered : Type 0 where

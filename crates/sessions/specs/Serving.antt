@@ -11,7 +11,7 @@ use Rattle.sessions.specs.Calls.{Gains}
 use Rattle.sessions.specs.Turns.{Deeds, both, calling, Turn, IsWhole, IsCut, got_in, deeds_in}
 use Rattle.sessions.specs.Departure.{Departs}
 use Rattle.sessions.specs.declared.serve.SessionEnd.{SessionEnd}
-use Rattle.sessions.specs.declared.serve.SessionEnd.TheVariants.{PeerClosed, PeerFault, Turns, NoMemory, NotOpened}
+use Rattle.sessions.specs.declared.serve.SessionEnd.TheVariants.{PeerClosed, PeerFault, Turns, NoMemory, NotOpened, Unkept}
 
 -- what a session has to do with: what its seat knows, the moments that its clock has given, where it reports them, and what went between the server and its peer
 pub record World : Type 0 where
@@ -30,13 +30,14 @@ pub record Goes (before : World) (messages : List (List ℕ)) (deeds : Deeds) (a
   pub takes : Takes before.traffic.left messages after.traffic.left
   pub sends : Adds before.traffic.sent deeds.texts after.traffic.sent
 
--- how the peer stands where a turn is cut short and the session ends so, with these texts not sent: it has closed, and no text was to be sent; or it has failed; or, for want of memory, it has lost a message or a text, or it is there and there was a text to be written
+-- how the peer stands where a turn is cut short and the session ends so, with these texts not sent: it has closed, and no text was to be sent; or it has failed; or, for want of memory, it has lost a message or a text, or it is there and there was a text to be written; or it is there, and what was to be shown can't be stored
 abbrev pub Fits : SessionEnd → Traffic → List (List ℕ) → Type 0
 Fits PeerClosed q held = Stands q true false false × (held ≡ [])
 Fits PeerFault q held = Stands q false true false
 Fits Turns q held = ⊥
 Fits NoMemory q held = Stands q false false true ⊎ (IsThere q × (held ≢ []))
 Fits NotOpened q held = ⊥
+Fits Unkept q held = IsThere q
 
 -- all turns were whole, as many as there may be, and the peer is there; or the last one was cut short, one of no more than there may be
 abbrev pub EndsAs : Tokens → ℕ → ℕ → List Turn → Traffic → SessionEnd → Type 0

@@ -21,36 +21,42 @@ pub fn the_limit_of_runs()
 
 /// Lets the session leave, runs its actions, and closes it.
 pub(crate) fn depart<Q: Caller, C: Clock>(
-    place: &SessionPlace<'_, Q>,
+    place: &SessionPlace<'_>,
+    caller: &mut Q,
     seat: &mut Seat,
     arena: &mut Bump,
     clock: &mut C,
 )
     requires hall { seat.old.hall ≡ place.now.hall.now }
+    requires asks { Q.asks place.now.hall.now }
     ensures hall { seat.new.hall ≡ place.now.hall.now }
+    ensures failed { Q.has_failed caller.old → Q.has_failed caller.new }
     ensures departs { DepartsBy place.now.session seat.old (C.moments clock.old) seat.new (C.moments clock.new) }
 {
     let now = clock.now();
-    drop(ask(place, seat, arena, now, Event::Leave));
-    run_actions(place, seat, arena, clock);
+    drop(ask(place, caller, seat, arena, now, Event::Leave, None));
+    run_actions(place, caller, seat, arena, clock);
     let then = clock.now();
-    drop(ask(place, seat, arena, then, Event::Close));
+    drop(ask(place, caller, seat, arena, then, Event::Close, None));
 }
 
 // Runs the actions of a session that leaves, until none is left or as often as may be.
 fn run_actions<Q: Caller, C: Clock>(
-    place: &SessionPlace<'_, Q>,
+    place: &SessionPlace<'_>,
+    caller: &mut Q,
     seat: &mut Seat,
     arena: &mut Bump,
     clock: &mut C,
 )
     requires hall { seat.old.hall ≡ place.now.hall.now }
+    requires asks { Q.asks place.now.hall.now }
     ensures hall { seat.new.hall ≡ place.now.hall.now }
+    ensures failed { Q.has_failed caller.old → Q.has_failed caller.new }
     ensures runs { RunsActions place.now.session seat.old (C.moments clock.old) seat.new (C.moments clock.new) }
 {
     for _ in 0..MAX_RUNS {
         let now = clock.now();
-        let reply = ask(place, seat, arena, now, Event::RunNext);
+        let reply = ask(place, caller, seat, arena, now, Event::RunNext, None);
         if found_none(&reply) {
             return;
         }

@@ -13,7 +13,7 @@ mod serve;
 mod socket_peer;
 
 pub use attending::answer;
-pub use caller::{Caller, HallCaller};
+pub use caller::{Caller, HallCaller, Unkept};
 pub use departure::{MAX_RUNS, the_limit_of_runs};
 pub use peer::{Clock, Gate, Peer, Received, Sent};
 pub use serve::{SessionEnd, serve_session};

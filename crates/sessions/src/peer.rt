@@ -1,4 +1,5 @@
 //! Whom a session speaks to, and what stands beside it.
+use crate::caller::Caller;
 use rtdb_core::MAX_MOMENT;
 
 /// What a peer gives where it is asked for a message.
@@ -54,9 +55,11 @@ pub trait Peer: Drop {
         ensures receives { Receives (traffic self.old) result (traffic self.new) }
         ensures own { has_received self.old result self.new };
 
-    /// Sends a text.
-    fn send(&mut self, text: &[u8]) -> Sent
-        requires { IsOpen (traffic self.old) }
+    /// Sends a text. The caller is there for the contract alone: all that it has shown is stored before anything is
+    /// sent.
+    fn send<Q: Caller>(&mut self, text: &[u8], caller: &Q) -> Sent
+        requires open { IsOpen (traffic self.old) }
+        requires stored { Q.is_stored caller.now }
         ensures sends { Sends (traffic self.old) text.now result (traffic self.new) }
         ensures own { has_sent self.old text.now result self.new };
 

@@ -1,5 +1,5 @@
 //! The session of one client.
-ghost use Rattle.std.specs.Prelude.{◌≡◌, ◌⊎◌, [], ◌∷◌, MatchOption, IfNone};
+ghost use Rattle.std.specs.Prelude.{◌≡◌, ◌≢◌, ◌⊎◌, [], ◌∷◌, Some, MatchOption, IfNone};
 ghost use Rattle.answers.specs.AnswerText.{text as text_of};
 ghost use Rattle.sessions.specs.Traffic.{IsOpen, Moves};
 ghost use Rattle.sessions.specs.Turns.{push_of};
@@ -7,7 +7,7 @@ ghost use Rattle.sessions.specs.Serving.{Fits, Serves, Visits, world};
 ghost use Rattle.sessions.specs.Working.{AnswersOr, HasTurns, PushesOr, RepliesOr, TurnsOr};
 
 use crate::attending::{Desk, SessionPlace, ask, attend};
-use crate::caller::Caller;
+use crate::caller::{Caller, Unkept};
 use crate::departure::depart;
 use crate::peer::{Clock, Gate, Peer, Received, Sent};
 use answers::AnswerWriter;
@@ -31,15 +31,19 @@ pub enum SessionEnd {
     NoMemory,
     /// Its opening was refused.
     NotOpened,
+    /// What it was to show can't be stored any more.
+    Unkept,
 }
 
 // Of the memory that an answer took this much is kept for the next, 64 KiB.
 const KEPT_ANSWER: usize = 65_536;
 
 // Sends the text that is written, and clears it. Where the session ends there, says how.
-fn send<P: Peer>(peer: &mut P, out: &mut AnswerWriter) -> Option<SessionEnd>
+fn send<Q: Caller, P: Peer>(caller: &Q, peer: &mut P, out: &mut AnswerWriter) -> Option<SessionEnd>
+    requires stored { Q.is_stored caller.now }
     requires open { IsOpen (P.traffic peer.old) }
     requires none { out.old.before ≡ [] }
+    ensures kept { result ≢ Some SessionEnd.Unkept }
     ensures before { out.new.before ≡ [] }
     ensures text { out.new.text ≡ [] }
     ensures sent { MatchOption result
@@ -47,7 +51,7 @@ fn send<P: Peer>(peer: &mut P, out: &mut AnswerWriter) -> Option<SessionEnd>
         (λ end. Moves (P.traffic peer.old) [] [] (P.traffic peer.new) × Fits end (P.traffic peer.new) (out.old.text ∷ [])) }
 {
     let mut text = out.end();
-    let sent = peer.send(&text);
+    let sent = peer.send(&text, caller);
     text.clear();
     text.shrink_to(KEPT_ANSWER);
     out.begin(text);
@@ -58,9 +62,33 @@ fn send<P: Peer>(peer: &mut P, out: &mut AnswerWriter) -> Option<SessionEnd>
     }
 }
 
+// Sends the text that is written, once all that it shows is stored, and clears it. Where the session ends there, says
+// how.
+fn send_stored<Q: Caller, P: Peer>(
+    place: &SessionPlace<'_>,
+    caller: &mut Q,
+    peer: &mut P,
+    out: &mut AnswerWriter,
+) -> Option<SessionEnd>
+    requires asks { Q.asks place.now.hall.now }
+    requires open { IsOpen (P.traffic peer.old) }
+    requires none { out.old.before ≡ [] }
+    ensures unkept { result ≡ Some SessionEnd.Unkept → Q.has_failed caller.new }
+    ensures clear { IfNone result ((out.new.before ≡ []) × (out.new.text ≡ [])) }
+    ensures sent { MatchOption result
+        (Moves (P.traffic peer.old) [] (out.old.text ∷ []) (P.traffic peer.new) × IsOpen (P.traffic peer.new))
+        (λ end. Moves (P.traffic peer.old) [] [] (P.traffic peer.new) × Fits end (P.traffic peer.new) (out.old.text ∷ [])) }
+{
+    match caller.store(place.hall) {
+        Ok(()) => send(caller, peer, out),
+        Err(Unkept) => Some(SessionEnd::Unkept),
+    }
+}
+
 // Answers a message that was received. Where the session ends there, says how.
 fn reply_to<Q: Caller, C: Clock, P: Peer>(
-    place: &SessionPlace<'_, Q>,
+    place: &SessionPlace<'_>,
+    caller: &mut Q,
     seat: &mut Seat,
     arena: &mut Bump,
     desk: &mut Desk,
@@ -69,22 +97,25 @@ fn reply_to<Q: Caller, C: Clock, P: Peer>(
     message: &[u8],
 ) -> Option<SessionEnd>
     requires hall { seat.old.hall ≡ place.now.hall.now }
+    requires asks { Q.asks place.now.hall.now }
     requires open { IsOpen (P.traffic peer.old) }
     requires clear { (desk.old.out.before ≡ []) × (desk.old.out.text ≡ []) }
     ensures hall { seat.new.hall ≡ place.now.hall.now }
     ensures clear { IfNone result ((desk.new.out.before ≡ []) × (desk.new.out.text ≡ [])) }
+    ensures unkept { result ≡ Some SessionEnd.Unkept → Q.has_failed caller.new }
     ensures replies { RepliesOr place.now.tokens.now place.now.session message.now (world seat.old (C.moments clock.old) (P.traffic peer.old)) (world seat.new (C.moments clock.new) (P.traffic peer.new)) result }
 {
     let now = clock.now();
-    match attend(place, seat, arena, desk, now, message) {
-        Ok(()) => send(peer, &mut desk.out),
+    match attend(place, caller, seat, arena, desk, now, message) {
+        Ok(()) => send_stored(place, caller, peer, &mut desk.out),
         Err(NoMemory) => Some(SessionEnd::NoMemory),
     }
 }
 
 // The first half of a turn: a message, if one has come, and its answer.
 fn hear<Q: Caller, G: Gate, C: Clock, P: Peer>(
-    place: &SessionPlace<'_, Q>,
+    place: &SessionPlace<'_>,
+    caller: &mut Q,
     seat: &mut Seat,
     arena: &mut Bump,
     desk: &mut Desk,
@@ -93,17 +124,19 @@ fn hear<Q: Caller, G: Gate, C: Clock, P: Peer>(
     peer: &mut P,
 ) -> Option<SessionEnd>
     requires hall { seat.old.hall ≡ place.now.hall.now }
+    requires asks { Q.asks place.now.hall.now }
     requires open { IsOpen (P.traffic peer.old) }
     requires clear { (desk.old.out.before ≡ []) × (desk.old.out.text ≡ []) }
     ensures hall { seat.new.hall ≡ place.now.hall.now }
     ensures clear { IfNone result ((desk.new.out.before ≡ []) × (desk.new.out.text ≡ [])) }
+    ensures unkept { result ≡ Some SessionEnd.Unkept → Q.has_failed caller.new }
     ensures answers { AnswersOr place.now.tokens.now place.now.session (world seat.old (C.moments clock.old) (P.traffic peer.old)) (world seat.new (C.moments clock.new) (P.traffic peer.new)) result }
 {
     match peer.receive() {
         Received::Message(message) => {
             desk.messages = desk.messages.saturating_add(1);
             gate.message_read(place.session, desk.messages);
-            match reply_to(place, seat, arena, desk, clock, peer, &message) {
+            match reply_to(place, caller, seat, arena, desk, clock, peer, &message) {
                 Some(end) => Some(end),
                 None => {
                     gate.answered(place.session, desk.messages);
@@ -119,9 +152,16 @@ fn hear<Q: Caller, G: Gate, C: Clock, P: Peer>(
 }
 
 // Sends the news of a poll, where there are any. Where the session ends there, says how.
-fn send_news<P: Peer>(reply: &Reply, out: &mut AnswerWriter, peer: &mut P) -> Option<SessionEnd>
+fn send_news<Q: Caller, P: Peer>(
+    reply: &Reply,
+    caller: &Q,
+    out: &mut AnswerWriter,
+    peer: &mut P,
+) -> Option<SessionEnd>
+    requires stored { Q.is_stored caller.now }
     requires open { IsOpen (P.traffic peer.old) }
     requires clear { (out.old.before ≡ []) × (out.old.text ≡ []) }
+    ensures kept { result ≢ Some SessionEnd.Unkept }
     ensures clear { IfNone result ((out.new.before ≡ []) × (out.new.text ≡ [])) }
     ensures sent { MatchOption result
         (Moves (P.traffic peer.old) [] (push_of reply.now) (P.traffic peer.new) × IsOpen (P.traffic peer.new))
@@ -134,14 +174,15 @@ fn send_news<P: Peer>(reply: &Reply, out: &mut AnswerWriter, peer: &mut P) -> Op
         return None;
     }
     match out.put_push(news) {
-        Ok(()) => send(peer, out),
+        Ok(()) => send(caller, peer, out),
         Err(NoMemory) => Some(SessionEnd::NoMemory),
     }
 }
 
 // The second half of a turn: a poll, and the push of its news.
 fn push<Q: Caller, C: Clock, P: Peer>(
-    place: &SessionPlace<'_, Q>,
+    place: &SessionPlace<'_>,
+    caller: &mut Q,
     seat: &mut Seat,
     arena: &mut Bump,
     desk: &mut Desk,
@@ -149,19 +190,25 @@ fn push<Q: Caller, C: Clock, P: Peer>(
     peer: &mut P,
 ) -> Option<SessionEnd>
     requires hall { seat.old.hall ≡ place.now.hall.now }
+    requires asks { Q.asks place.now.hall.now }
     requires open { IsOpen (P.traffic peer.old) }
     requires clear { (desk.old.out.before ≡ []) × (desk.old.out.text ≡ []) }
     ensures hall { seat.new.hall ≡ place.now.hall.now }
     ensures clear { IfNone result ((desk.new.out.before ≡ []) × (desk.new.out.text ≡ [])) }
+    ensures unkept { result ≡ Some SessionEnd.Unkept → Q.has_failed caller.new }
     ensures pushes { PushesOr place.now.session (world seat.old (C.moments clock.old) (P.traffic peer.old)) (world seat.new (C.moments clock.new) (P.traffic peer.new)) result }
 {
     let now = clock.now();
-    let reply = ask(place, seat, arena, now, Event::Poll);
-    send_news(&reply, &mut desk.out, peer)
+    let reply = ask(place, caller, seat, arena, now, Event::Poll, None);
+    match caller.store(place.hall) {
+        Ok(()) => send_news(&reply, caller, &mut desk.out, peer),
+        Err(Unkept) => Some(SessionEnd::Unkept),
+    }
 }
 
 fn turn<Q: Caller, G: Gate, C: Clock, P: Peer>(
-    place: &SessionPlace<'_, Q>,
+    place: &SessionPlace<'_>,
+    caller: &mut Q,
     seat: &mut Seat,
     arena: &mut Bump,
     desk: &mut Desk,
@@ -170,21 +217,24 @@ fn turn<Q: Caller, G: Gate, C: Clock, P: Peer>(
     peer: &mut P,
 ) -> Option<SessionEnd>
     requires hall { seat.old.hall ≡ place.now.hall.now }
+    requires asks { Q.asks place.now.hall.now }
     requires open { IsOpen (P.traffic peer.old) }
     requires clear { (desk.old.out.before ≡ []) × (desk.old.out.text ≡ []) }
     ensures hall { seat.new.hall ≡ place.now.hall.now }
     ensures clear { IfNone result ((desk.new.out.before ≡ []) × (desk.new.out.text ≡ [])) }
+    ensures unkept { result ≡ Some SessionEnd.Unkept → Q.has_failed caller.new }
     ensures turns { TurnsOr place.now.tokens.now place.now.session (world seat.old (C.moments clock.old) (P.traffic peer.old)) (world seat.new (C.moments clock.new) (P.traffic peer.new)) result }
 {
-    match hear(place, seat, arena, desk, gate, clock, peer) {
+    match hear(place, caller, seat, arena, desk, gate, clock, peer) {
         Some(end) => Some(end),
-        None => push(place, seat, arena, desk, clock, peer),
+        None => push(place, caller, seat, arena, desk, clock, peer),
     }
 }
 
 // The turns of a session that is open.
 fn take_turns<Q: Caller, G: Gate, C: Clock, P: Peer>(
-    place: &SessionPlace<'_, Q>,
+    place: &SessionPlace<'_>,
+    caller: &mut Q,
     seat: &mut Seat,
     arena: &mut Bump,
     desk: &mut Desk,
@@ -194,13 +244,15 @@ fn take_turns<Q: Caller, G: Gate, C: Clock, P: Peer>(
     turns: u64,
 ) -> SessionEnd
     requires hall { seat.old.hall ≡ place.now.hall.now }
+    requires asks { Q.asks place.now.hall.now }
     requires open { IsOpen (P.traffic peer.old) }
     requires clear { (desk.old.out.before ≡ []) × (desk.old.out.text ≡ []) }
     ensures hall { seat.new.hall ≡ place.now.hall.now }
+    ensures unkept { result ≡ SessionEnd.Unkept → Q.has_failed caller.new }
     ensures turns { HasTurns place.now.tokens.now place.now.session turns (world seat.old (C.moments clock.old) (P.traffic peer.old)) result (world seat.new (C.moments clock.new) (P.traffic peer.new)) }
 {
     for _ in 0..turns {
-        if let Some(end) = turn(place, seat, arena, desk, gate, clock, peer) {
+        if let Some(end) = turn(place, caller, seat, arena, desk, gate, clock, peer) {
             return end;
         }
     }
@@ -213,7 +265,7 @@ fn take_turns<Q: Caller, G: Gate, C: Clock, P: Peer>(
 /// where the caller does, and where the peer does. A turn without a message and without news costs one call of the
 /// hall, and takes no memory; the memory of texts is kept from turn to turn.
 pub fn serve_session<Q: Caller, G: Gate, C: Clock, P: Peer>(
-    caller: &Q,
+    caller: &mut Q,
     alloc: Global,
     hall: &Hall,
     seat: &mut Seat,
@@ -226,25 +278,29 @@ pub fn serve_session<Q: Caller, G: Gate, C: Clock, P: Peer>(
     turns: u64,
 ) -> SessionEnd
     requires hall { seat.old.hall ≡ hall.now }
+    requires asks { Q.asks hall.now }
     requires open { IsOpen (P.traffic peer.old) }
     ensures hall { seat.new.hall ≡ hall.now }
+    ensures unkept { result ≡ SessionEnd.Unkept → Q.has_failed caller.new }
     ensures serves { Serves tokens.now session turns (world seat.old (C.moments clock.old) (P.traffic peer.old)) result (world seat.new (C.moments clock.new) (P.traffic peer.new)) }
 {
     let place = SessionPlace {
-        caller,
         hall,
         tokens,
         session,
     };
     let mut desk = Desk::new(alloc);
-    let end = visit(&place, seat, arena, &mut desk, gate, clock, peer, turns);
+    let end = visit(
+        &place, caller, seat, arena, &mut desk, gate, clock, peer, turns,
+    );
     peer.finish();
     end
 }
 
 // The session, from its opening to its end.
 fn visit<Q: Caller, G: Gate, C: Clock, P: Peer>(
-    place: &SessionPlace<'_, Q>,
+    place: &SessionPlace<'_>,
+    caller: &mut Q,
     seat: &mut Seat,
     arena: &mut Bump,
     desk: &mut Desk,
@@ -254,32 +310,41 @@ fn visit<Q: Caller, G: Gate, C: Clock, P: Peer>(
     turns: u64,
 ) -> SessionEnd
     requires hall { seat.old.hall ≡ place.now.hall.now }
+    requires asks { Q.asks place.now.hall.now }
     requires open { IsOpen (P.traffic peer.old) }
     requires clear { (desk.old.out.before ≡ []) × (desk.old.out.text ≡ []) }
     ensures hall { seat.new.hall ≡ place.now.hall.now }
+    ensures unkept { result ≡ SessionEnd.Unkept → Q.has_failed caller.new }
     ensures visits { Visits place.now.tokens.now place.now.session turns (world seat.old (C.moments clock.old) (P.traffic peer.old)) result (world seat.new (C.moments clock.new) (P.traffic peer.new)) }
 {
     let now = clock.now();
-    match ask(place, seat, arena, now, Event::Open) {
+    match ask(place, caller, seat, arena, now, Event::Open, None) {
         Reply::Done => {
-            let end = take_turns(place, seat, arena, desk, gate, clock, peer, turns);
-            depart(place, seat, arena, clock);
+            let end = take_turns(place, caller, seat, arena, desk, gate, clock, peer, turns);
+            depart(place, caller, seat, arena, clock);
             end
         }
         refused => {
-            turn_away(&refused, &mut desk.out, peer);
+            turn_away(place, caller, &refused, &mut desk.out, peer);
             SessionEnd::NotOpened
         }
     }
 }
 
 // Sends what the opening was answered, where it can.
-fn turn_away<P: Peer>(reply: &Reply, out: &mut AnswerWriter, peer: &mut P)
+fn turn_away<Q: Caller, P: Peer>(
+    place: &SessionPlace<'_>,
+    caller: &mut Q,
+    reply: &Reply,
+    out: &mut AnswerWriter,
+    peer: &mut P,
+)
+    requires asks { Q.asks place.now.hall.now }
     requires open { IsOpen (P.traffic peer.old) }
     requires clear { (out.old.before ≡ []) × (out.old.text ≡ []) }
     ensures { Moves (P.traffic peer.old) [] [] (P.traffic peer.new) ⊎ Moves (P.traffic peer.old) [] (text_of reply.now ∷ []) (P.traffic peer.new) }
 {
     if out.put_reply(reply).is_ok() {
-        send(peer, out);
+        send_stored(place, caller, peer, out);
     }
 }

@@ -5,6 +5,7 @@ ghost use Rattle.tungstenite.specs.Content.{text as content_with};
 ghost use Rattle.tungstenite.specs.Socket.{content_of};
 ghost use Rattle.sessions.specs.Sockets.{AwaitsClose, IsFinished, IsMessage, IsRead, IsReadFor, IsSaid, IsTakenFor, IsUnsentFor, IsWritten};
 
+use crate::caller::Caller;
 use crate::peer::{Peer, Received, Sent};
 use std::alloc::Global;
 use std::io::{self, ErrorKind, Read, Write};
@@ -70,7 +71,7 @@ impl<S: Read + Write + Drop, K: MaskKeys + Drop> Peer for SocketPeer<S, K> {
         received
     }
 
-    fn send(&mut self, text: &[u8]) -> Sent {
+    fn send<Q: Caller>(&mut self, text: &[u8], _caller: &Q) -> Sent {
         let sent = write_text(self.alloc, &mut self.socket, text);
         match sent {
             Sent::Done => {}

@@ -8,7 +8,7 @@ use Rattle.rtdb.proofs.serve.listen.Goals as goal
 pub returns-in-Ok-end-clause-served : goal.returns-in-Ok-end-clause-served
 returns-in-Ok-end-clause-served g c =
     let some : 1 ≤ c.args.options.now.port = c.args.options.now.has_port in
-    inl (c.give_up.ensures, was_served (served_by c.args.options.now) c.args.opened c.in-Ok.listener c.in-Ok-new.seat c.in-Ok-end.core _ _ c.in-Ok-new.ensures.seat.1 c.in-Ok-new.ensures.seat.2 (c.in-Ok.ensures (λ none. omega (arith, some, none))) c.in-Ok-end.ensures.served)
+    inl (c.give_up.ensures, was_served (served_by c.args.options.now) c.args.opened c.in-Ok.listener c.in-Ok-new.seat c.close-core.result _ _ c.in-Ok-new.ensures.seat.1 c.in-Ok-new.ensures.seat.2 (c.in-Ok.ensures (λ none. omega (arith, some, none))) (c.serve_on-end.new.seat, c.in-Ok-end.ensures.printed, c.close-core.ensures))
 
 pub returns-clause-served : goal.returns-clause-served
 returns-clause-served g c =

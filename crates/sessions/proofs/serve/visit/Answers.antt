@@ -20,6 +20,7 @@ returns-in-Done-clause-visits g c =
 pub returns-in_default : goal.returns-in_default
 returns-in_default g c = record {
   hall = c.ask.ensures.hall;
+  unkept = λ is. absurd cc;
   visits = turns_away c.args.place.now.tokens.now c.args.place.now.session c.args.turns c.now-now.result c.args.seat.now c.ask.new.seat (g.C.Clock.moments c.args.clock.now) (g.C.Clock.moments c.now-now.new.self)
       (g.P.Peer.traffic c.args.peer.now) (g.P.Peer.traffic c.turn_away.new.peer) c.ask.result c.in_default.not-Done c.now-now.ensures.given c.ask.ensures.gains c.turn_away.ensures;
 }
