@@ -3,8 +3,8 @@ use Rattle.std.proofs.Common.{◌≡◌, ◌⊎◌, inl, inr, ℕ, suc, ◌+◌,
 use Rattle.std.specs.List.{AllByRecursion}
 use Rattle.std.proofs.lemmas.List.{map-append, take-append-drop, length-map, length-take-le, length-drop, drop-drop}
 use Rattle.std.proofs.lemmas.Grind.{flat_map-append}
-use Rattle.journal.specs.Format.{Group, Link, Fits, AllFit, opening, end_of, next, digits, entry_text, entries_text, file_of}
-use Rattle.journal.specs.Recovery.{Begins, Survives}
+use Rattle.journal.specs.Format.{Group, opening, next, digits, entry_text, entries_text}
+use Rattle.journal.specs.Recovery.{Survives}
 use Rattle.journal.specs.Recovering.{texts_of}
 use Rattle.journal.specs.Keeping.{Keeps, chain_identifier}
 use Rattle.journal.specs.declared.chain.Chain.{Chain}
@@ -16,7 +16,6 @@ use Rattle.locked_server.specs.Known.{Known}
 use Rattle.store.specs.Replay.{AreEntriesOf}
 use Rattle.store.specs.Recovered.{AreIn}
 use Rattle.hall_journal.specs.Kept.{Began, IsLeft, KeepsCalls, KeepsHistory}
-use Rattle.locked_server.specs.History.{changed_in}
 use Rattle.hall_journal.specs.Working.{AreNext, texts}
 use Rattle.hall_journal.proofs.Growing.{parts_same}
 
@@ -95,8 +94,8 @@ small-in (entry ∷ entries) short =
 -- ---- what is left
 
 -- what a crash leaves of some calls, it leaves of more
-pub leaves-more : (began : Began) (changed next : List Call) (left : List ℕ) → IsLeft began changed left → IsLeft began (changed ++ next) left
-leaves-more began changed next left leaves =
+pub leaves-more : (began : Began) (had : List Group) (changed next : List Call) (left : List ℕ) → IsLeft began had changed left → IsLeft began had (changed ++ next) left
+leaves-more began had changed next left leaves =
     record {
       stored = leaves.stored;
       appended = leaves.appended;
@@ -110,18 +109,18 @@ leaves-more began changed next left leaves =
       survives = leaves.survives;
     }
 
-module _ {D : Type 0} (holds may_leave : D → List ℕ → Type 0) (moment : D → ℕ) (left_since : D → ℕ → List ℕ → Type 0) (began : Began) where
+module _ {D : Type 0} (holds may_leave : D → List ℕ → Type 0) (moment : D → ℕ) (left_since : D → ℕ → List ℕ → Type 0) (began : Began) (had : List Group) where
   -- a group of the entries of the next calls was appended and stored
   pub appended-more : (old new : D) (before after : Chain) (changed next : List Call) (entries : List (List ℕ)) (group : Group)
       → group.text ≡ entries_text entries → AreEntriesOf entries next → chain_identifier after ≡ chain_identifier before
-      → (kept : KeepsCalls holds may_leave moment left_since began old before changed)
-      → Keeps holds may_leave new after ((began.groups ++ kept.appended) ++ group ∷ []) ((began.groups ++ kept.appended) ++ group ∷ [])
-      → AtAnyMoment moment left_since old new (Survives (chain_identifier before) (began.groups ++ kept.appended) ((began.groups ++ kept.appended) ++ group ∷ []))
-      → KeepsCalls holds may_leave moment left_since began new after (changed ++ next)
+      → (kept : KeepsCalls holds may_leave moment left_since began had old before changed)
+      → Keeps holds may_leave new after ((had ++ kept.appended) ++ group ∷ []) ((had ++ kept.appended) ++ group ∷ [])
+      → AtAnyMoment moment left_since old new (Survives (chain_identifier before) (had ++ kept.appended) ((had ++ kept.appended) ++ group ∷ []))
+      → KeepsCalls holds may_leave moment left_since began had new after (changed ++ next)
   appended-more old new before after changed next entries group text are same kept keeps times =
       let all = kept.appended ++ group ∷ [] in
-      let whole : (began.groups ++ kept.appended) ++ group ∷ [] ≡ began.groups ++ all = append_assoc began.groups kept.appended (group ∷ []) in
-      let fits = fit-back (opening (chain_identifier after)) (began.groups ++ kept.appended) (group ∷ []) keeps.leads.fit in
+      let whole : (had ++ kept.appended) ++ group ∷ [] ≡ had ++ all = append_assoc had kept.appended (group ∷ []) in
+      let fits = fit-back (opening (chain_identifier after)) (had ++ kept.appended) (group ∷ []) keeps.leads.fit in
       let short : length (entries_text entries) < 10 ^ 8 = subst (λ (t : List ℕ). length t < 10 ^ 8) text (omega (arith, fits.0.text)) in
       let all_in : AreIn (kept.kept ++ entries) all =
       record {
@@ -130,7 +129,7 @@ module _ {D : Type 0} (holds may_leave : D → List ℕ → Type 0) (moment : D 
         small = all-append (λ (entry : List ℕ). length entry < 10 ^ 8) kept.kept entries kept.kept_in.small (small-in entries short);
       } in
       let entries_are : AreEntriesOf (kept.kept ++ entries) (changed ++ next) = entries-append kept.kept entries changed next kept.entries are in
-      let by : (left : List ℕ) → left_since old began.moment left ⊎ Survives (chain_identifier before) (began.groups ++ kept.appended) ((began.groups ++ kept.appended) ++ group ∷ []) left → IsLeft began (changed ++ next) left =
+      let by : (left : List ℕ) → left_since old began.moment left ⊎ Survives (chain_identifier before) (had ++ kept.appended) ((had ++ kept.appended) ++ group ∷ []) left → IsLeft began had (changed ++ next) left =
       λ left either. since left all all_in entries_are whole either in
       record {
         appended = all;
@@ -143,9 +142,9 @@ module _ {D : Type 0} (holds may_leave : D → List ℕ → Type 0) (moment : D 
         since = λ left might. by left (times.earlier began.moment left kept.later might);
       }
     where
-      since : (left : List ℕ) (all : List Group) → AreIn (kept.kept ++ entries) all → AreEntriesOf (kept.kept ++ entries) (changed ++ next) → (began.groups ++ kept.appended) ++ group ∷ [] ≡ began.groups ++ all
-          → left_since old began.moment left ⊎ Survives (chain_identifier before) (began.groups ++ kept.appended) ((began.groups ++ kept.appended) ++ group ∷ []) left → IsLeft began (changed ++ next) left
-      since left all all_in entries_are whole (inl earlier) = leaves-more began changed next left (kept.since left earlier)
+      since : (left : List ℕ) (all : List Group) → AreIn (kept.kept ++ entries) all → AreEntriesOf (kept.kept ++ entries) (changed ++ next) → (had ++ kept.appended) ++ group ∷ [] ≡ had ++ all
+          → left_since old began.moment left ⊎ Survives (chain_identifier before) (had ++ kept.appended) ((had ++ kept.appended) ++ group ∷ []) left → IsLeft began had (changed ++ next) left
+      since left all all_in entries_are whole (inl earlier) = leaves-more began had changed next left (kept.since left earlier)
       since left all all_in entries_are whole (inr survives) =
           record {
             stored = kept.appended;
@@ -157,16 +156,16 @@ module _ {D : Type 0} (holds may_leave : D → List ℕ → Type 0) (moment : D 
             all_in = all_in;
             entries = entries_are;
             first = ([], sym (append-nil (changed ++ next)));
-            survives = subst (λ (groups : List Group). Survives began.identifier (began.groups ++ kept.appended) groups left) whole (subst (λ (i : List ℕ). Survives i (began.groups ++ kept.appended) ((began.groups ++ kept.appended) ++ group ∷ []) left) kept.identified survives);
+            survives = subst (λ (groups : List Group). Survives began.identifier (had ++ kept.appended) groups left) whole (subst (λ (i : List ℕ). Survives i (had ++ kept.appended) ((had ++ kept.appended) ++ group ∷ []) left) kept.identified survives);
           }
 
   -- and so the file keeps more of the history that a seat has seen
   pub history-more : (old new : D) (before after : Chain) (seat : Known) (count : ℕ) (entries : List (List ℕ)) (group : Group)
       → group.text ≡ entries_text entries → AreNext seat.seen count entries → chain_identifier after ≡ chain_identifier before
-      → (kept : KeepsHistory holds may_leave moment left_since began old before seat count)
-      → Keeps holds may_leave new after ((began.groups ++ kept.keeps.appended) ++ group ∷ []) ((began.groups ++ kept.keeps.appended) ++ group ∷ [])
-      → AtAnyMoment moment left_since old new (Survives (chain_identifier before) (began.groups ++ kept.keeps.appended) ((began.groups ++ kept.keeps.appended) ++ group ∷ []))
-      → KeepsHistory holds may_leave moment left_since began new after seat (count + length entries)
+      → (kept : KeepsHistory holds may_leave moment left_since began had old before seat count)
+      → Keeps holds may_leave new after ((had ++ kept.keeps.appended) ++ group ∷ []) ((had ++ kept.keeps.appended) ++ group ∷ [])
+      → AtAnyMoment moment left_since old new (Survives (chain_identifier before) (had ++ kept.keeps.appended) ((had ++ kept.keeps.appended) ++ group ∷ []))
+      → KeepsHistory holds may_leave moment left_since began had new after seat (count + length entries)
   history-more old new before after seat count entries group text next same kept keeps times =
       let cut = parts_same kept.changed kept.later next.earlier (next.next ++ next.later) (kept.count_is ∙ sym next.count_is) (sym kept.seen ∙ next.changed) in
       record {
@@ -180,10 +179,10 @@ module _ {D : Type 0} (holds may_leave : D → List ℕ → Type 0) (moment : D 
 
   -- at its beginning a file keeps no calls
   pub begun : (old new : D) (chain : Chain) → chain_identifier chain ≡ began.identifier → moment old ≡ began.moment
-      → Keeps holds may_leave new chain began.groups began.groups → AtAnyMoment moment left_since old new (Survives began.identifier began.groups began.groups)
-      → KeepsCalls holds may_leave moment left_since began new chain []
+      → Keeps holds may_leave new chain had had → AtAnyMoment moment left_since old new (Survives began.identifier had had)
+      → KeepsCalls holds may_leave moment left_since began had new chain []
   begun old new chain identified now keeps times =
-      let all : began.groups ≡ began.groups ++ [] = sym (append-nil began.groups) in
+      let all : had ≡ had ++ [] = sym (append-nil had) in
       let none : AreIn [] [] = record { whole = refl; small = tt } in
       record {
         appended = [];

@@ -1,5 +1,5 @@
 -- Entries that gather, one behind the other.
-use Rattle.std.proofs.Common.{◌≡◌, ℕ, ◌+◌, ◌-◌, ◌==◌, Bool, true, false, cond, List, [], ◌∷◌, ◌++◌, length, map, Vec, Global, Option, Some, None, refl, ap, sym, subst, ◌∙◌, append_assoc, append-nil, length-append, arith}
+use Rattle.std.proofs.Common.{◌≡◌, ℕ, ◌+◌, ◌-◌, ◌==◌, Bool, true, false, cond, List, [], ◌∷◌, ◌++◌, length, Vec, Global, Some, None, refl, ap, sym, subst, ◌∙◌, append_assoc, length-append, arith}
 use Rattle.std.proofs.lemmas.List.{map-append, length-map}
 use Rattle.std.specs.Ordering.{nat_cmp, is_eq}
 use Rattle.std.specs.Cmp.{unsigned_tied}
@@ -12,10 +12,16 @@ use Rattle.locked_server.specs.declared.entry.Entry.{Entry}
 use Rattle.store.specs.Replay.{AreEntriesOf}
 use Rattle.hall_journal.specs.Kept.{IsEntryAt}
 use Rattle.locked_server.specs.History.{changed_in}
-use Rattle.hall_journal.specs.Working.{texts, AreNext}
+use Rattle.hall_journal.specs.Working.{texts}
 use Rattle.hall_journal.specs.Gathering.{Gathers, AreAtTheirNumbers}
 use Rattle.hall_journal.proofs.Growing.{parts_same, next-more, at-more}
 use Rattle.hall_journal.proofs.Appending.{entries-append, entries-length}
+
+-- where nothing has gathered, the first entry comes next
+pub gathers-none : (seen : List Entry) (gathered : List (Vec ℕ Global)) → gathered ≡ [] → Gathers seen 0 gathered 1
+gathers-none seen gathered none =
+    let first : Gathers seen 0 [] 1 = (record { earlier = []; next = []; later = changed_in seen; changed = refl; count_is = refl; entries_are = tt }, refl) in
+    subst (λ (es : List (Vec ℕ Global)). Gathers seen 0 es 1) (sym none) first
 
 -- the entry at the number that comes next goes behind those that have gathered
 pub gathers-one : (seen : List Entry) (count next : ℕ) (gathered : List (Vec ℕ Global)) (entry : Vec ℕ Global) → Gathers seen count gathered next → IsEntryAt seen next entry.items → Gathers seen count (gathered ++ entry ∷ []) (next + 1)
@@ -56,6 +62,12 @@ gathers-more seen all count next gathered first gathers = (next-more seen all co
 
 pub early-more : (seen all : List Entry) (early : BTreeMap ℕ (Vec ℕ Global)) → IsPrefix seen all → AreAtTheirNumbers seen early → AreAtTheirNumbers all early
 early-more seen all early first are number entry found = at-more seen all number entry.items first (are number entry found)
+
+-- where there are none, each stands at its number
+pub early-none : (seen : List Entry) (early : BTreeMap ℕ (Vec ℕ Global)) → early.entries ≡ [] → AreAtTheirNumbers seen early
+early-none seen early none number entry found =
+    let never : None ≡ Some entry = ap (λ (es : List (ℕ × Vec ℕ Global)). lookup (λ k. is_eq (nat_cmp number k)) es) (sym none) ∙ found in
+    absurd (cc never)
 
 -- without one of them, the others stand at their numbers
 pub early-less : (seen : List Entry) (early left : BTreeMap ℕ (Vec ℕ Global)) (taken : ℕ) → ((q : ℕ) → get_by (nat_cmp q) left ≡ cond (is_eq (nat_cmp taken q)) None (get_by (nat_cmp q) early)) → AreAtTheirNumbers seen early → AreAtTheirNumbers seen left

@@ -1,13 +1,13 @@
 -- Who has seen more of a history knows the same of it; and whoever takes in a seat that made no call has the calls that it had.
-use Rattle.std.proofs.Common.{◌≡◌, ◌⊎◌, inl, inr, ℕ, zero, suc, ◌+◌, List, [], ◌∷◌, ◌++◌, length, refl, ap, sym, subst, ◌∙◌, append_assoc, arith}
+use Rattle.std.proofs.Common.{◌≡◌, inl, inr, ℕ, List, [], ◌∷◌, ◌++◌, length, refl, ap, sym, subst, ◌∙◌, append_assoc, arith}
 use mathlib.Core.List.{IsPrefix}
 use Rattle.rtdb_model.specs.Step.{Call}
 use Rattle.locked_server.specs.declared.entry.Entry.{Entry}
 use Rattle.locked_server.specs.History.{Shuffled}
 use Rattle.locked_server.specs.Known.{Known, SeesMore, Met, own}
+use Rattle.journal.specs.Format.{Group}
 use Rattle.journal.specs.declared.chain.Chain.{Chain}
 use Rattle.hall_journal.specs.Kept.{Began, IsAt, OnlyLooks, IsEntryAt, KeepsHistory}
-use Rattle.locked_server.specs.History.{changed_in}
 use Rattle.hall_journal.specs.Working.{AreNext}
 use Rattle.locked_server.proofs.Changes.{changed_stays}
 
@@ -58,9 +58,9 @@ at-more seen all number entry first at =
     }
 
 -- a file keeps the same, whoever has seen more
-pub keeps-more : {D : Type 0} (holds may_leave : D → List ℕ → Type 0) (moment : D → ℕ) (left_since : D → ℕ → List ℕ → Type 0) (began : Began) (disk : D) (chain : Chain) (seat other : Known) (count : ℕ)
-    → IsAt began other → IsPrefix seat.seen other.seen → KeepsHistory holds may_leave moment left_since began disk chain seat count → KeepsHistory holds may_leave moment left_since began disk chain other count
-keeps-more holds may_leave moment left_since began disk chain seat other count here first kept =
+pub keeps-more : {D : Type 0} (holds may_leave : D → List ℕ → Type 0) (moment : D → ℕ) (left_since : D → ℕ → List ℕ → Type 0) (began : Began) (had : List Group) (disk : D) (chain : Chain) (seat other : Known) (count : ℕ)
+    → IsAt began other → IsPrefix seat.seen other.seen → KeepsHistory holds may_leave moment left_since began had disk chain seat count → KeepsHistory holds may_leave moment left_since began had disk chain other count
+keeps-more holds may_leave moment left_since began had disk chain seat other count here first kept =
     let more = changed_stays seat.seen other.seen first in
     record {
       changed = kept.changed;
@@ -74,9 +74,9 @@ keeps-more holds may_leave moment left_since began disk chain seat other count h
 -- ---- seats that meet
 
 -- a seat that only looks has its own calls none, and takes in none
-pub looks-met : (began : Began) (k other l : Known) → OnlyLooks began k → OnlyLooks began other → l.hall ≡ k.hall → l.opening ≡ k.opening → Met k other l → OnlyLooks began l
+pub looks-met : (began : Began) (k other l : Known) → OnlyLooks began k → own other ≡ [] → l.hall ≡ k.hall → l.opening ≡ k.opening → Met k other l → OnlyLooks began l
 looks-met began k other l looks others hall opening met =
-    ((hall ∙ looks.0.0, opening ∙ looks.0.1), shuffled-none [] (own l) (subst (λ (xs : List Entry). Shuffled xs [] (own l)) looks.1 (subst (λ (ys : List Entry). Shuffled (own k) ys (own l)) others.1 met.2)))
+    ((hall ∙ looks.0.0, opening ∙ looks.0.1), shuffled-none [] (own l) (subst (λ (xs : List Entry). Shuffled xs [] (own l)) looks.1 (subst (λ (ys : List Entry). Shuffled (own k) ys (own l)) others met.2)))
 
 -- whoever takes it in has seen more
 pub sees-met : (began : Began) (k other l : Known) → OnlyLooks began other → Met k other l → SeesMore k l

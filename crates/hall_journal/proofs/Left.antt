@@ -83,14 +83,14 @@ further old state calls more replies answers kept at =
       state_is = at.state_is;
     }
 
-pub left_is_a_beginning : (began : Began) (text behind left : List ℕ) (before entries : List (List ℕ)) (seen : List Entry) (changed later : List Call) (end state : State) (groups : List Group) (rest : List ℕ)
-    → AreIn before began.groups → LeadTo before text (without_listeners began.opening)
+pub left_is_a_beginning : (began : Began) (had : List Group) (text behind left : List ℕ) (before entries : List (List ℕ)) (seen : List Entry) (changed later : List Call) (end state : State) (groups : List Group) (rest : List ℕ)
+    → AreIn before had → LeadTo before text (without_listeners began.opening)
     → Leaves began.opening seen end → changed_in seen ≡ changed ++ later
-    → IsLeft began changed left → IsFileOf began.identifier groups rest left → AreIn entries groups → LeadTo entries behind state
-    → LeadsToBeginning began seen before entries state ⊎ HasByChance began left
+    → IsLeft began had changed left → IsFileOf began.identifier groups rest left → AreIn entries groups → LeadTo entries behind state
+    → LeadsToBeginning began seen before entries state ⊎ HasByChance began had left
 unfolding Leaves
-left_is_a_beginning began text behind left before entries seen changed later end state groups rest before_in lead history seen_is is_left read entries_in leads =
-    by (crash_left began.identifier left text behind began.groups is_left.stored is_left.appended groups rest entries before is_left.kept is_left.all began.opening at.left state at.earlier at.answered
+left_is_a_beginning began had text behind left before entries seen changed later end state groups rest before_in lead history seen_is is_left read entries_in leads =
+    by (crash_left began.identifier left text behind had is_left.stored is_left.appended groups rest entries before is_left.kept is_left.all began.opening at.left state at.earlier at.answered
     before_in lead at.run (subst (λ (cs : List Call). AreEntriesOf is_left.all cs) (sym at.changed) is_left.entries) is_left.all_in is_left.kept_in is_left.survives read entries_in leads)
   where
     calls : List Call
@@ -102,8 +102,8 @@ left_is_a_beginning began text behind left before entries seen changed later end
     at : Cut began.opening calls replies is_left.made
     at = cut began.opening end calls replies is_left.made (is_left.first.0 ++ later) history.0 (seen_is ∙ ap (λ (l : List Call). l ++ later) is_left.first.1 ∙ append_assoc is_left.made is_left.first.0 later)
 
-    by : ((more : List (List ℕ)) × (entries ≡ before ++ (is_left.kept ++ more)) × IsBeginningOf began.opening at.earlier at.answered (is_left.kept ++ more) state) ⊎ HasStranger began.identifier (began.groups ++ is_left.stored) (began.groups ++ is_left.appended) left
-        → LeadsToBeginning began seen before entries state ⊎ HasByChance began left
+    by : ((more : List (List ℕ)) × (entries ≡ before ++ (is_left.kept ++ more)) × IsBeginningOf began.opening at.earlier at.answered (is_left.kept ++ more) state) ⊎ HasStranger began.identifier (had ++ is_left.stored) (had ++ is_left.appended) left
+        → LeadsToBeginning began seen before entries state ⊎ HasByChance began had left
     by (inr stranger) = inr (record { stored = is_left.stored; appended = is_left.appended; stranger = stranger })
     by (inl it) =
         inl (record {

@@ -1,5 +1,5 @@
 -- What lies on the desk of a journal. No public clause names a word of these.
-use Rattle.std.specs.Prelude.{◌≡◌, ℕ, ◌+◌, List, length, Vec, Option, Some}
+use Rattle.std.specs.Prelude.{◌≡◌, ℕ, ◌+◌, List, length, Vec, Some}
 use Rattle.std.specs.Ordering.{nat_cmp}
 use Rattle.std.specs.declared.alloc.Global.{Global}
 use Rattle.std.specs.BTreeMap.{BTreeMap, get_by}

@@ -11,7 +11,6 @@ nowhere = record {
   hall = record { words = 0; slots = 0; views_name = 0; atom = 0; block = 0; offset = 0; slot_names = [] };
   opening = opening map_of.empty null;
   identifier = [];
-  groups = [];
   moment = 0;
   book = record { number = 0; log_name = 0; cells_name = 0 };
 }

@@ -1,9 +1,7 @@
 -- Words of private contracts. No public clause names one.
 use Rattle.std.specs.Coded.{Coded, code_by, coded×, coded_ℕ}
-use Rattle.std.specs.Prelude.{◌≡◌, refl, ℕ, ◌+◌, List, ◌++◌, length, map, Vec, Option, Some}
-use Rattle.std.specs.Ordering.{nat_cmp}
+use Rattle.std.specs.Prelude.{◌≡◌, refl, ℕ, List, ◌++◌, length, map, Vec}
 use Rattle.std.specs.declared.alloc.Global.{Global}
-use Rattle.std.specs.BTreeMap.{BTreeMap, get_by}
 use Rattle.rtdb_model.specs.Step.{Call}
 use Rattle.locked_server.specs.declared.entry.Entry.{Entry}
 use Rattle.locked_server.specs.History.{changed_in}

@@ -1,5 +1,6 @@
 //! How many entries are stored: a number that all threads share, which only grows.
-ghost use Rattle.std.specs.Prelude.{[], ◌≡◌, ◌==◌, ◌^◌, ◌<◌, ◌≤◌, true};
+ghost use Rattle.std.specs.Prelude.{List, [], ◌≡◌, ◌==◌, ◌^◌, ◌<◌, ◌≤◌, true};
+ghost use Rattle.journal.specs.Format.{Group};
 ghost use Rattle.journal.specs.Keeping.{disk_of, chain_of};
 ghost use Rattle.hall_journal.specs.Counting.{word_of};
 ghost use Rattle.hall_journal.specs.Kept.{KeepsHistory};
@@ -170,7 +171,7 @@ impl<B: Origin> Counter<B> {
         to: u64,
     ) -> bool
         requires forward { from ≤ to }
-        requires kept { KeepsHistory D.holds D.may_leave D.moment D.left_since B.began (disk_of journal.now) (chain_of journal.now) seat.now to }
+        requires kept { (groups : List Group) → B.begins groups → KeepsHistory D.holds D.may_leave D.moment D.left_since B.began groups (disk_of journal.now) (chain_of journal.now) seat.now to }
         ensures added { result ≡ true → stored.new ≡ to }
         ensures more { stored.old ≤ stored.new }
     {

@@ -1,7 +1,8 @@
 //! The desk of a journal: entries that have come and are not stored yet.
-ghost use Rattle.std.specs.Prelude.{◌≡◌, ◌≤◌, IfOk};
+ghost use Rattle.std.specs.Prelude.{◌≡◌, ◌≤◌, List, [], IfOk};
+ghost use Rattle.journal.specs.Format.{Group};
 ghost use Rattle.journal.specs.Keeping.{disk_of, chain_of};
-ghost use Rattle.locked_server.specs.Known.{SeesMore};
+ghost use Rattle.locked_server.specs.Known.{SeesMore, own};
 ghost use Rattle.hall_journal.specs.Kept.{IsAt, OnlyLooks, IsEntryAt, KeepsHistory};
 
 use crate::counter::{Counter, Stored};
@@ -88,7 +89,7 @@ impl<D: Disk + Drop, B: Origin> Desk<D, B> {
     /// Puts an entry on it. Where memory is wanting for it, nothing more is stored.
     pub(crate) fn put(&mut self, hall: &Hall, other: Seat, number: u64, entry: Vec<u8>)
         requires hall { hall.now ≡ B.began.hall }
-        requires other { OnlyLooks B.began other }
+        requires other { (other.hall ≡ hall.now) × (own other ≡ []) }
         requires entry { IsEntryAt other.seen number entry.items }
     {
         self.lay_down(hall, other, number, entry);
@@ -102,7 +103,7 @@ impl<D: Disk + Drop, B: Origin> Desk<D, B> {
     // Lays an entry to those that come before others.
     fn lay_down(&mut self, hall: &Hall, other: Seat, number: u64, entry: Vec<u8>)
         requires hall { hall.now ≡ B.began.hall }
-        requires other { OnlyLooks B.began other }
+        requires other { (other.hall ≡ hall.now) × (own other ≡ []) }
         requires entry { IsEntryAt other.seen number entry.items }
     {
         hall.meet(&mut self.seat, other);
@@ -160,6 +161,11 @@ impl<D: Disk + Drop, B: Origin> Desk<D, B> {
         }
     }
 
+    /// Stores nothing more, for this reason.
+    pub(crate) fn give_up(&mut self, error: JournalError) {
+        self.fault = Some(error);
+    }
+
     /// Stores nothing more, for this reason, and takes in the seat of the file that has failed.
     pub(crate) fn fail(&mut self, hall: &Hall, seat: Seat, error: JournalError)
         requires hall { hall.now ≡ B.began.hall }
@@ -197,7 +203,7 @@ impl<D: Disk + Drop, B: Origin> Desk<D, B> {
         requires hall { hall.now ≡ B.began.hall }
         requires seat { IsAt B.began seat.old }
         ensures same { IsAt B.began seat.new × SeesMore seat.old seat.new }
-        ensures kept { IfOk result (λ end. KeepsHistory D.holds D.may_leave D.moment D.left_since B.began (disk_of end.0) (chain_of end.0) seat.new end.1) }
+        ensures kept { IfOk result (λ end. (groups : List Group) → B.begins groups → KeepsHistory D.holds D.may_leave D.moment D.left_since B.began groups (disk_of end.0) (chain_of end.0) seat.new end.1) }
         ensures stored { IfOk result (λ end. stored.now ≤ end.1) }
     {
         let Desk {

@@ -1,5 +1,6 @@
 //! The journal of a hall.
-ghost use Rattle.std.specs.Prelude.{◌≡◌, ◌≤◌, IfErr, IfOk, OnOk};
+ghost use Rattle.std.specs.Prelude.{◌≡◌, ◌≤◌, List, IfErr, IfOk, OnOk};
+ghost use Rattle.journal.specs.Format.{Group};
 ghost use Rattle.journal.specs.Keeping.{Keeps, disk_of, chain_of, identifier_of};
 ghost use Rattle.locked_server.specs.Known.{SeesMore};
 ghost use Rattle.hall_journal.specs.Kept.{IsAt, IsEntryAt, KeepsHistory};
@@ -33,7 +34,7 @@ impl<D: Disk + Drop, B: Origin> HallJournal<D, B> {
     ) -> Result<(HallJournal<D, B>, Stored<B>), JournalError>
         requires hall { hall.now ≡ B.began.hall }
         requires seat { IsAt B.began seat.old }
-        requires file { Keeps D.holds D.may_leave (disk_of journal) (chain_of journal) B.began.groups B.began.groups }
+        requires file { (groups : List Group) → B.begins groups → Keeps D.holds D.may_leave (disk_of journal) (chain_of journal) groups groups }
         requires identifier { identifier_of journal ≡ B.began.identifier }
         requires moment { D.moment (disk_of journal) ≡ B.began.moment }
         requires counter { counter.seen.book ≡ B.began.book }
@@ -66,7 +67,7 @@ impl<D: Disk + Drop, B: Origin> HallJournal<D, B> {
     /// who writes.
     pub fn put<R: Wait>(&self, rt: &R, hall: &Hall, seat: &mut Seat, number: u64, entry: Vec<u8>)
         requires hall { hall.now ≡ B.began.hall }
-        requires seat { IsAt B.began seat.old }
+        requires seat { seat.old.hall ≡ hall.now }
         requires entry { IsEntryAt seat.old.seen number entry.items }
         ensures { seat.new ≡ seat.old }
     {
@@ -79,6 +80,18 @@ impl<D: Disk + Drop, B: Origin> HallJournal<D, B> {
         if has_failed {
             self.stored_more.notify_all();
         }
+    }
+
+    /// Stores nothing more, as where there was no memory for the entry of a call: [`HallJournal::wait`] reports this
+    /// error. It waits for nobody who writes.
+    pub fn fail<R: Wait>(&self, rt: &R, error: JournalError) {
+        self.desk.lock(rt).give_up(error);
+        self.stored_more.notify_all();
+    }
+
+    /// Why nothing more is stored, if so. It waits for nobody who writes.
+    pub fn fault<R: Wait>(&self, rt: &R) -> Option<JournalError> {
+        self.desk.lock(rt).fault()
     }
 
     /// Waits until so many entries are stored. Where the file is home and entries have gathered, it stores them for all
@@ -168,7 +181,7 @@ impl<D: Disk + Drop, B: Origin> HallJournal<D, B> {
         requires hall { hall.now ≡ B.began.hall }
         requires seat { IsAt B.began seat.old }
         ensures same { IsAt B.began seat.new × SeesMore seat.old seat.new }
-        ensures kept { IfOk result (λ end. KeepsHistory D.holds D.may_leave D.moment D.left_since B.began (disk_of end.0) (chain_of end.0) seat.new end.1) }
+        ensures kept { IfOk result (λ end. (groups : List Group) → B.begins groups → KeepsHistory D.holds D.may_leave D.moment D.left_since B.began groups (disk_of end.0) (chain_of end.0) seat.new end.1) }
         ensures stored { IfOk result (λ end. stored.now ≤ end.1) }
     {
         let HallJournal {

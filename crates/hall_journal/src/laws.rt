@@ -15,9 +15,9 @@ ghost use Rattle.hall_journal.specs.Kept.{Began, IsLeft, LeadsToBeginning, HasBy
 /// nobody listening: to the one that so many of its calls left. That is so unless, by chance, a whole group with a right
 /// sum stands where the crash tore, which nobody wrote. It does nothing.
 pub fn what_a_crash_leaves_is_a_beginning_of_the_history()
-    ensures { (began : Began) (text behind left : List ℕ) (before entries : List (List ℕ)) (seen : List Entry) (changed later : List Call) (end state : State) (groups : List Group) (rest : List ℕ)
-        → AreIn before began.groups → LeadTo before text (without_listeners began.opening)
+    ensures { (began : Began) (had : List Group) (text behind left : List ℕ) (before entries : List (List ℕ)) (seen : List Entry) (changed later : List Call) (end state : State) (groups : List Group) (rest : List ℕ)
+        → AreIn before had → LeadTo before text (without_listeners began.opening)
         → Leaves began.opening seen end → changed_in seen ≡ changed ++ later
-        → IsLeft began changed left → IsFileOf began.identifier groups rest left → AreIn entries groups → LeadTo entries behind state
-        → LeadsToBeginning began seen before entries state ⊎ HasByChance began left }
+        → IsLeft began had changed left → IsFileOf began.identifier groups rest left → AreIn entries groups → LeadTo entries behind state
+        → LeadsToBeginning began seen before entries state ⊎ HasByChance began had left }
 {}

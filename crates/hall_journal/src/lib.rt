@@ -3,7 +3,7 @@
 //! [`HallJournal::put`] puts an entry at its number among the calls that have changed something; [`HallJournal::wait`]
 //! returns once the entries up to a number are stored. Whoever waits while nobody writes does so for all: one sync serves
 //! all entries that have gathered. [`HallJournal::close`] says what the file keeps then, and what a crash at any moment
-//! would have left of it, `KeepsHistory` of `specs/Kept`.
+//! would have left of it (`KeepsHistory` of `specs/Kept`), where anything is known of its disk.
 #![tactic(auto)]
 
 mod counter;

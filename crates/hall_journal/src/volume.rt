@@ -1,5 +1,6 @@
 //! The file of a journal, and what was stored in it.
-ghost use Rattle.std.specs.Prelude.{◌≡◌, ◌+◌, ◌<◌, ◌≤◌, length, IfOk, IfErr};
+ghost use Rattle.std.specs.Prelude.{◌≡◌, ◌+◌, ◌<◌, ◌≤◌, List, length, IfOk, IfErr};
+ghost use Rattle.journal.specs.Format.{Group};
 ghost use Rattle.journal.specs.Keeping.{disk_of, chain_of};
 ghost use Rattle.locked_server.specs.Known.{SeesMore};
 ghost use mathlib.Core.List.{IsPrefix};
@@ -24,6 +25,8 @@ pub(crate) struct Volume<D: Disk + Drop, B: Origin> {
 }
 
 impl<D: Disk + Drop, B: Origin> Model for Volume<D, B> {
+    ghost use Rattle.std.specs.Prelude.{List};
+    ghost use Rattle.journal.specs.Format.{Group};
     ghost use Rattle.journal.specs.Keeping.{disk_of, chain_of};
     ghost use Rattle.hall_journal.specs.Kept.{OnlyLooks, KeepsHistory};
     ghost use Rattle.hall_journal.specs.Working.{Written, written_code};
@@ -34,7 +37,7 @@ impl<D: Disk + Drop, B: Origin> Model for Volume<D, B> {
 
     ghost view = { λ volume. record { seat = volume.seat; count = volume.count } };
 
-    ghost invariant = { λ volume. OnlyLooks B.began volume.seat × KeepsHistory D.holds D.may_leave D.moment D.left_since B.began (disk_of volume.journal) (chain_of volume.journal) volume.seat volume.count };
+    ghost invariant = { λ volume. OnlyLooks B.began volume.seat × ((groups : List Group) → B.begins groups → KeepsHistory D.holds D.may_leave D.moment D.left_since B.began groups (disk_of volume.journal) (chain_of volume.journal) volume.seat volume.count) };
 }
 
 // What a group adds to the text of an entry: its length, a space, and a line feed.
@@ -137,7 +140,7 @@ impl<D: Disk + Drop, B: Origin> Volume<D, B> {
         requires hall { hall.now ≡ B.began.hall }
         requires seat { IsAt B.began seat.old }
         ensures same { IsAt B.began seat.new × SeesMore seat.old seat.new }
-        ensures kept { IfOk result (λ end. KeepsHistory D.holds D.may_leave D.moment D.left_since B.began (disk_of end.0) (chain_of end.0) seat.new end.1) }
+        ensures kept { IfOk result (λ end. (groups : List Group) → B.begins groups → KeepsHistory D.holds D.may_leave D.moment D.left_since B.began groups (disk_of end.0) (chain_of end.0) seat.new end.1) }
         ensures stored { IfOk result (λ end. known.now ≤ end.1) }
     {
         let Volume {

@@ -1,4 +1,4 @@
-use Rattle.std.proofs.Common.{◌≡◌, ℕ, ◌+◌, List, [], ◌∷◌, ◌++◌, Vec, Global, Some, sym, subst, ◌∙◌}
+use Rattle.std.proofs.Common.{ℕ, List, [], ◌∷◌, ◌++◌, Vec, Global, sym, subst}
 use Rattle.hall_journal.specs.Gathering.{Gathers}
 use Rattle.hall_journal.proofs.Gathered.{gathers-one, early-less}
 use Rattle.hall_journal.proofs.desk.Desk.gather_next.Goals as goal

@@ -1,4 +1,4 @@
-use Rattle.std.proofs.Common.{ℕ, ◌+◌, ◌-◌, ◌≤◌, ◌≡◌, length, drop}
+use Rattle.std.proofs.Common.{◌+◌, ◌-◌, ◌≤◌, ◌≡◌, length, drop}
 use Rattle.hall_journal.specs.Working.{AreNext, texts}
 use Rattle.hall_journal.proofs.volume.Volume.append_all.Given as goal
 

@@ -1,4 +1,5 @@
-use Rattle.std.proofs.Common.{◌∙◌}
+use Rattle.std.proofs.Common.{List, ◌∙◌}
+use Rattle.journal.specs.Format.{Group}
 use Rattle.journal.specs.Keeping.{disk_of, chain_of}
 use Rattle.hall_journal.proofs.Growing.{keeps-more, sees-met}
 use Rattle.hall_journal.proofs.volume.Volume.into_journal.Goals as goal
@@ -14,5 +15,5 @@ returns-clause-same g c =
 pub returns-clause-kept : goal.returns-clause-kept
 returns-clause-kept g c =
     let disk = g.D.Disk in
-    keeps-more disk.holds disk.may_leave disk.moment disk.left_since g.B.Origin.began (disk_of c.self.inside.journal) (chain_of c.self.inside.journal) c.self.inside.seat c.meet.new.seat c.self.inside.count
-    (c.meet.ensures.same.0 ∙ c.requires.seat.0, c.meet.ensures.same.1 ∙ c.requires.seat.1) c.meet.ensures.met.1 c.self.invariant.1
+    λ (had : List Group) begins. keeps-more disk.holds disk.may_leave disk.moment disk.left_since g.B.Origin.began had (disk_of c.self.inside.journal) (chain_of c.self.inside.journal) c.self.inside.seat c.meet.new.seat c.self.inside.count
+    (c.meet.ensures.same.0 ∙ c.requires.seat.0, c.meet.ensures.same.1 ∙ c.requires.seat.1) c.meet.ensures.met.1 (c.self.invariant.1 had begins)
