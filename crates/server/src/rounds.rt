@@ -122,6 +122,8 @@ fn serve_client<R: time::Clock, Q: Caller, G: Gate>(
         &mut peer,
         TURNS,
     );
+    // What the session did as it went is stored before the next client comes.
+    let _stored = caller.store(place.hall);
 }
 
 // The next client, once its handshake is done; none where no connection came or its handshake failed.
