@@ -1,0 +1,2 @@
+mod Messages
+mod Putting
