@@ -3,12 +3,14 @@
 //! Nothing is promised of them: they are for a person.
 
 mod data;
+mod index;
 mod json_text;
 mod near;
 mod quotes;
 mod rule;
 mod sorts;
 mod tokens;
+mod uses;
 
 pub(crate) use data::{advice_on_data_key, advice_on_data_value, advice_on_depth};
 pub(crate) use json_text::{FileSort, advice_on_json};

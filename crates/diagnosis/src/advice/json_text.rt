@@ -75,6 +75,10 @@ struct Front {
     surplus: Option<usize>,
     // The first opening bracket that stands where a name should.
     nameless: Option<usize>,
+    // The first closing bracket that stands where a value should.
+    valueless: Option<usize>,
+    // The last bracket, if it is an opening one and no comma came behind it.
+    fresh: Option<usize>,
     // The first comment that is not closed.
     comment: Option<usize>,
 }
@@ -94,6 +98,8 @@ impl Front {
             unclosed: None,
             surplus: None,
             nameless: None,
+            valueless: None,
+            fresh: None,
             comment: None,
         }
     }
@@ -111,7 +117,10 @@ impl Front {
             b'"' => self.quote = Some(at),
             b'{' | b'[' => self.open(at, byte, before)?,
             b'}' | b']' => self.close(at, byte, before),
-            b',' => self.has_colon = false,
+            b',' => {
+                self.has_colon = false;
+                self.fresh = None;
+            }
             b':' => self.has_colon = true,
             b'*' => self.begin_comment(before),
             _ => {}
@@ -133,6 +142,7 @@ impl Front {
             self.nameless = Some(at);
         }
         self.has_colon = false;
+        self.fresh = Some(at);
         self.open.push(Bracket {
             byte,
             place: at,
@@ -155,6 +165,10 @@ impl Front {
 
     // Takes a closing bracket, and the byte before it.
     fn close(&mut self, at: usize, byte: u8, before: Option<(u8, usize)>) {
+        if matches!(before, Some((b':', _))) && self.valueless.is_none() {
+            self.valueless = Some(at);
+        }
+        self.fresh = None;
         match self.open.pop() {
             Some(bracket) if is_pair(bracket.byte, byte) => self.compare(bracket, at, before),
             _ => if self.bad.is_none() {
@@ -231,6 +245,9 @@ impl Front {
         if let Some(begin) = self.quote {
             return advice_in_quotes(begin, place, rest);
         }
+        if let Some(bracket) = self.valueless {
+            return (bracket, NO_VALUE);
+        }
         if let Some(found) = self.advice_on_brackets(place) {
             return found;
         }
@@ -304,12 +321,23 @@ impl Front {
         }
         match self.last {
             Some((b':', colon)) if !self.open.is_empty() && !self.is_in_object() => {
-                Some((
-                    colon.min(place),
-                    "a list has no colon: should its [ be a {, or is its ] missing before this?",
-                ))
+                Some(self.advice_on_colon(colon.min(place)))
             }
             _ => None,
+        }
+    }
+
+    // A colon stands in a list.
+    fn advice_on_colon(&self, colon: usize) -> (usize, &'static str) {
+        match self.fresh {
+            Some(bracket) => (
+                bracket,
+                "a list has no names and colons: write { in the place of this [",
+            ),
+            None => (
+                colon,
+                "a list has no colon: should its [ be a {, or is its ] missing before this?",
+            ),
         }
     }
 
@@ -364,12 +392,12 @@ impl Front {
                     "this name has a colon in it: is its closing quote missing?",
                 ));
             }
-            if !matches!(rest, [b':' | b'{' | b'[' | b'=', ..]) {
+            if !matches!(rest, [b':' | b'{' | b'[' | b'=' | b',' | b'}' | b']', ..]) {
                 return Some((place, self.advice_behind_text()));
             }
         }
         match rest {
-            [b'"', rest @ ..] => fault_in_quotes(place.saturating_add(1), rest),
+            [b'"', rest @ ..] => fault_in_quotes(self.sort, place.saturating_add(1), rest),
             _ => None,
         }
     }
@@ -448,6 +476,8 @@ fn number_before(file: &[u8], place: usize, rest: &[u8]) -> Option<usize> {
     Some(place.saturating_sub(length))
 }
 
+const NO_VALUE: &str = "a value is missing before this";
+
 const UNCLOSED_COMMENT: &str = "this comment is not closed: a */ is missing";
 
 const CONTROL: &str = "this control character may not stand in a text";
@@ -523,7 +553,7 @@ impl Front {
         let word = first_name(rest);
         let behind = place.saturating_add(word.len());
         let words = match rest {
-            [b',' | b'}' | b']', ..] => "a value is missing before this",
+            [b',' | b'}' | b']', ..] => NO_VALUE,
             [b'\'', ..] => "a text must be in double quotes, not in single ones",
             [0xE2, 0x80, 0x98..=0x9F, ..] => "a text must be in straight double quotes, \"",
             [b'0'..=b'9' | b'-' | b'+' | b'.', ..] => self.advice_on_number(),
@@ -576,14 +606,14 @@ fn advice_behind_word(rest: &[u8], length: usize) -> &'static str {
 }
 
 // What is wrong in quotes, from behind the first of them on.
-fn fault_in_quotes(begin: usize, rest: &[u8]) -> Option<(usize, &'static str)> {
+fn fault_in_quotes(sort: FileSort, begin: usize, rest: &[u8]) -> Option<(usize, &'static str)> {
     let mut is_escaped = false;
     for (at, byte) in rest.iter().enumerate() {
         let place = begin.saturating_add(at);
         if is_escaped {
             is_escaped = false;
             let (_, behind) = rest.split_at_checked(at)?;
-            if let Some(words) = advice_on_escape(behind) {
+            if let Some(words) = advice_on_escape(sort, behind) {
                 return Some((place.saturating_sub(1), words));
             }
         } else if *byte == b'\\' {
@@ -621,7 +651,7 @@ fn advice_on_control(byte: u8) -> Option<&'static str> {
 }
 
 // What is wrong with an escape, from behind its backslash on.
-fn advice_on_escape(rest: &[u8]) -> Option<&'static str> {
+fn advice_on_escape(sort: FileSort, rest: &[u8]) -> Option<&'static str> {
     match rest {
         [b'"' | b'\\' | b'/' | b'b' | b'f' | b'n' | b'r' | b't', ..] => None,
         [b'u', a, b, c, d, ..] if are_hexadecimal(&[*a, *b, *c, *d]) => {
@@ -632,6 +662,9 @@ fn advice_on_escape(rest: &[u8]) -> Option<&'static str> {
             }
         }
         [b'u', ..] => Some("\\u must be followed by four hexadecimal digits"),
+        _ if sort.is_rules() => Some(
+            "JSON has no such escape: write two backslashes for one, and four in a text of a rule",
+        ),
         _ => Some("JSON has no such escape: write two backslashes for one"),
     }
 }

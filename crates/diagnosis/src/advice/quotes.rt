@@ -96,25 +96,12 @@ pub(super) fn last_name(bytes: &[u8]) -> &[u8] {
     bytes.split_at_checked(begin).map_or(bytes, |parts| parts.1)
 }
 
-/// What stands before a name and behind it, where it first stands in a text, behind a dot or not.
-pub(super) fn around<'t>(
-    text: &'t [u8],
-    name: &[u8],
-    is_use: bool,
-) -> Option<(&'t [u8], &'t [u8])> {
-    let mut quotes = Quotes::new();
-    for (place, byte) in text.iter().enumerate() {
-        let (front, rest) = text.split_at_checked(place)?;
-        if quotes.open().is_none()
-            && first_name(rest) == name
-            && !front.last().copied().is_some_and(is_of_name)
-            && (last_word(front) == Some(b'.')) == is_use
-        {
-            return Some((front, rest.split_at_checked(name.len())?.1));
-        }
-        quotes.take(*byte);
+/// Whether an operand ends here.
+pub(super) fn ends_operand(front: &[u8]) -> bool {
+    match last_word(front) {
+        Some(byte) => is_of_name(byte) || matches!(byte, b')' | b']' | b'\'' | b'"'),
+        None => false,
     }
-    None
 }
 
 /// What stands before a byte and from it on, where it first stands outside of quotes, and not behind one of others.

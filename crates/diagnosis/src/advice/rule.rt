@@ -1,10 +1,12 @@
 //! What to do about a rule that is invalid.
 
+use super::index::advice_on_index;
 use super::near::nearest;
 use super::quotes::{
-    Quotes, around, around_sign, first_name, is_of_name, last_name, last_word, trimmed,
+    Quotes, around_sign, ends_operand, first_name, is_of_name, last_name, last_word, trimmed,
 };
 use super::sorts::advice_on_sorts;
+use super::uses::{advice_on_use, is_use};
 use crate::outline::append_short;
 use expr_parser::MAX_LEVELS;
 use expr_tokens::MAX_EXPRESSION_BYTES;
@@ -27,21 +29,19 @@ pub(crate) fn advice_on_rule(
             name.as_str(),
             instead_of(name.as_str())
         )?),
-        RuleFault::NotInProfile(LeftOut::Sign(sign)) => Ok(String::from_str(
-            alloc,
-            advice_on_left_out(sign.name(), text.as_bytes()),
-        )?),
+        RuleFault::NotInProfile(LeftOut::Sign(sign)) => match sign.name() {
+            "[" => advice_on_index(alloc, text.as_bytes()),
+            sign => Ok(String::from_str(alloc, advice_on_left_out(sign, text.as_bytes()))?),
+        },
         RuleFault::TypeError => advice_on_sorts(alloc, rule, text),
-        RuleFault::UnknownName(name) => {
-            let name = name.as_str();
-            if name.starts_with('$') {
-                advice_on_capture(alloc, name, &rule.pattern)
-            } else if around(text.as_bytes(), name.as_bytes(), true).is_some() {
-                advice_on_use(alloc, name, text.as_bytes())
+        RuleFault::UnknownName(name) => match advice_on_use(alloc, rule, text)? {
+            Some(words) => Ok(words),
+            None => if name.as_str().starts_with('$') {
+                advice_on_capture(alloc, name.as_str(), &rule.pattern)
             } else {
-                advice_on_variable(alloc, name, rule)
-            }
-        }
+                advice_on_variable(alloc, name.as_str(), rule, text)
+            },
+        },
     }
 }
 
@@ -167,6 +167,9 @@ impl Open {
 // What to do about a sign that no token begins with, or a quote that is not straight.
 fn advice_on_sign(front: &[u8], rest: &[u8]) -> Option<&'static str> {
     match rest {
+        [b'=', ..] if matches!(front.last(), Some(b'<' | b'>' | b'!' | b'=')) => {
+            Some(advice_on_signs(front))
+        }
         [b'=', b'>', ..] => Some("`=>` is no operator: write `>=`"),
         [b'=', b'<', ..] => Some("`=<` is no operator: write `<=`"),
         [b'=', b'!', ..] => Some("`=!` is no operator: write `!=`"),
@@ -179,6 +182,9 @@ fn advice_on_sign(front: &[u8], rest: &[u8]) -> Option<&'static str> {
         [b'&', ..] => Some("`&` is no operator: write `&&`"),
         [b'|', ..] => Some("`|` is no operator: write `||`"),
         [b'>', ..] if front.last() == Some(&b'<') => Some("`<>` is no operator: write `!=`"),
+        [b';', rest @ ..] if rest.trim_ascii_start().is_empty() => {
+            Some("`;` may not stand in a rule: remove it")
+        }
         [b';', ..] => Some("`;` may not stand in a rule: join conditions by `&&`"),
         [b'{' | b'}', ..] => Some("{ and } may not stand in a rule"),
         [b'\\', ..] => Some(advice_on_backslash(front)),
@@ -192,6 +198,22 @@ fn advice_on_sign(front: &[u8], rest: &[u8]) -> Option<&'static str> {
             Some("this character may only stand in a text, between ' and '")
         }
         _ => None,
+    }
+}
+
+// What to do about an equals sign too many behind an operator, with which these bytes end.
+fn advice_on_signs(front: &[u8]) -> &'static str {
+    let signs = front
+        .iter()
+        .rev()
+        .take_while(|byte| matches!(**byte, b'<' | b'>' | b'!' | b'='))
+        .count();
+    let begin = front.len().saturating_sub(signs);
+    match front.get(begin) {
+        Some(b'<') => "this equals sign is one too many: write `<=`",
+        Some(b'>') => "this equals sign is one too many: write `>=`",
+        Some(b'!') => "this equals sign is one too many: write `!=`",
+        _ => "this equals sign is one too many: write `==`",
     }
 }
 
@@ -275,14 +297,6 @@ fn advice_on_order(front: &[u8], rest: &[u8]) -> &'static str {
     }
 }
 
-// Whether an operand ends here.
-fn ends_operand(front: &[u8]) -> bool {
-    match last_word(front) {
-        Some(byte) => is_of_name(byte) || matches!(byte, b')' | b']' | b'\'' | b'"'),
-        None => false,
-    }
-}
-
 // Whether a token may open a level.
 fn opens(rest: &[u8]) -> bool {
     matches!(rest, [b'(' | b'[' | b'!' | b'-' | b'?', ..])
@@ -331,16 +345,24 @@ fn instead_of(name: &str) -> &'static str {
 fn advice_on_left_out(sign: &str, text: &[u8]) -> &'static str {
     match sign {
         "/" => advice_on_slash(text),
-        "[" => advice_on_index(text),
         _ => "numbers are whole in this language: no point, as in 1.5, and no exponent, as in 1e3",
     }
 }
+
+// What to write in the place of Firestore's paths.
+const EXISTS: &str =
+    "a call of a path is of Firestore: write `root.child('users').child(auth.uid).exists()`, with your own path";
+
+const GET: &str =
+    "a call of a path is of Firestore: here what is stored is `root.child('users').child(auth.uid).child('role').val()`, with your own path";
 
 fn advice_on_slash(text: &[u8]) -> &'static str {
     match around_sign(text, b'/', &[]) {
         Some((_, [b'/', b'/' | b'*', ..])) =>
             "a comment may not stand in the text of a rule: put it before the rule",
         Some((front, _)) if is_in_path(front) => "a path stands in quotes, as in `child('a/b')`",
+        Some((front, _)) if matches!(called(front), b"exists" | b"existsAfter") => EXISTS,
+        Some((front, _)) if matches!(called(front), b"get" | b"getAfter") => GET,
         Some((front, _)) if !ends_operand(front) =>
             "regular expressions are not in this language: use `contains`, `beginsWith`, `endsWith` or `==`",
         _ => "`/` is not in this language: multiply the other side instead",
@@ -355,19 +377,14 @@ fn is_in_path(front: &[u8]) -> bool {
     if let [rest @ .., b'$'] = before {
         before = rest;
     }
-    match trimmed(before) {
-        [call @ .., b'('] => matches!(last_name(call), b"child" | b"hasChild"),
-        _ => false,
-    }
+    matches!(called(before), b"child" | b"hasChild")
 }
 
-fn advice_on_index(text: &[u8]) -> &'static str {
-    let front = around_sign(text, b'[', b"(,").map_or(text, |parts| parts.0);
-    match last_name(front) {
-        b"auth" => "`[` is not in this language: write `auth.uid` for `auth['uid']`",
-        b"token" => "`[` is not in this language: write `auth.token.name` for `auth.token['name']`",
-        _ =>
-            "`[` is not in this language: write `.child(..)`, with what stands between the brackets",
+// The name of the call whose parenthesis was opened last, where that is the last of these bytes.
+fn called(front: &[u8]) -> &[u8] {
+    match trimmed(front) {
+        [call @ .., b'('] => last_name(call),
+        _ => b"",
     }
 }
 
@@ -375,36 +392,6 @@ fn advice_on_index(text: &[u8]) -> &'static str {
 
 const VARIABLES: [&str; 9] = [
     "auth", "now", "root", "data", "newData", "query", "true", "false", "null",
-];
-
-const USES: [&str; 27] = [
-    "uid",
-    "provider",
-    "token",
-    "val",
-    "child",
-    "parent",
-    "exists",
-    "hasChildren",
-    "hasChild",
-    "isString",
-    "isNumber",
-    "isBoolean",
-    "length",
-    "contains",
-    "beginsWith",
-    "endsWith",
-    "replace",
-    "orderByKey",
-    "orderByValue",
-    "orderByChild",
-    "startAt",
-    "endAt",
-    "equalTo",
-    "limitToFirst",
-    "limitToLast",
-    "matches",
-    "getPriority",
 ];
 
 // What to do about a capture that does not stand above a rule.
@@ -457,7 +444,12 @@ fn has_capture(pattern: &Pattern, name: &str) -> bool {
 }
 
 // What to do about an unknown variable, or one that may not stand in such a rule.
-fn advice_on_variable(alloc: Global, name: &str, rule: &RuleName) -> Result<String, NoMemory> {
+fn advice_on_variable(
+    alloc: Global,
+    name: &str,
+    rule: &RuleName,
+    text: &str,
+) -> Result<String, NoMemory> {
     let kind = rule.kind.name();
     if name == "newData" {
         return Ok(format!(in alloc;
@@ -467,13 +459,13 @@ fn advice_on_variable(alloc: Global, name: &str, rule: &RuleName) -> Result<Stri
     if name == "query" {
         return Ok(format!(in alloc; "there is no `query` in a `{kind}`: it stands in a `.read`")?);
     }
+    if matches!(name, "uid" | "provider" | "token") {
+        return advice_on_part_of_auth(alloc, name, rule, text);
+    }
     if has_capture(&rule.pattern, name) {
         return Ok(format!(in alloc; "there is no `{name}`: did you mean `${name}`?")?);
     }
-    if matches!(name, "uid" | "provider" | "token") {
-        return Ok(format!(in alloc; "there is no `{name}` alone: did you mean `auth.{name}`?")?);
-    }
-    if USES.contains(&name) {
+    if is_use(name) {
         return Ok(format!(in alloc;
             "`{name}` stands after a dot, as in `data.{name}` or `data.val().{name}`"
         )?);
@@ -489,6 +481,23 @@ fn advice_on_variable(alloc: Global, name: &str, rule: &RuleName) -> Result<Stri
     }
 }
 
+// What to do about a part of `auth` that stands alone: it is meant, or a capture of its name, unless that stands in the
+// rule already.
+fn advice_on_part_of_auth(
+    alloc: Global,
+    name: &str,
+    rule: &RuleName,
+    text: &str,
+) -> Result<String, NoMemory> {
+    let capture = format!(in alloc; "${name}")?;
+    if has_capture(&rule.pattern, name) && !text.contains(capture.as_str()) {
+        return Ok(format!(in alloc;
+            "there is no `{name}` alone: a capture's name begins with `$`: did you mean `${name}`?"
+        )?);
+    }
+    Ok(format!(in alloc; "there is no `{name}` alone: did you mean `auth.{name}`?")?)
+}
+
 // What to write in the place of a variable of another language.
 fn instead_of_variable(name: &str) -> Option<&'static str> {
     match name {
@@ -498,65 +507,6 @@ fn instead_of_variable(name: &str) -> Option<&'static str> {
         ),
         "user" | "currentUser" => Some("did you mean `auth`?"),
         "timestamp" | "time" | "Date" => Some("did you mean `now`?"),
-        _ => None,
-    }
-}
-
-// What to do about an unknown name behind a dot.
-fn advice_on_use(alloc: Global, name: &str, text: &[u8]) -> Result<String, NoMemory> {
-    let other = match instead_of_use(name) {
-        Some(other) => Some(other),
-        None => nearest(name, &USES),
-    };
-    if let Some(other) = other {
-        return Ok(format!(in alloc; "there is no `.{name}`: did you mean `.{other}`?")?);
-    }
-    let Some((front, rest)) = around(text, name.as_bytes(), true) else {
-        return Ok(format!(in alloc; "there is no `.{name}`")?);
-    };
-    match last_name(without_dot(front)) {
-        b"auth" => Ok(format!(in alloc;
-            "there is no `auth.{name}`: did you mean `auth.token.{name}`?"
-        )?),
-        b"query" => Ok(format!(in alloc;
-            "there is no `query.{name}`: it has its order, as orderByKey, its bounds and its limits"
-        )?),
-        _ => if matches!(rest, [b'.', ..]) {
-            Ok(format!(in alloc; "there is no `.{name}`: write `.child('{name}')`")?)
-        } else if matches!(rest, [b'(', ..]) {
-            Ok(format!(in alloc;
-                "there is no `.{name}()`: of a snapshot there are val, exists, child, parent, hasChild, hasChildren, isString, isNumber and isBoolean"
-            )?)
-        } else {
-            Ok(format!(in alloc;
-                "there is no `.{name}`: a child's value is `.child('{name}').val()`"
-            )?)
-        },
-    }
-}
-
-// The bytes before a dot with which these end.
-fn without_dot(front: &[u8]) -> &[u8] {
-    match trimmed(front) {
-        [before @ .., b'.'] => before,
-        other => other,
-    }
-}
-
-// The use that a name of another language stands for.
-fn instead_of_use(name: &str) -> Option<&'static str> {
-    match name {
-        "startsWith" | "hasPrefix" => Some("beginsWith"),
-        "hasSuffix" => Some("endsWith"),
-        "includes" | "indexOf" | "hasText" => Some("contains"),
-        "size" | "count" => Some("length"),
-        "hasChilds" | "hasAll" | "hasAny" => Some("hasChildren"),
-        "has" | "hasKey" => Some("hasChild"),
-        "value" | "getValue" => Some("val"),
-        "isBool" => Some("isBoolean"),
-        "isInt" | "isInteger" => Some("isNumber"),
-        "isText" | "isStr" => Some("isString"),
-        "get" => Some("child"),
         _ => None,
     }
 }

@@ -51,13 +51,7 @@ fn part_at_fault<'e>(
     expr: &'e Expr,
     rule: &RuleName,
 ) -> Result<Option<Misfit<'e>>, NoMemory> {
-    let mut part = expr;
-    for _ in 0..MAX_EXPRESSION_BYTES {
-        match first_without_sort(alloc, part, rule)? {
-            Some(inner) => part = inner.part,
-            None => break,
-        }
-    }
+    let (part, _) = innermost(alloc, expr, rule)?;
     if has_sort(alloc, part, rule)? {
         return Ok(Some(Misfit::NoCondition(part)));
     }
@@ -66,6 +60,30 @@ fn part_at_fault<'e>(
         Some(operand) => Ok(Some(Misfit::NoValue(operand))),
         None => Ok(misused(alloc, part, rule)),
     }
+}
+
+/// The part of an expression of a rule to which the first parts without a sort lead, and whether a dot follows it.
+pub(super) fn innermost<'e>(
+    alloc: Global,
+    expr: &'e Expr,
+    rule: &RuleName,
+) -> Result<(&'e Expr, bool), NoMemory> {
+    let mut part = expr;
+    let mut is_received = false;
+    for _ in 0..MAX_EXPRESSION_BYTES {
+        match first_without_sort(alloc, part, rule)? {
+            Some(inner) => {
+                is_received = inner.before == 0 && has_receiver(part);
+                part = inner.part;
+            }
+            None => break,
+        }
+    }
+    Ok((part, is_received))
+}
+
+fn has_receiver(expr: &Expr) -> bool {
+    matches!(expr, Expr::Member(_, _) | Expr::Call(_, _, _))
 }
 
 // Whether true or false is wanted of the operands.
@@ -82,10 +100,7 @@ fn first_without_value<'e>(
     expr: &'e Expr,
     rule: &RuleName,
 ) -> Result<Option<&'e Expr>, NoMemory> {
-    let receivers = match expr {
-        Expr::Member(_, _) | Expr::Call(_, _, _) => 1,
-        _ => 0,
-    };
+    let receivers = if has_receiver(expr) { 1 } else { 0 };
     let placed = parts(alloc, expr)?;
     for part in placed.iter().skip(receivers) {
         if !has_value(alloc, part.part, rule)? {
@@ -108,18 +123,18 @@ fn misused<'e>(alloc: Global, expr: &'e Expr, rule: &RuleName) -> Option<Misfit<
     }
 }
 
-fn is_test(name: &str) -> bool {
+pub(super) fn is_test(name: &str) -> bool {
     matches!(
         name,
         "val" | "exists" | "hasChildren" | "isNumber" | "isString" | "isBoolean"
     )
 }
 
-fn is_of_snapshot(name: &str) -> bool {
+pub(super) fn is_of_snapshot(name: &str) -> bool {
     is_test(name) || matches!(name, "child" | "parent" | "hasChild")
 }
 
-fn is_of_text(name: &str) -> bool {
+pub(super) fn is_of_text(name: &str) -> bool {
     matches!(
         name,
         "length" | "contains" | "beginsWith" | "endsWith" | "replace"
@@ -198,8 +213,8 @@ fn advice_on_use(alloc: Global, receiver: Sort, part: &Expr) -> Result<String, N
     }
 }
 
-// Whether a use stands behind `.val()`.
-fn is_behind_val(part: &Expr) -> bool {
+/// Whether a use stands behind `.val()`.
+pub(super) fn is_behind_val(part: &Expr) -> bool {
     let receiver = match part {
         Expr::Member(receiver, _) => receiver,
         Expr::Call(receiver, _, _) => receiver,
@@ -244,6 +259,11 @@ fn advice_on_snapshot(alloc: Global, name: &str, is_called: bool) -> Result<Stri
             "`{name}` belongs to a text, and this is a snapshot: write `.val().{name}`"
         )?);
     }
+    if name == "equalTo" && is_called {
+        return Ok(format!(in alloc;
+            "`{name}` belongs to a query: compare by `.val() ==`, as in `data.val() == auth.uid`"
+        )?);
+    }
     if !is_of_snapshot(name) {
         return Ok(format!(in alloc; "a snapshot has no `{name}`")?);
     }
@@ -272,6 +292,11 @@ fn advice_on_value(alloc: Global, name: &str, is_called: bool) -> Result<String,
     if is_of_snapshot(name) {
         return Ok(format!(in alloc;
             "`{name}` belongs to a snapshot, and what stands before it is a value"
+        )?);
+    }
+    if name == "equalTo" && is_called {
+        return Ok(format!(in alloc;
+            "`{name}` belongs to a query: compare by `==`, as in `auth.uid == 'ann'`"
         )?);
     }
     Ok(format!(in alloc; "a value has no `{name}`")?)
